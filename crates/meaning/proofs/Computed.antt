@@ -1,0 +1,3 @@
+pub mod Certain
+pub mod Evaluate
+pub mod Walk

@@ -1,0 +1,4 @@
+pub mod Computed
+pub mod Lists
+pub mod Model
+pub mod Theory

@@ -1,0 +1,5 @@
+pub mod Bits
+pub mod Members
+pub mod Ordered
+pub mod Reach
+pub mod Sorted

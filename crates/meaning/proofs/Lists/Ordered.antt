@@ -1,0 +1,67 @@
+-- Laws of lists in order: such a list is fixed by its elements, so "ascending, and exactly the members" says which list it
+-- is. Assumes nothing.
+use mathlib.Core.List.{List, [], _∷_}
+use mathlib.Core.Logic.{_↔_, Iff·trans, Iff·symm}
+use mathlib.Core.Path.{_≡_, refl, sym, _∙_, subst}
+use native.Mathlib.Omega.{arith}
+use Prim.Native.Nat.{ℕ}
+use Rattle.meaning.specs.Member.{_∈_, here, there}
+use Rattle.meaning.specs.Ordered.{InOrder, ListOf, _≺_, before, equal, less, shorter}
+
+-- ---- lists of numbers, entry by entry
+
+pub ≺-irrefl : (xs : List ℕ) → xs ≺ xs → ⊥
+≺-irrefl [] h = elim h [ ]
+≺-irrefl (x ∷ xs) (less h) = omega arith
+≺-irrefl (x ∷ xs) (equal e h) = ≺-irrefl xs h
+
+pub ≺-trans : {xs ys zs : List ℕ} → xs ≺ ys → ys ≺ zs → xs ≺ zs
+≺-trans shorter (less h) = shorter
+≺-trans shorter (equal e h) = shorter
+≺-trans (less {x} g) (less {y = z} h) = less {x = x} {y = z} (omega arith)
+≺-trans (less {x} g) (equal {y = z} e h) = less {x = x} {y = z} (omega arith)
+≺-trans (equal {x} e g) (less {y = z} h) = less {x = x} {y = z} (omega arith)
+≺-trans (equal e g) (equal f h) = equal (e ∙ f) (≺-trans g h)
+
+-- ---- any strict order
+
+-- what an order must be for its lists to be fixed by their elements
+pub record Strict {A : Type 0} (R : A → A → Type 0) : Type 0 where
+  pub irrefl : (x : A) → R x x → ⊥
+  pub trans : (x y z : A) → R x y → R y z → R x z
+
+-- the order by a key
+pub by-key : {A : Type 0} (key : A → List ℕ) → Strict (λ x y. key x ≺ key y)
+by-key key = record { irrefl = λ x h. ≺-irrefl (key x) h; trans = λ x y z g h. ≺-trans g h }
+
+module _ {A : Type 0} {R : A → A → Type 0} (strict : Strict R) where
+  pub in-order-unique : (xs ys : List A) → InOrder R xs → InOrder R ys → ((z : A) → (z ∈ xs) ↔ (z ∈ ys)) → xs ≡ ys
+  in-order-unique [] [] a b h = refl
+  in-order-unique [] (y ∷ ys) a b h = elim (h y .1 (here refl)) [ ]
+  in-order-unique (x ∷ xs) [] a b h = elim (h x .0 (here refl)) [ ]
+  in-order-unique (x ∷ xs) (y ∷ ys) (before p a) (before q b) h =
+      let e = heads (h x .0 (here refl)) (h y .1 (here refl)) in
+      λ i. e i ∷ in-order-unique xs ys a b (λ z. (forth z e, back z e)) i
+    where
+      heads : x ∈ (y ∷ ys) → y ∈ (x ∷ xs) → x ≡ y
+      heads (here e) j = e
+      heads (there i) (here e) = sym e
+      heads (there i) (there j) = absurd (strict .irrefl x (strict .trans x y x (p y j) (q x i)))
+
+      forth : (z : A) → x ≡ y → z ∈ xs → z ∈ ys
+      forth z e i = go (h z .0 (there i))
+        where
+          go : z ∈ (y ∷ ys) → z ∈ ys
+          go (here f) = absurd (strict .irrefl x (subst (R x) (f ∙ sym e) (p z i)))
+          go (there j) = j
+
+      back : (z : A) → x ≡ y → z ∈ ys → z ∈ xs
+      back z e i = go (h z .1 (there i))
+        where
+          go : z ∈ (x ∷ xs) → z ∈ xs
+          go (here f) = absurd (strict .irrefl y (subst (R y) (f ∙ e) (q z i)))
+          go (there j) = j
+
+  -- A set has at most one list.
+  pub list-unique : {Q : A → Type 0} {xs ys : List A} → ListOf R Q xs → ListOf R Q ys → xs ≡ ys
+  list-unique {xs} {ys} a b = in-order-unique xs ys (a .ascending) (b .ascending) (λ z. Iff·trans (a .members z) (Iff·symm (b .members z)))

@@ -1,0 +1,9 @@
+pub mod Built
+pub mod Core
+pub mod Enumeration
+pub mod Facts
+pub mod Listing
+pub mod Refusals
+pub mod Resolved
+pub mod Same
+pub mod Targets

@@ -1,0 +1,14 @@
+pub mod Built
+pub mod Certain
+pub mod Core
+pub mod Graph
+pub mod Limits
+pub mod Listing
+pub mod Member
+pub mod NoGraph
+pub mod Ordered
+pub mod Pack
+pub mod Query
+pub mod Tests
+pub mod TypeSet
+pub mod WellFormed

@@ -1,0 +1,3 @@
+pub fn nothing(x: usize) -> usize {
+    x
+}
