@@ -1,4 +1,6 @@
 pub mod Computed
 pub mod Lists
 pub mod Model
+pub mod Multiplicities
+pub mod Sample
 pub mod Theory

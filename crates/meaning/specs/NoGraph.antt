@@ -2,11 +2,9 @@
 use lib.Dec.{T}
 use mathlib.Core.List.{List}
 use mathlib.Core.Logic.{_⊎_, _≢_}
-use mathlib.Core.Option.{some}
-use mathlib.Core.Path.{_≡_}
 use Prim.Native.Nat.{ℕ}
 use Rattle.meaning.specs.Built.{invented, IsBuilt}
-use Rattle.meaning.specs.Core.{Node, iriNode, literalNode, Fact, triple, Given, CoreEdge, CoreType, CoreNode}
+use Rattle.meaning.specs.Core.{Node, iriNode, literalNode, CoreEdge, CoreType, CoreNode}
 use Rattle.meaning.specs.Limits.{maxIris, maxCoreTriples}
 use Rattle.meaning.specs.Ordered.{Over}
 use Rattle.meaning.specs.Pack.{Pack, Shape, Literal, type, limits, HasShape}

@@ -23,6 +23,12 @@ pub data Target : Type 0 where
 pub data Multiplicity : Type 0 where
   one optional anyNumber atLeastOne : Multiplicity
 
+abbrev pub multiplicityNumber : Multiplicity → ℕ
+multiplicityNumber one = 1
+multiplicityNumber optional = 2
+multiplicityNumber anyNumber = 3
+multiplicityNumber atLeastOne = 4
+
 -- "A type requires p if its multiplicity for p is 1 or 4."
 abbrev pub requires : Multiplicity → Bool
 requires one = true
@@ -36,6 +42,10 @@ limits one = true
 limits optional = true
 limits anyNumber = false
 limits atLeastOne = false
+
+-- r is the test's answer on the multiplicity of this number.
+abbrev pub AnswersTest : (Multiplicity → Bool) → ℕ → Bool → Type 0
+AnswersTest test number r = (m : Multiplicity) → number ≡ multiplicityNumber m → r ≡ test m
 
 pub record Shape : Type 0 where
   pub target : Target
