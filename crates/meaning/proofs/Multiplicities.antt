@@ -1,11 +1,11 @@
 -- A test on a multiplicity's number: one of two numbers. Assumes nothing.
 use borrow.Author.Tests.{eq-eqb, ne-eqb}
 use lib.Dec.{eqb}
-use mathlib.Core.Bool.{Bool, true, false, _||_}
+use mathlib.Core.Bool.{Bool, _||_}
 use mathlib.Core.Logic.{_≢_}
 use mathlib.Core.Path.{_≡_, refl, sym, _∙_, subst}
 use Prim.Native.Nat.{ℕ}
-use Rattle.meaning.specs.Pack.{Multiplicity, one, optional, anyNumber, atLeastOne, multiplicityNumber, requires, limits, AnswersTest}
+use Rattle.meaning.specs.Pack.{AnswersTest, Multiplicity, anyNumber, atLeastOne, limits, multiplicityNumber, one, optional, requires}
 
 -- the test is true of the numbers a and b alone
 abbrev OneOf : (Multiplicity → Bool) → ℕ → ℕ → Type 0

@@ -1,4 +1,4 @@
--- Whether there is a clash, decided for a well-formed pack. Assumes nothing.
+-- Refusals 10 and 11 as tests that compute, and that they are right for a pack that 7 does not refuse. Assumes nothing.
 use lib.Dec.{T}
 use mathlib.Core.Bool.{Bool, true, false, _&&_, _||_, decide}
 use mathlib.Core.Logic.{_⊎_, _↔_, Dec·and, Dec·not, inl, inr}
@@ -7,7 +7,7 @@ use mathlib.Core.Path.{_≡_, refl, sym, subst, subst₂}
 use native.Mathlib.Decide.{ℕ-discrete}
 use Prim.Native.Nat.{ℕ}
 use Rattle.meaning.proofs.Lists.Bits.{members, members-in, members-only, test}
-use Rattle.meaning.proofs.Lists.Members.{T?, any-in, any-only}
+use Rattle.meaning.proofs.Lists.Members.{T?, any-in, any-only, both}
 use Rattle.meaning.proofs.Model.Built.{builtNodes, nodes-iff}
 use Rattle.meaning.proofs.Model.Core.{coreTypes, coreTypes-iff, given-iff, typesOf, typesOf-iff}
 use Rattle.meaning.proofs.Model.Facts.{facts}
@@ -20,11 +20,7 @@ use Rattle.meaning.specs.Pack.{Literal, Pack, Shape, Target, limits, sha
 use Rattle.meaning.specs.Tests.{any}
 use Rattle.meaning.specs.TypeSet.{TypeSet, _∈ₜ_}
 
--- a test, split
-pub both : (x y : Bool) → T (x && y) ↔ (T x × T y)
-both true y = (λ h. (tt, h), λ h. h .1)
-both false y = (λ h. absurd h, λ h. h .0)
-
+-- a disjunction of tests, split
 either : (x y : Bool) → T (x || y) ↔ (T x ⊎ T y)
 either true y = (λ h. inl tt, λ h. tt)
 either false y = (λ h. inr h, λ h. right h)

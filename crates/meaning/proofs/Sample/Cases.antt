@@ -4,14 +4,14 @@ use mathlib.Core.Bool.{Bool, true, false}
 use mathlib.Core.List.{List, [], _∷_, map}
 use mathlib.Core.Path.{_≡_, refl}
 use Prim.Native.Nat.{ℕ}
-use Rattle.meaning.proofs.Model.Listing.{nodeRecords, tripleRecords, graph-listed}
-use Rattle.meaning.proofs.Model.Refusals.{twoObjects?, mixedKinds?}
+use Rattle.meaning.proofs.Model.Listing.{graph-listed, nodeRecords, tripleRecords}
+use Rattle.meaning.proofs.Model.Refusals.{mixedKinds?, twoObjects?}
 use Rattle.meaning.proofs.Model.Resolved.{resolved}
-use Rattle.meaning.proofs.Sample.Packs.{nothing, sample, rowTwice, twoNames, firstDecidesSecond, nameIsIri, secondType}
+use Rattle.meaning.proofs.Sample.Packs.{firstDecidesSecond, nameIsIri, nothing, rowTwice, sample, secondType, twoNames}
 use Rattle.meaning.specs.Limits.{unused}
 use Rattle.meaning.specs.Listing.{GraphLists}
 use Rattle.meaning.specs.Pack.{Pack, shapeOf}
-use Rattle.meaning.specs.WellFormed.{duplicates, prefixClash, dangling, broken}
+use Rattle.meaning.specs.WellFormed.{broken, dangling, duplicates, prefixClash}
 
 pub data Outcome : Type 0 where
   refused : ℕ → Outcome

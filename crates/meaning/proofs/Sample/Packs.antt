@@ -4,7 +4,7 @@ use Prim.Native.Char.{code}
 use Prim.Native.Nat.{ℕ}
 use Prim.Native.String as S
 use Prim.Native.String.{String}
-use Rattle.meaning.specs.Pack.{Pack, Text, Target, Literal, type, Multiplicity, one, atLeastOne, anyNumber, ShapeRecord, Dependency, Constructor, Atom, Term, Row, Head, hasType, linksTo, linksToValue, Rule}
+use Rattle.meaning.specs.Pack.{Atom, Constructor, Dependency, Head, Literal, Multiplicity, Pack, Row, Rule, ShapeRecord, Target, Term, Text, anyNumber, atLeastOne, hasType, linksTo, linksToValue, one, type}
 
 -- The bytes of a quoted text. (ASCII only: a character's code is its byte.)
 abbrev pub ascii : String → Text

@@ -20,13 +20,13 @@ module _ (σ : Spelling) (P : Pack) where
   view-closed : (G : Graph) → Obeys σ P G → Closed (view σ P G)
   view-closed G o = record { from = λ h. o .from-node h; to = λ h. o .to-node h }
 
-module _ (σ : Spelling) (P : Pack) (distinct : Distinct σ P) (E : Enumeration P) (no-clash : ¬ NoGraph P) where
+module _ (σ : Spelling) (P : Pack) (distinct : Distinct σ P) (E : Enumeration P) (has : ¬ NoGraph P) where
   G : Graph
-  G = builtGraph σ P distinct E no-clash
+  G = builtGraph σ P distinct E has
 
   obeys : Obeys σ P G
   unfolding G
-  obeys = builtGraph-obeys σ P distinct E no-clash
+  obeys = builtGraph-obeys σ P distinct E has
 
   -- a name is like the built node that has it
   Like : Name → BuiltNode → Type 0
@@ -60,10 +60,10 @@ module _ (σ : Spelling) (P : Pack) (distinct : Distinct σ P) (E : Enumeration 
   unfolding G Like
   back = record {
     Like = Like;
-    total = λ n h. let r = node-is σ P distinct E no-clash h in (r .0, (r .1, r .2));
+    total = λ n h. let r = node-is σ P distinct E has h in (r .0, (r .1, r .2));
     node = λ z. z .0;
     edge = λ {n} {m} {n′ = b} {p} z h.
-        let r = edge-back σ P distinct E no-clash b (z .0) (z .1) h in (r .0, r .1, (built-closed σ P .to (r .1), r .2));
+        let r = edge-back σ P distinct E has b (z .0) (z .1) h in (r .0, r .1, (built-closed σ P .to (r .1), r .2));
     names = λ h. h;
     iri = λ {n} {n′ = b} {label} z h. back-iri n b label (z .1) h;
     literal = λ {n} {n′ = b} {label} z h. back-literal n b label (z .1) h;
@@ -88,7 +88,7 @@ module _ (σ : Spelling) (P : Pack) (distinct : Distinct σ P) (E : Enumeration 
   unfolding CertainPair G Like back
   pairs-all e n m tn tm c =
       let j = c G obeys in
-      let r = node-is σ P distinct E no-clash (starts (view-closed σ P G obeys) e n m j) in
+      let r = node-is σ P distinct E has (starts (view-closed σ P G obeys) e n m j) in
       let s = follows back e n m (r .0) (r .1, r .2) j in
       let k = named-core n (r .0) tn (r .1) (r .2) in
       let l = named-core m (s .0) tm (s .2 .0) (s .2 .1) in

@@ -48,14 +48,14 @@ module _ (σ : Spelling) (P : Pack) (rows : List Row) (more : (r : Row) → r �
   }
 
   -- both packs are accepted: the second has its graph, and its names are distinct
-  module _ (distinct : Distinct σ P′) (E : Enumeration P′) (no-clash : ¬ NoGraph P′) where
+  module _ (distinct : Distinct σ P′) (E : Enumeration P′) (has : ¬ NoGraph P′) where
     pub yes-remains : (e : Expr) → Satisfied (built σ P) e → Satisfied (built σ P′) e
     unfolding CertainYes
-    yes-remains e s = yes-iff σ P′ distinct E no-clash e .0 (λ G o. yes-certain σ P e s G (obeys-less G o))
+    yes-remains e s = yes-iff σ P′ distinct E has e .0 (λ G o. yes-certain σ P e s G (obeys-less G o))
 
     pub pair-remains : (e : Expr) (n m : Node) → Joins (built σ P) e (core n) (core m) → Joins (built σ P′) e (core n) (core m)
     unfolding CertainPair
     pair-remains e n m j =
         let i = node-more (is-core σ P (starts (built-closed σ P) e (core n) (core m) j)) in
         let k = node-more (is-core σ P (ends (built-closed σ P) e (core n) (core m) j)) in
-        pair-iff σ P′ distinct E no-clash e n m i k .0 (λ G o. pair-certain σ P e n m j G (obeys-less G o))
+        pair-iff σ P′ distinct E has e n m i k .0 (λ G o. pair-certain σ P e n m j G (obeys-less G o))

@@ -1,4 +1,4 @@
--- Where there is no clash, the built graph, named, is a finite graph that obeys the pack. Assumes nothing.
+-- Where neither 10 nor 11 is true, the built graph, named, is a finite graph that obeys the pack. Assumes nothing.
 use lib.Dec.{T}
 use mathlib.Core.Bool.{Bool, true, false}
 use mathlib.Core.List.{List, [], _∷_, _++_, map, Memᴰ·map as ∈-map, List·Memᴰ·append-cases, flatMap}
@@ -92,7 +92,7 @@ module _ (σ : Spelling) (P : Pack) (distinct : Distinct σ P) where
       let r = setName-one (X .literal) (Y .literal) (X .mask) (Y .mask) e in
       λ k. invented (record { literal = r .0 k; mask = r .1 k })
 
-  module _ (E : Enumeration P) (no-clash : ¬ NoGraph P) where
+  module _ (E : Enumeration P) (has : ¬ NoGraph P) where
     -- ---- the types of each built node: its own, and Literal for every literal
 
     typeSet : BuiltNode → TypeSet
@@ -194,13 +194,13 @@ module _ (σ : Spelling) (P : Pack) (distinct : Distinct σ P) where
     untyped : (b : BuiltNode) → IsBuilt P b → (t : ℕ) → HasType P b (type t) → T (isLiteral (builtName σ b)) → ⊥
     unfolding builtName
     untyped (core (iriNode c vs)) i t h l = l
-    untyped (core (literalNode v)) i t h l = no-clash (inr (literalTyped v t h))
-    untyped (invented X) i t h l = no-clash (inr (mixedSet X t i (set-literal (X .literal) (X .mask) .0 l) h))
+    untyped (core (literalNode v)) i t h l = has (inr (literalTyped v t h))
+    untyped (invented X) i t h l = has (inr (mixedSet X t i (set-literal (X .literal) (X .mask) .0 l) h))
 
     -- what has the type Literal is a literal
     literal-only : (b : BuiltNode) → HasType P b Literal → T (isLiteral (builtName σ b))
     unfolding builtName
-    literal-only (core (iriNode c vs)) h = no-clash (inr (iriLiteral c vs h))
+    literal-only (core (iriNode c vs)) h = has (inr (iriLiteral c vs h))
     literal-only (core (literalNode v)) h = tt
     literal-only (invented X) h = set-literal (X .literal) (X .mask) .1 h
 
@@ -278,7 +278,7 @@ module _ (σ : Spelling) (P : Pack) (distinct : Distinct σ P) where
           let r = type-back h in
           let q = edge-back (r .0) (r .1) (r .2) e in
           let q′ = edge-back (r .0) (r .1) (r .2) e′ in
-          q .2 ∙ ap (builtName σ) (built-one P (λ two. no-clash (inl two)) (r .3) d l (q .1) (q′ .1)) ∙ sym (q′ .2);
+          q .2 ∙ ap (builtName σ) (built-one P (λ two. has (inl two)) (r .3) d l (q .1) (q′ .1)) ∙ sym (q′ .2);
     }
       where
         given-holds : (f : Fact) → Given P f → Holds σ builtGraph f
