@@ -9,6 +9,7 @@ pub mod NoGraph
 pub mod Ordered
 pub mod Pack
 pub mod Query
+pub mod Tables
 pub mod Tests
 pub mod TypeSet
 pub mod WellFormed
