@@ -29,7 +29,7 @@ pub no-bits : (x : ℕ) → ((t : ℕ) → bit t x ≡ 0) → 0 ≡ x
 unfolding bit
 no-bits = bin-ind (λ x. ((t : ℕ) → bit t x ≡ 0) → 0 ≡ x) (λ h. refl) (λ x ih h. let low = h zero in let high = ih (λ t. h (suc t)) in omega arith)
 
-zero-bits : (t : ℕ) → bit t 0 ≡ 0
+pub zero-bits : (t : ℕ) → bit t 0 ≡ 0
 unfolding bit
 zero-bits zero = refl
 zero-bits (suc t) = zero-bits t

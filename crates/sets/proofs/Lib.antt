@@ -1,0 +1,13 @@
+pub mod Cases
+pub mod Fill
+pub mod Copy
+pub mod Ascending
+pub mod Rank
+pub mod Insert
+pub mod Shift
+pub mod Insertion
+pub mod Mask
+pub mod Lowest
+pub mod Members
+pub mod Visit
+pub mod Union
