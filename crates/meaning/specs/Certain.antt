@@ -14,7 +14,7 @@ use Rattle.meaning.specs.Pack.{Pack, Text}
 use Rattle.meaning.specs.Query.{View, Expr, Joins, Satisfied}
 
 module _ (σ : Spelling) (P : Pack) where
-  -- "yes means satisfied in every obeying graph"
+  -- Yes: satisfied in every graph that obeys the pack. (Where 10 or 11 is true there is none, and they come first.)
   unfoldable pub CertainYes : Expr → Type 0
   CertainYes e = (G : Graph) → Obeys σ P G → Satisfied (view σ P G) e
 
@@ -33,13 +33,17 @@ module _ (σ : Spelling) (P : Pack) where
     pub certain : CertainPair e (nameOf σ from) (nameOf σ to)
     pub are : numbers ≡ start ∷ end ∷ []
 
-  -- "ascending by start, then end. The pair count is how many are listed."
+  -- "ascending by start, then end. The pair count is how many are listed." The nodes are those of `NodesInOrder`.
   abbrev pub PairList : Expr → List BuiltNode → List (List ℕ) → Type 0
   PairList e nodes = ListOf _≺_ (PairRecord e nodes)
 
+  -- A pair of named nodes of the built graph that the query joins in every obeying graph.
+  abbrev pub NamedPair : Expr → Node × Node → Type 0
+  NamedPair e q = CoreNode P (q .0) × CoreNode P (q .1) × CertainPair e (nameOf σ (q .0)) (nameOf σ (q .1))
+
   -- Refusal 12: "Over 4,096 pairs."
-  abbrev pub TooManyPairs : Expr → List BuiltNode → Type 0
-  TooManyPairs e nodes = Over maxPairs (PairRecord e nodes)
+  abbrev pub TooManyPairs : Expr → Type 0
+  TooManyPairs e = Over maxPairs (NamedPair e)
 
   -- The spelling gives no two core nodes one name.
   unfoldable pub Distinct : Type 0

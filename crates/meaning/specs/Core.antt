@@ -1,12 +1,11 @@
 -- The core (document 01, "The graph", first paragraph). Assumes nothing.
 use mathlib.Core.List.{List, map}
-use mathlib.Core.Option.{some}
 use mathlib.Core.Path.{_≡_}
 use Prim.Native.Nat.{ℕ}
 use Rattle.meaning.specs.Member.{_∈_}
 use Rattle.meaning.specs.Pack.{Pack, Row, Atom, Term, Head, hasType, linksTo, linksToValue, Rule, Shape, Target, type, HasShape}
 
--- A core node: a constructor's IRI over values, or a literal, by its value.
+-- A node by its numbers: a constructor's IRI over values, or a literal. (Which of them are in the core, `CoreNode` says.)
 pub data Node : Type 0 where
   iriNode : ℕ → List ℕ → Node
   literalNode : ℕ → Node
@@ -21,21 +20,21 @@ abbrev pub Assignment : Type 0
 Assignment = ℕ → ℕ
 
 unfoldable pub nodeOf : Assignment → Term → Node
-nodeOf σ t = iriNode (t .constructor) (map σ (t .variables))
+nodeOf α t = iriNode (t .constructor) (map α (t .variables))
 
 -- What a rule's head says under an assignment.
 unfoldable pub headFact : Assignment → Head → Fact
 unfolding nodeOf
-headFact σ (hasType s t) = typed (nodeOf σ s) (type t)
-headFact σ (linksTo s p o) = triple (nodeOf σ s) p (nodeOf σ o)
-headFact σ (linksToValue s p v) = triple (nodeOf σ s) p (literalNode (σ v))
+headFact α (hasType s t) = typed (nodeOf α s) (type t)
+headFact α (linksTo s p o) = triple (nodeOf α s) p (nodeOf α o)
+headFact α (linksToValue s p v) = triple (nodeOf α s) p (literalNode (α v))
 
 abbrev pub rowOf : Assignment → Atom → Row
-rowOf σ a = record { relation = a .relation; cells = map σ (a .variables) }
+rowOf α a = record { relation = a .relation; cells = map α (a .variables) }
 
 -- An assignment matches when each atom under it is a row.
 unfoldable pub Matches : List Row → Assignment → List Atom → Type 0
-Matches rows σ atoms = (a : Atom) → a ∈ atoms → rowOf σ a ∈ rows
+Matches rows α atoms = (a : Atom) → a ∈ atoms → rowOf α a ∈ rows
 
 module _ (P : Pack) where
   -- "each rule's head for every match of its atoms"

@@ -32,6 +32,7 @@ isNamed (literal t) = true
 isNamed (unnamed k) = false
 isNamed (unnamedLiteral k) = false
 
+-- Predicates and types go by number. Numbers past the pack's lists stand for any that the pack does not have.
 pub record Edge : Type 0 where
   pub subject : Name
   pub predicate : ℕ
@@ -74,7 +75,7 @@ module _ (σ : Spelling) where
   Holds G (triple n p m) = HasEdge G (nameOf n) p (nameOf m)
 
   pub record Obeys (P : Pack) (G : Graph) : Type 0 where
-    -- it is a graph: edges join its nodes, and its nodes are what is typed
+    -- it is a graph: edges join its nodes, and only its nodes have types
     pub from-node : {n m : Name} {p : ℕ} → HasEdge G n p m → n ∈ G .nodes
     pub to-node : {n m : Name} {p : ℕ} → HasEdge G n p m → m ∈ G .nodes
     pub typed-node : {n : Name} {S : Target} → Typed G n S → n ∈ G .nodes
@@ -82,6 +83,7 @@ module _ (σ : Spelling) where
     pub heads : {f : Fact} → Given P f → Holds G f
     -- literals have no outgoing edges and only the type Literal, other nodes never have it
     pub no-edges : {n m : Name} {p : ℕ} → HasEdge G n p m → T (isLiteral n) → ⊥
+    -- (and have it: a node has Literal exactly if it is a literal)
     pub literals : {n : Name} → n ∈ G .nodes → T (isLiteral n) → Typed G n Literal
     pub only-literal : {n : Name} {t : ℕ} → Typed G n (type t) → T (isLiteral n) → ⊥
     pub never-literal : {n : Name} → Typed G n Literal → T (isLiteral n)

@@ -1,4 +1,4 @@
--- The limits of document 01, each named once. Assumes nothing.
+-- The limits of document 01, each named once for the definitions; `src/lib.rt` repeats them for code. Assumes nothing.
 use Prim.Native.Nat.{ℕ}
 
 -- ---- "The pack": its size, how many records each body holds, and the bounds of their parts

@@ -10,13 +10,14 @@ use Prim.Native.Nat.{ℕ}
 use Rattle.meaning.specs.Built.{BuiltNode, core, invented, HasType, IsBuilt, BuiltEdge}
 use Rattle.meaning.specs.Core.{iriNode, literalNode}
 use Rattle.meaning.specs.Limits.{maxArguments, unused}
+use Rattle.meaning.specs.NoGraph.{TwoObjects}
 use Rattle.meaning.specs.Ordered.{ListOf, _≺_}
 use Rattle.meaning.specs.Pack.{Pack, type}
 use Rattle.meaning.specs.TypeSet.{bit}
 
 -- ---- "A node is seven 16-bit numbers"
 
--- "kind (0 IRI, 1 literal, 2 invented literal, 3 invented other)"
+-- "kind (0 IRI, 1 literal, 2 invented literal, 3 invented other)". (A set with Literal and a type is refusal 11.)
 abbrev pub inventedKind : Bool → ℕ
 inventedKind true = 2
 inventedKind false = 3
@@ -50,7 +51,8 @@ pub record NodeRecord (P : Pack) (b : BuiltNode) (numbers : List ℕ) : Type 0 w
   pub weigh : TypeWeights P b types
   pub are : numbers ≡ kind b ∷ number b ∷ types ∷ arguments b
 
--- ---- "Node order: kind 0 by constructor and arguments, kind 1 by value, kind 2, kind 3 by type set."
+-- ---- "Node order: kind 0 by constructor and arguments, kind 1 by value (only values in triples), kind 2, kind 3 by type set."
+-- A literal is in the core only as the object of a triple.
 
 unfoldable pub nodeKey : BuiltNode → List ℕ
 nodeKey (core (iriNode c vs)) = 0 ∷ c ∷ vs
@@ -84,3 +86,14 @@ pub record GraphLists (P : Pack) (nodes triples : List (List ℕ)) : Type 0 wher
   pub ordered : NodesInOrder P inOrder
   pub records : Forall₂ (NodeRecord P) inOrder nodes
   pub edges : ListOf _≺_ (TripleRecord P inOrder) triples
+
+-- ---- the clash that refusal 10 gives
+
+-- "one such node, predicate and two objects are given, the nodes as node records of the core". Which one, and the order of
+-- the objects, is the program's choice.
+pub record ClashGiven (P : Pack) (subject : List ℕ) (predicate : ℕ) (first second : List ℕ) : Type 0 where
+  pub clash : TwoObjects P
+  pub subject-is : NodeRecord P (core (clash .subject)) subject
+  pub predicate-is : predicate ≡ clash .predicate
+  pub first-is : NodeRecord P (core (clash .first)) first
+  pub second-is : NodeRecord P (core (clash .second)) second

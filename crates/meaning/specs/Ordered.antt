@@ -17,7 +17,7 @@ module _ {A : Type 0} (R : A → A → Type 0) where
     pub ascending : InOrder xs
     pub members : (x : A) → (x ∈ xs) ↔ Q x
 
--- Over k elements are in the set Q: so many different ones can be named.
+-- Over k elements are in the set Q: some list holds more than k different ones.
 pub record Over {A : Type 0} (k : ℕ) (Q : A → Type 0) : Type 0 where
   pub some : List A
   pub differ : InOrder _≢_ some

@@ -1,5 +1,5 @@
--- The decoded pack: what its nine bodies say (document 01, "The pack"). Numbers are record numbers, texts are lists of
--- bytes. Everything but the rows is the setting. Assumes nothing.
+-- The decoded pack: what its nine bodies say (document 01, "The pack"). Numbers are those of the records' fields, texts are
+-- lists of bytes. Everything but the rows is the setting. Assumes nothing.
 use mathlib.Core.List.{List, [], _∷_}
 use mathlib.Core.Bool.{Bool, true, false}
 use mathlib.Core.Logic.{Dec·and}
@@ -110,7 +110,7 @@ pub record Pack : Type 0 where
   pub setting : Setting
   pub rows : List Row
 
--- ---- "Shapes form a table of 8 types by 12 predicates."
+-- ---- a type's shape for a predicate
 
 unfoldable pub firstOf : {Q : Type 0} → Dec Q → Shape → Option Shape → Option Shape
 firstOf (yes q) s o = some s

@@ -12,7 +12,7 @@ use Rattle.meaning.specs.TypeSet.{TypeSet}
 
 -- ---- "Shapes form a table of 8 types by 12 predicates": target and multiplicity packed per cell
 
--- Literal counts as type 15: a type's number is lower.
+-- Literal counts as type 15: in a pack that is not refused, a type's number is lower.
 abbrev pub literalBit : ℕ
 literalBit = 15
 
@@ -30,7 +30,7 @@ cellAt table t p = getD (getD table t []) p 0
 pub record ShapeTable (S : Setting) (table : List (List ℕ)) : Type 0 where
   pub cells : (t p : ℕ) → t < maxTypes → p < maxPredicates → cellAt table t p ≡ cellOf (shapeOf S t p)
 
--- ---- a type set as one number: weight 2 to the power t for type t, and Literal's weight above them
+-- ---- a type set as one 16-bit number: weight 2 to the power t for type t, and Literal's weight above them
 
 unfoldable pub setOfMask : ℕ → TypeSet
 setOfMask m = record { literal = leb (2 ^ literalBit) m; mask = m % 2 ^ literalBit }
@@ -44,7 +44,7 @@ rowNumbers r = r .relation ∷ take maxColumns (r .cells ++ replicate maxColumns
 pub record RowsHeld (rows : List Row) (numbers : List ℕ) : Type 0 where
   pub are : numbers ≡ flatMap rowNumbers rows
 
--- ---- byte numbers as one number, the first of the highest weight
+-- ---- bytes as one number, the first of the highest weight; lists of one length have different numbers
 
 unfoldable pub packed : List ℕ → ℕ
 packed = foldl (λ k v. k * 256 + v) 0

@@ -1,5 +1,5 @@
--- Sets of types, as the program holds them: a number in which type t has weight 2 to the power t, and beside it whether
--- Literal is a member. Assumes nothing.
+-- A set of types, and of Literal: a mask in which type t has weight 2 to the power t, and beside it whether Literal is a
+-- member. Assumes nothing.
 use lib.Dec.{T}
 use mathlib.Core.Bool.{Bool}
 use mathlib.Core.Path.{_≡_}

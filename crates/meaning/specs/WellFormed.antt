@@ -1,8 +1,8 @@
 -- Refusals 5 to 8, which look at the decoded pack (document 01, "Refused, in checking order"), as tests that compute: each
--- is true where the refusal is. Assumes nothing.
+-- says whether the refusal is true of the pack; the first true one is given. Assumes nothing.
 use lib.Dec.{ltb, eqb}
 use lib.ListN.{length, getElem?}
-use mathlib.Core.Bool.{Bool, true, false, not, _&&_, _||_}
+use mathlib.Core.Bool.{Bool, true, not, _&&_, _||_}
 use mathlib.Core.List.{List, [], _∷_, map}
 use Prim.Native.Nat.{ℕ, _/_, _%_, _^_}
 use Rattle.meaning.specs.Pack.{Pack, Text, Row, Atom, Term, Head, hasType, linksTo, linksToValue, Rule, Target, Literal, type, ShapeRecord, Dependency, Constructor}
@@ -35,6 +35,7 @@ hasArity arities r count = passes (eqb count) (getElem? arities r)
 abbrev pub constructorArities : Pack → List ℕ
 constructorArities P = map (λ (k : Constructor). k .arity) (P .setting .constructors)
 
+-- every column that the two masks name is one of the relation's k
 abbrev pub goodDependency : Pack → Dependency → Bool
 goodDependency P d = passes (λ k. ltb (d .left) (2 ^ k) && ltb (d .right) (2 ^ k)) (getElem? (P .setting .arities) (d .relation))
 
@@ -80,7 +81,7 @@ dangling P =
 
 -- ---- 8: "Rows break a dependency."
 
--- equal at every column that the mask names
+-- equal at every column that the mask names; column 0 is the bit of weight 1
 unfoldable pub agree : ℕ → List ℕ → List ℕ → Bool
 agree m [] ys = true
 agree m (x ∷ xs) [] = true
