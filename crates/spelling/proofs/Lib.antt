@@ -1,0 +1,16 @@
+pub mod Answer
+pub mod ArgumentsRead
+pub mod CaseOn
+pub mod CoreTerms
+pub mod Injective
+pub mod IriRead
+pub mod MatchedAt
+pub mod Parts
+pub mod Reading
+pub mod Sample
+pub mod Segments
+pub mod Slashes
+pub mod Splitting
+pub mod TableRule
+pub mod Texts
+pub mod Written

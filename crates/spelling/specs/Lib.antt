@@ -1,0 +1,6 @@
+pub mod Segment
+pub mod Iri
+pub mod ReadBack
+pub mod Writing
+pub mod Matching
+pub mod Places
