@@ -1,48 +1,26 @@
 -- Document 01's cases of spelling and of read-back: one table, one theorem by computation. Assumes nothing.
-use mathlib.Core.List.{List, [], _∷_, map}
+use mathlib.Core.List.{List, [], _∷_, _++_, map}
 use mathlib.Core.Option.{Option, none, some, Option·map}
 use mathlib.Core.Path.{_≡_, refl}
-use Prim.Native.Char.{code}
 use Prim.Native.Nat.{ℕ}
-use Prim.Native.String as S
 use Prim.Native.String.{String}
+use Rattle.meaning.proofs.Sample.Packs.{ascii, constructorOf, sampleValues, firstDecidesSecond, sampleTypes, sampleShapes, sampleConstructors, sampleRules, romanRow, sampleWith}
 use Rattle.meaning.specs.Limits.{unused}
 use Rattle.meaning.specs.Pack.{Pack, Text}
 use Rattle.spelling.specs.Iri.{slashed, joined, iriBy, iriOf}
 use Rattle.spelling.specs.ReadBack.{split, findBy, findAllBy, argumentsBy, readFromBy, readBackBy, readBack, numbers}
 use Rattle.spelling.specs.Segment.{unreserved, hexDigit, spelledByte, segment}
 
--- The bytes of a quoted text. (ASCII only: a character's code is its byte.)
-abbrev ascii : String → Text
-ascii S.[] = []
-ascii (S._∷_ c s) = code c ∷ ascii s
-
--- "Constructors "sty:", "fam:"", and one of two arguments, over the values
+-- the sample with the values, and with one more constructor, of two arguments
 abbrev packOf : List Text → Pack
-packOf values = record {
-  setting = record {
-    values = values;
-    arities = [];
-    dependencies = [];
-    types = [];
-    predicates = [];
-    shapes = [];
-    constructors =
-        record { arity = 1; prefix = ascii "sty:" } ∷ record { arity = 1; prefix = ascii "fam:" } ∷ record { arity = 2; prefix = ascii "http://x/" } ∷ [];
-    rules = [];
-  };
-  rows = [];
-}
+packOf values =
+    sampleWith values firstDecidesSecond sampleTypes sampleShapes (sampleConstructors ++ constructorOf 2 (ascii "http://x/") ∷ []) sampleRules (romanRow ∷ [])
 
 -- a text over a pack, and the constructor and values that it reads back to, if it is an IRI
 pub record Case : Type 0 where
   pub pack : Pack
   pub text : Text
   pub read : Option (ℕ × List ℕ)
-
--- "Values r1, Roman, g."
-abbrev sampleValues : List Text
-sampleValues = ascii "r1" ∷ ascii "Roman" ∷ ascii "g" ∷ []
 
 abbrev sample : String → Option (ℕ × List ℕ) → Case
 sample text read = record { pack = packOf sampleValues; text = ascii text; read = read }
