@@ -1,0 +1,5 @@
+pub mod Agree
+pub mod Bytes
+pub mod Cases
+pub mod Complete
+pub mod Sound

@@ -1,0 +1,4 @@
+pub mod Ascii
+pub mod Cases
+pub mod Grammar
+pub mod Parse

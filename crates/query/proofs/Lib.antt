@@ -1,0 +1,4 @@
+mod LeafLaws
+mod PartLaws
+pub mod TreeLaws
+mod Whole
