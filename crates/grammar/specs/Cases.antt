@@ -1,9 +1,9 @@
 -- Proved cases of the grammar: texts, and the expression of each or that it has none (refusal 2). Assumes nothing.
 use mathlib.Core.List.{List, [], _∷_}
 use mathlib.Core.Option.{Option, none, some}
+use Rattle.meaning.specs.Ascii.{ascii}
 use Rattle.meaning.specs.Pack.{Text}
 use Rattle.meaning.specs.Query.{Expr, stay, step, anyStep, atIri, atLiteral, nested, sequence, union, star}
-use Rattle.grammar.specs.Ascii.{ascii}
 use Rattle.grammar.specs.Grammar.{IsQuery}
 
 pub record Case : Type 0 where

@@ -1,3 +1,4 @@
+pub mod Ascii
 pub mod Built
 pub mod Certain
 pub mod Core

@@ -7,7 +7,6 @@ pub mod IriRead
 pub mod MatchedAt
 pub mod Parts
 pub mod Reading
-pub mod Sample
 pub mod Segments
 pub mod Slashes
 pub mod Splitting

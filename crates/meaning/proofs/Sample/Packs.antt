@@ -1,15 +1,8 @@
 -- Document 01's sample and its variations, as decoded packs. Assumes nothing.
 use mathlib.Core.List.{List, [], _∷_}
-use Prim.Native.Char.{code}
 use Prim.Native.Nat.{ℕ}
-use Prim.Native.String as S
-use Prim.Native.String.{String}
+use Rattle.meaning.specs.Ascii.{ascii}
 use Rattle.meaning.specs.Pack.{Atom, Constructor, Dependency, Head, Literal, Multiplicity, Pack, Row, Rule, ShapeRecord, Target, Term, Text, anyNumber, atLeastOne, hasType, linksTo, linksToValue, one, type}
-
--- The bytes of a quoted text. (ASCII only: a character's code is its byte.)
-abbrev pub ascii : String → Text
-ascii S.[] = []
-ascii (S._∷_ c s) = code c ∷ ascii s
 
 -- ---- records, written short
 

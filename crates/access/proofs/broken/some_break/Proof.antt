@@ -1,0 +1,38 @@
+-- `broken::some_break` meets its contract: no row before the cursor breaks the dependency with a later one. Assumes nothing.
+use mathlib.Core.Bool.{true, false}
+use mathlib.Core.Path.{refl, sym, _∙_}
+use Prim.Native.Nat.{_-_}
+use Rattle.meaning.specs.Tests.{anyTwo}
+use Rattle.meaning.specs.WellFormed.{breaks}
+use Rattle.pack.specs.Records.{row, rowOf}
+use Rattle.pack.specs.declared.walk.Kind.the-variants as Of
+use Rattle.pack.proofs.Bodies.{shrinks-of}
+use Rattle.pack.proofs.Reading.{as-tuple, no-tuple}
+use Rattle.pack.proofs.Walks.{Asked, asked-start, asked-on, asked-less, asked-stop, asked-done, asked-never}
+use Rattle.access.specs.Rows.{dependencyOf}
+use borrow.Author.Needs.{needs}
+use Rattle.access.proofs.broken.some_break.Statement.{statement}
+use Rattle.access.proofs.broken.some_break.Tie as tie
+
+abbrev Inv-loop : tie.InvT-loop
+Inv-loop s d c₀ c = Asked row s c₀ (anyTwo (breaks (dependencyOf d))) c (anyTwo (breaks (dependencyOf d)))
+
+abbrev μ-loop : tie.MeasureT-loop
+μ-loop s d c₀ c = c .end - c .at
+
+pub some-break-spec : {M : Type 1} → statement M
+some-break-spec =
+    tie.close
+    (tie.spec
+    Inv-loop
+    μ-loop
+    (λ c. asked-start _ (c .before .pre))  -- loop-holds
+    (λ c κs. c .before .before .loop .inv .placed)  -- row-requires
+    (λ c. search needs)  -- enum-known-tuple
+    (λ c κs. let g = as-tuple (c .before .tuple .given .1) (c .before .before .before .row .ensures) in (g .inside, g .got .placed))  -- breaks-later-requires
+    (λ c. asked-stop (shrinks-of Of.Row) (c .before .before .before .before .before .before .before .before .loop .inv) true (as-tuple (c .before .before .before .tuple .given .1) (c .before .before .before .before .before .row .ensures) .got) (λ ys e. rw (sym (c .before .breaks-later .ensures ys e) ∙ c .if2 .taken)))  -- returns
+    (λ c. asked-less (shrinks-of Of.Row) (c .before .before .before .before .before .before .before .before .loop .inv) (as-tuple (c .before .before .before .tuple .given .1) (c .before .before .before .before .before .row .ensures) .got))  -- loop-less
+    (λ c. asked-on (shrinks-of Of.Row) (c .before .before .before .before .before .before .before .before .loop .inv) _ (as-tuple (c .before .before .before .tuple .given .1) (c .before .before .before .before .before .row .ensures) .got) (λ ys e. rw (sym (c .before .breaks-later .ensures ys e) ∙ c .if2 .left)))  -- loop-again
+    (λ c. search needs)  -- enum-told
+    (λ c. λ xs e. asked-never (shrinks-of Of.Row) (c .before .before .before .before .before .loop .inv) (c .before .before .before .if1 .taken) (no-tuple rowOf (c .enum-told .given .1) (c .before .before .row .ensures)) xs e)  -- returns-2
+    (λ c. asked-done (shrinks-of Of.Row) (c .before .before .loop .inv) false (c .if1 .left) refl))  -- returns-3

@@ -1,0 +1,60 @@
+-- Laws of a head's key under bindings. Assumes nothing.
+use lib.ListN.{length, getD, drop, drop-of-length-le}
+use lib.Seq.{drop-cons}
+use mathlib.Core.List.{List, [], _∷_, map, foldl}
+use mathlib.Core.Logic.{_≢_, inl, inr}
+use mathlib.Core.Path.{_≡_, refl, sym, ap, _∙_, subst}
+use native.Mathlib.Nat.{mod-eq-of-lt}
+use native.Mathlib.Numerals.{add-one}
+use native.Mathlib.Omega.{arith}
+use Prim.Native.Nat.{ℕ, zero, suc, _+_, _*_, _%_, _^_, _≤_, _<_, zero-le}
+use Rattle.meaning.specs.Limits.{unused}
+use Rattle.meaning.specs.Member.{_∈_}
+use Rattle.meaning.specs.Tables.{packed}
+use Rattle.sets.proofs.Ascending.{∈-at}
+use Rattle.matching.specs.Plan.{Bound, AllBound, Bindings, bindingOf, Variables8, KeyOf}
+use Rattle.matching.specs.declared.keys.Head.the-variants.{Key, Open}
+use Rattle.matching.proofs.Bytes.{pow-next, seven, ∈-index}
+
+-- the key of the first i variables is made, and they are bound
+pub record Making (vars env : List ℕ) (i key : ℕ) : Type 0 where
+  pub within : i ≤ length vars
+  pub small : key < 256 ^ i
+  pub bound : (j : ℕ) → j < i → Bound env (getD vars j 0)
+  pub is : foldl (λ k v. k * 256 + v) key (map (bindingOf env) (drop i vars)) ≡ packed (map (bindingOf env) vars)
+
+pub making-start : (vars env : List ℕ) → Making vars env 0 0
+unfolding packed
+making-start vars env = record { within = zero-le; small = omega arith; bound = λ j h. absurd (omega arith); is = refl }
+
+module _ {vars env : List ℕ} {i key : ℕ} (m : Making vars env i key) (h : i < length vars) (b : Bindings env) where
+  pub making-value : Bound env (getD vars i 0) → getD env (getD vars i 0) 0 < 256
+  making-value k = b .small (getD vars i 0) k
+
+  pub making-room : Variables8 vars → key < 72057594037927936
+  making-room v = seven i key (m .small) (omega (arith, v .short))
+
+  pub making-again : Bound env (getD vars i 0) → Making vars env (i + 1) (key * 256 + getD env (getD vars i 0) 0)
+  making-again k = record {
+    within = omega arith;
+    small = omega (arith, pow-next i, m .small, making-value k);
+    bound = λ j l. go j l (native.Mathlib.Decide.ℕ-discrete j i);
+    is = rw add-one (rw (drop-cons vars i 0 h) at (m .is));
+  }
+    where
+      go : (j : ℕ) → j < i + 1 → Dec (j ≡ i) → Bound env (getD vars j 0)
+      go j l (yes e) = rw e k
+      go j l (no n) = m .bound j (omega arith)
+
+  pub making-open : getD env (getD vars i 0) 0 ≡ unused → KeyOf Open vars env
+  making-open e = (getD vars i 0, ∈-at vars i h, e)
+
+pub making-done : {vars env : List ℕ} {i key : ℕ} → Making vars env i key → length vars ≤ i → KeyOf (Key key) vars env
+making-done {vars} {env} {i} {key} m h = (bound, rw drop-of-length-le at (m .is))
+  where
+    bound : (v : ℕ) → v ∈ vars → Bound env v
+    bound v k = let p = ∈-index k in subst (Bound env) (p .2) (m .bound (p .0) (omega (arith, p .1)))
+
+pub settled-at : (vars env set : List ℕ) (key i : ℕ) → KeyOf (Key key) vars env → (i < length set) × (getD set i 0 ≡ key)
+    → AllBound vars env × (packed (map (bindingOf env) vars) ∈ set)
+settled-at vars env set key i k f = (k .0, subst (λ x. x ∈ set) (f .1 ∙ k .1) (∈-at set i (f .0)))

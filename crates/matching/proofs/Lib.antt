@@ -1,0 +1,15 @@
+pub mod Bytes
+pub mod Grown
+pub mod HeadKey
+pub mod Columns
+pub mod Bounds
+pub mod Rows
+pub mod RowKey
+pub mod Marked
+pub mod Collect
+pub mod Prepare
+pub mod Blocks
+pub mod Held
+pub mod Projection
+pub mod Matched
+pub mod Answer

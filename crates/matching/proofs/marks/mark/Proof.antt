@@ -1,0 +1,35 @@
+-- `matching::marks::mark` meets its contract. Assumes nothing.
+use borrow.Author.Needs.{needs}
+use lib.ListN.{length}
+use mir.Facts.{fits-widen}
+use native.Mathlib.Omega.{arith}
+use Prim.Native.Nat.{_-_}
+use Rattle.sets.proofs.Ascending.{∈-at}
+use Rattle.matching.proofs.Marked.{Marking, marking-start, marking-again, marking-done}
+use Rattle.matching.proofs.marks.mark.Statement.{statement}
+use Rattle.matching.proofs.marks.mark.Tie as tie
+
+abbrev Inv-loop : tie.InvT-loop
+Inv-loop own marks₀ i₀ i-end marks i = Marking marks₀ own i marks
+
+abbrev μ-loop : tie.MeasureT-loop
+μ-loop own marks₀ i₀ i-end marks i = length own - i
+
+pub mark-spec : {M : Type 1} → statement M
+mark-spec =
+    tie.close
+    (tie.spec
+    Inv-loop
+    μ-loop
+    (λ c. marking-start _ _)  -- loop-holds
+    (λ c. search needs)  -- shared-slice-read-v
+    (λ c. fits-widen tt (c .shared-slice-known2 .given _))  -- cast-v
+    (λ c. omega (arith, (c .before .before .before .before .pre _ (∈-at (c .before .before .before .before .args .own .now) (c .before .before .loop .i) (c .before .loop-test .taken))), c .before .before .loop .inv .long))  -- mul-noted
+    (λ c. omega (arith, (c .before .before .before .before .pre _ (∈-at (c .before .before .before .before .args .own .now) (c .before .before .loop .i) (c .before .loop-test .taken))), c .before .before .loop .inv .long))  -- array-read-noted
+    (λ c κs. search needs)  -- noted-requires
+    (λ c. omega (arith, (c .before .before .before .before .before .pre _ (∈-at (c .before .before .before .before .before .args .own .now) (c .before .before .before .loop .i) (c .before .before .loop-test .taken))), c .before .before .before .loop .inv .long))  -- mul-marks
+    (λ c. omega (arith, (c .before .before .before .before .before .pre _ (∈-at (c .before .before .before .before .before .args .own .now) (c .before .before .before .loop .i) (c .before .before .loop-test .taken))), c .before .before .before .loop .inv .long))  -- array-write-marks
+    (λ c. search needs)  -- add-i
+    (λ c. search needs)  -- loop-less
+    (λ c. marking-again (c .before .before .before .loop .inv) (c .before .before .loop-test .taken) _ (c .noted .ensures))  -- loop-again
+    (λ c. marking-done (c .before .loop .inv) (c .loop-test .left)))  -- returns

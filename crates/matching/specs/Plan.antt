@@ -1,0 +1,172 @@
+-- A rule as the search holds it: for each atom the keys of its candidate rows; bindings of variables; and what is found
+-- from them. Assumes nothing.
+use lib.Dec.{eqb}
+use lib.ListN.{length, getD, set, take, drop}
+use mathlib.Core.Bool.{Bool, true, false, cond}
+use mathlib.Core.List.{List, [], _∷_, _++_, map, foldl}
+use mathlib.Core.Logic.{_≢_, _⊎_}
+use mathlib.Core.Path.{_≡_}
+use Prim.Native.Nat.{ℕ, zero, suc, _+_, _*_, _^_, _≤_, _<_}
+use Rattle.meaning.specs.Core.{Assignment}
+use Rattle.meaning.specs.Limits.{maxRows, unused}
+use Rattle.meaning.specs.Member.{_∈_}
+use Rattle.meaning.specs.Ordered.{InOrder, ListOf, Over as OverSet}
+use Rattle.meaning.specs.Tables.{packed}
+use Rattle.matching.specs.declared.Heads.{Heads}
+use Rattle.matching.specs.declared.Heads.the-variants.{Listed, Over}
+use Rattle.matching.specs.declared.spans.Span.{Span}
+use Rattle.matching.specs.declared.keys.Head.{Head}
+use Rattle.matching.specs.declared.keys.Head.the-variants.{Key, Open}
+
+-- byte numbers as one number, the first of the lowest weight
+unfoldable pub stacked : List ℕ → ℕ
+stacked [] = 0
+stacked (x ∷ xs) = stacked xs * 256 + x
+
+-- the variables of atom j
+abbrev pub variablesAt : List ℕ → ℕ → List ℕ
+variablesAt atoms j = take (getD atoms (j * 10 + 1) 0) (drop (j * 10 + 2) atoms)
+
+-- at most eight variables, of the 16
+pub record Variables8 (vars : List ℕ) : Type 0 where
+  pub short : length vars ≤ 8
+  pub below : (v : ℕ) → v ∈ vars → v < 16
+
+abbrev pub Below16 : List ℕ → Type 0
+Below16 vars = (v : ℕ) → v ∈ vars → v < 16
+
+-- ---- bindings of the 16 variables; 65,535 where there is none
+
+abbrev pub Bound : List ℕ → ℕ → Type 0
+Bound env v = getD env v 0 ≢ unused
+
+pub record Bindings (env : List ℕ) : Type 0 where
+  pub long : length env ≡ 16
+  pub small : (v : ℕ) → Bound env v → getD env v 0 < 256
+
+-- the assignment gives each bound variable its value
+pub record Extends (env : List ℕ) (σ : Assignment) : Type 0 where
+  pub at : (v : ℕ) → Bound env v → σ v ≡ getD env v 0
+
+abbrev pub AllBound : List ℕ → List ℕ → Type 0
+AllBound vars env = (v : ℕ) → v ∈ vars → Bound env v
+
+abbrev pub bindingOf : List ℕ → Assignment
+bindingOf env v = getD env v 0
+
+-- ---- the variables that occur once do not matter: they are bound to 1 from the start
+
+unfoldable pub markOf : ℕ → ℕ
+markOf x = cond (eqb x 0) 1 unused
+
+abbrev pub marked : List ℕ → ℕ → List ℕ
+marked seen v = set seen v (markOf (getD seen v 0))
+
+-- the variables of n atoms from j on
+unfoldable pub variablesFrom : List ℕ → ℕ → ℕ → List ℕ
+variablesFrom atoms j zero = []
+variablesFrom atoms j (suc n) = variablesAt atoms j ++ variablesFrom atoms (suc j) n
+
+-- ---- the candidates of an atom: the keys of its relation's rows, with what start binds in place of such columns
+
+unfoldable pub projected : List ℕ → List ℕ → List ℕ → List ℕ
+projected start [] row = []
+projected start (v ∷ vs) [] = []
+projected start (v ∷ vs) (x ∷ row) = cond (eqb (getD start v 0) unused) x (getD start v 0) ∷ projected start vs row
+
+abbrev pub cellsAt : List ℕ → ℕ → List ℕ
+cellsAt rows r = take 8 (drop (r * 9 + 1) rows)
+
+pub record Candidate (rows : List ℕ) (relation : ℕ) (vs start : List ℕ) (key : ℕ) : Type 0 where
+  pub index : ℕ
+  pub within : suc index * 9 ≤ length rows
+  pub relation-is : getD rows (index * 9) 0 ≡ relation
+  pub is : key ≡ stacked (projected start vs (cellsAt rows index))
+
+-- a row has a byte in each of the atom's columns
+pub record RowBytes (vs row : List ℕ) : Type 0 where
+  pub long : length vs ≤ length row
+  pub small : (c : ℕ) → c < length vs → getD row c 0 < 256
+
+-- so has each row of the relation
+pub record RowsBytes (rows : List ℕ) (relation arity : ℕ) : Type 0 where
+  pub small : (r : ℕ) → suc r * 9 ≤ length rows → getD rows (r * 9) 0 ≡ relation → (c : ℕ) → c < arity → getD rows (r * 9 + 1 + c) 0 < 256
+
+-- the keys of atom j's candidates
+abbrev pub candidatesAt : List ℕ → List ℕ → ℕ → List ℕ
+candidatesAt cands counts j = take (getD counts j 0) (drop (j * maxRows) cands)
+
+-- the atoms' variables are of the 16
+pub record AtomsBelow (atoms : List ℕ) (count : ℕ) : Type 0 where
+  pub few : count ≤ 3
+  pub long : 30 ≤ length atoms
+  pub arity : (j : ℕ) → j < count → getD atoms (j * 10 + 1) 0 ≤ 8
+  pub variables : (j : ℕ) → j < count → Variables8 (variablesAt atoms j)
+
+abbrev pub AtomsBytes : List ℕ → List ℕ → ℕ → Type 0
+AtomsBytes rows atoms count = (j : ℕ) → j < count → RowsBytes rows (getD atoms (j * 10) 0) (length (variablesAt atoms j))
+
+-- each atom's candidates are listed
+pub record Prepared (rows atoms start : List ℕ) (count : ℕ) (cands counts : List ℕ) : Type 0 where
+  pub counted : (j : ℕ) → j < count → getD counts j 0 ≤ maxRows
+  pub list : (j : ℕ) → j < count → ListOf _<_ (Candidate rows (getD atoms (j * 10) 0) (variablesAt atoms j) start) (candidatesAt cands counts j)
+
+-- ---- what is found
+
+module _ (atoms : List ℕ) (atomCount : ℕ) (vars cands counts : List ℕ) where
+  -- what the search supposes
+  pub record Plan : Type 0 where
+    pub few : atomCount ≤ 3
+    pub long : 30 ≤ length atoms
+    pub arity : (j : ℕ) → j < atomCount → getD atoms (j * 10 + 1) 0 ≤ 8
+    pub variables : (j : ℕ) → j < atomCount → Variables8 (variablesAt atoms j)
+    pub room : 3072 ≤ length cands
+    pub counted : (j : ℕ) → j < atomCount → getD counts j 0 ≤ maxRows
+    pub small : (j : ℕ) → j < atomCount → (key : ℕ) → key ∈ candidatesAt cands counts j → key < 256 ^ length (variablesAt atoms j)
+    pub ascending : (j : ℕ) → j < atomCount → InOrder _<_ (candidatesAt cands counts j)
+    pub heads : Variables8 vars
+
+  -- the key of a head, by an assignment that extends the bindings and makes each atom from `at` on a candidate
+  pub record Solution (at : ℕ) (env : List ℕ) (k : ℕ) : Type 0 where
+    pub values : Assignment
+    pub small : (v : ℕ) → values v < 256
+    pub extends : Extends env values
+    pub fits : (j : ℕ) → at ≤ j → j < atomCount → stacked (map values (variablesAt atoms j)) ∈ candidatesAt cands counts j
+    pub is : k ≡ packed (map values vars)
+
+  -- each head variable is bound, or is in an atom from `at` on
+  pub record Reaches (at : ℕ) (env : List ℕ) : Type 0 where
+    pub bound : (v : ℕ) → v ∈ vars → Bound env v ⊎ ((j : ℕ) × (at ≤ j) × (j < atomCount) × (v ∈ variablesAt atoms j))
+
+-- ---- what is answered once the keys in Q are added to the set in the first n keys
+
+-- the set with them is in the first m of the keys that are left
+pub record GrownTo (m : ℕ) (keys : List ℕ) (n : ℕ) (Q : ℕ → Type 0) (keys′ : List ℕ) : Type 0 where
+  pub room : m ≤ length keys
+  pub list : ListOf _<_ (λ k. (k ∈ take n keys) ⊎ Q k) (take m keys′)
+
+-- it has more keys than there is room for
+pub record GrownOver (keys : List ℕ) (n : ℕ) (Q : ℕ → Type 0) : Type 0 where
+  pub over : OverSet (length keys) (λ k. (k ∈ take n keys) ⊎ Q k)
+
+abbrev pub Grown : Heads → List ℕ → ℕ → (ℕ → Type 0) → List ℕ → Type 0
+Grown (Listed m) keys n Q keys′ = GrownTo m keys n Q keys′
+Grown Over keys n Q keys′ = GrownOver keys n Q
+
+-- ---- a head's key under bindings
+
+-- all head variables are bound, and the key is that of their values; or one is not
+abbrev pub KeyOf : Head → List ℕ → List ℕ → Type 0
+KeyOf (Key k) vars env = AllBound vars env × (k ≡ packed (map (bindingOf env) vars))
+KeyOf Open vars env = (v : ℕ) × (v ∈ vars) × (getD env v 0 ≡ unused)
+
+-- the key is known, and in the set; else nothing is said
+abbrev pub Settled : Bool → List ℕ → List ℕ → List ℕ → Type 0
+Settled true vars env set = AllBound vars env × (packed (map (bindingOf env) vars) ∈ set)
+Settled false vars env set = Unit {0}
+
+-- ---- the candidates that bindings leave
+
+pub record SpanOf (s : Span) (vs env keys : List ℕ) : Type 0 where
+  pub within : s .to ≤ length keys
+  pub holds : (σ : Assignment) → ((v : ℕ) → σ v < 256) → Extends env σ → (i : ℕ) → i < length keys → getD keys i 0 ≡ stacked (map σ vs) → (s .from ≤ i) × (i < s .to)

@@ -1,0 +1,87 @@
+// An atom's candidate rows, each by the key of its columns that matter; rows that agree on these are one.
+use crate::UNBOUND;
+use sets::ordered;
+use sets::ordered::Inserted;
+ghost use lib.ListN.{length, take};
+ghost use mathlib.Core.Path.{_≡_};
+ghost use Prim.Native.Nat.{_≤_, _<_, _+_, _*_};
+ghost use mathlib.Core.Logic.{_⊎_};
+ghost use Rattle.meaning.specs.Member.{_∈_};
+ghost use Rattle.meaning.specs.Ordered.{InOrder, ListOf};
+ghost use Rattle.matching.specs.Plan.{stacked, Variables8, Bindings, projected, RowBytes, RowsBytes, Candidate, AtomsBelow, AtomsBytes, Prepared};
+
+// The key of a row: the first column has the lowest weight, and bound variables have their values.
+fn row_key(row: &[u16], own: &[u8], start: [u16; 16]) -> u64
+    requires { ⌜ Variables8 (now own) × Bindings start × RowBytes (now own) (now row) ⌝ }
+    ensures { λ r. ⌜ r ≡ stacked (projected start (now (own .entry)) (now (row .entry))) ⌝ }
+{
+    let mut key: u64 = 0;
+    let mut c = own.len();
+    while c > 0 {
+        c -= 1;
+        let x = start[own[c] as usize];
+        if x == UNBOUND {
+            key = key * 256 + row[c] as u64;
+        } else {
+            key = key * 256 + x as u64;
+        }
+    }
+    key
+}
+
+// Adds a key to the set in the first n of the slice, which has room.
+fn store(out: &mut [u64], n: usize, key: u64) -> usize
+    requires { ⌜ (n < length (now out)) × InOrder _<_ (take n (now out)) ⌝ }
+    ensures { λ m. ⌜ (m ≤ n + 1) × ListOf _<_ (λ k. (k ≡ key) ⊎ (k ∈ take n (now (out .entry)))) (take m (now (out .exit))) ⌝ }
+{
+    match ordered::insert(out, n, key) {
+        Inserted::Added => n + 1,
+        Inserted::Present => n,
+        Inserted::Full => n,
+    }
+}
+
+// The set of the keys of a relation's rows.
+fn candidates(rows: &[u16], relation: u16, own: &[u8], start: [u16; 16], out: &mut [u64]) -> usize
+    requires { ⌜ Variables8 (now own) × Bindings start × RowsBytes (now rows) relation (length (now own)) × (length (now rows) ≤ length (now out) * 9) ⌝ }
+    ensures { λ n. ⌜ (n ≤ length (now (out .entry))) × ListOf _<_ (Candidate (now (rows .entry)) relation (now (own .entry)) start) (take n (now (out .exit))) ⌝ }
+{
+    let mut n = 0;
+    'rows: for r in 0..rows.len() / 9 {
+        if rows[r * 9] != relation {
+            continue 'rows;
+        }
+        let key = row_key(&rows[r * 9 + 1..r * 9 + 9], own, start);
+        n = store(out, n, key);
+    }
+    n
+}
+
+// Those of each atom, in its own part of the slice.
+pub fn all_candidates(
+    rows: &[u16],
+    atoms: &[u8],
+    count: usize,
+    start: [u16; 16],
+    out: &mut [u64],
+) -> [u16; 3]
+    requires { ⌜ AtomsBelow (now atoms) count × Bindings start × AtomsBytes (now rows) (now atoms) count × (length (now rows) ≤ 9216) × (3072 ≤ length (now out)) ⌝ }
+    ensures { λ counts. ⌜ Prepared (now (rows .entry)) (now (atoms .entry)) start count (now (out .exit)) counts ⌝ }
+{
+    let mut counts = [0u16; 3];
+    for j in 0..count {
+        let own = j * 10 + 2;
+        let arity = atoms[j * 10 + 1] as usize;
+        let relation = atoms[j * 10] as u16;
+        let first = j * 1024;
+        let n = candidates(
+            rows,
+            relation,
+            &atoms[own..own + arity],
+            start,
+            &mut out[first..first + 1024],
+        );
+        counts[j] = n as u16;
+    }
+    counts
+}

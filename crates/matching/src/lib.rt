@@ -1,0 +1,50 @@
+// Matching: the keys of a rule's heads over all matches of its atoms.
+mod keys; // a head's key under bindings
+mod spans; // the candidate rows that bindings leave
+mod search; // every way to match the atoms
+mod marks; // the variables that matter
+mod candidates; // an atom's candidate rows
+
+use crate::candidates::all_candidates;
+use crate::marks::fresh;
+use crate::search::add_heads;
+ghost use lib.ListN.{length};
+ghost use Prim.Native.Nat.{_≤_};
+ghost use Rattle.matching.specs.Rule.{RuleGiven, RuleHeads};
+
+// The keys of a rule's heads are listed, so many; or they are more than the slice holds.
+pub enum Heads {
+    Listed(usize),
+    Over,
+}
+
+// Stands for no value.
+pub const UNBOUND: u16 = 65535;
+
+// The keys of one rule's heads over all matches of its atoms, ascending at the front of keys.
+pub fn rule_heads(
+    rows: &[u16],
+    atoms: [u8; 30],
+    atom_count: usize,
+    vars: [u8; 8],
+    var_count: usize,
+    keys: &mut [u64],
+    work: &mut [u64],
+) -> Heads
+    requires { ⌜ RuleGiven (now rows) atoms «atom_count» vars «var_count» × (3072 ≤ length (now work)) ⌝ }
+    ensures { λ r. ⌜ RuleHeads r (now (rows .entry)) atoms «atom_count» vars «var_count» (now (keys .exit)) ⌝ }
+{
+    let start = fresh(&atoms[..], atom_count, &vars[..var_count]);
+    let counts = all_candidates(rows, &atoms[..], atom_count, start, work);
+    add_heads(
+        &atoms[..],
+        atom_count,
+        &vars[..var_count],
+        &work[..],
+        counts,
+        0,
+        start,
+        keys,
+        0,
+    )
+}

@@ -1,0 +1,40 @@
+// The candidate rows that bindings leave: those whose keys lie between two bounds.
+use crate::UNBOUND;
+use sets::ordered;
+ghost use lib.ListN.{length};
+ghost use Prim.Native.Nat.{_≤_, _<_};
+ghost use Rattle.meaning.specs.Ordered.{InOrder};
+ghost use Rattle.matching.specs.Plan.{Bindings, Variables8, SpanOf};
+
+// From one index to before another.
+pub struct Span {
+    pub from: usize,
+    pub to: usize,
+}
+
+// The lowest and the highest key that an atom's row can have under the bindings have these ranks; no other row fits.
+pub fn rows_left(own: &[u8], env: [u16; 16], keys: &[u64]) -> Span
+    requires { ⌜ Variables8 (now own) × Bindings env × InOrder _<_ (now keys) ⌝ }
+    ensures { λ r. ⌜ SpanOf r (now (own .entry)) env (now (keys .entry)) ⌝ }
+{
+    let mut low: u64 = 0;
+    let mut high: u64 = 0;
+    let mut c = own.len();
+    while c > 0 {
+        c -= 1;
+        let x = env[own[c] as usize];
+        if x == UNBOUND {
+            low = low * 256;
+            high = high * 256 + 255;
+        } else {
+            low = low * 256 + x as u64;
+            high = high * 256 + x as u64;
+        }
+    }
+    let from = ordered::rank(keys, low);
+    let last = ordered::rank(keys, high);
+    if last < keys.len() {
+        return Span { from, to: last + 1 };
+    }
+    Span { from, to: last }
+}

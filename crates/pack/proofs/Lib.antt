@@ -1,0 +1,11 @@
+pub mod Reading
+pub mod Runs
+pub mod RuleReading
+pub mod Bodies
+pub mod Sizes
+pub mod Unpacking
+pub mod Walks
+pub mod Texts
+pub mod Naming
+pub mod Atoms
+pub mod Order

@@ -1,0 +1,87 @@
+-- Laws of the contents. Assumes nothing.
+use borrow.Author.Tests.{leb-true, eqb-true, not-false}
+use lib.Dec.{leb, eqb}
+use lib.ListN.{length}
+use lib.Seq.{slice}
+use mathlib.Core.Bool.{Bool, true, false, _&&_}
+use mathlib.Core.List.{List}
+use mathlib.Core.Option.{some}
+use mathlib.Core.Path.{_≡_, refl, sym, ap, _∙_}
+use native.Mathlib.Nat.{add-zero, le-refl}
+use native.Mathlib.Numerals.{add-one}
+use native.Mathlib.Omega.{arith}
+use Prim.Native.Nat.{ℕ, zero, suc, _+_, _*_, _-_, _≤_, _<_}
+use Rattle.meaning.specs.Tests.{within}
+use Rattle.pack.specs.Contents.{word, lengthOf, startOf, bodyOf, badSize}
+use Rattle.pack.specs.Readers.{Reader}
+use Rattle.pack.specs.Shown.{left, BodyAt}
+use Rattle.pack.specs.Unpack.{readAll}
+use Rattle.pack.specs.declared.cursor.Cursor.{Cursor}
+use Rattle.pack.proofs.Reading.{slice-by}
+
+-- the lengths before i are added
+pub record Summed (s : List ℕ) (i at : ℕ) : Type 0 where
+  pub is : at ≡ startOf s i
+  pub small : at ≤ 36 + i * 4294967296
+
+pub summed-start : (s : List ℕ) → Summed s 0 36
+unfolding startOf
+summed-start s = record { is = refl; small = omega arith }
+
+pub summed-on : {s : List ℕ} {i at w : ℕ} → Summed s i at → w ≡ word s (4 * i) → w < 4294967296 → Summed s (i + 1) (at + w)
+unfolding startOf lengthOf
+summed-on {s} {i} {at} {w} p e h = record {
+  is = let k : startOf s (suc i) ≡ startOf s i + word s (4 * i) = refl in rw add-one (omega (arith, k, p .is, e));
+  small = omega (arith, p .small);
+}
+
+pub summed-done : {s : List ℕ} {i at : ℕ} (k : ℕ) → Summed s i at → i ≤ k → k ≤ i → at ≡ startOf s k
+summed-done {s} {i} k p h l = p .is ∙ ap (startOf s) (omega arith)
+
+and-both : (a b : Bool) → (a && b) ≡ true → (a ≡ true) × (b ≡ true)
+and-both true b h = (refl, h)
+and-both false b h = absurd (let z : _≡_ {A = ℕ} 0 1 = cc in omega arith)
+
+-- what the size says
+pub record Sized (s : List ℕ) : Type 0 where
+  pub long : 36 ≤ length s
+  pub short : length s ≤ 65536
+  pub whole : startOf s 9 ≡ length s
+
+pub size-is : (s : List ℕ) → badSize s ≡ false → Sized s
+unfolding badSize
+size-is s e =
+    let a = and-both (within 36 65536 (length s)) (eqb (startOf s 9) (length s)) (not-false _ e) in
+    let b = and-both (leb 36 (length s)) (leb (length s) 65536) (a .0) in
+    record { long = leb-true _ _ (b .0); short = leb-true _ _ (b .1); whole = eqb-true _ _ (a .1) }
+
+start-up : (s : List ℕ) (k n : ℕ) → startOf s k ≤ startOf s (k + n)
+unfolding startOf
+start-up s k zero = rw add-zero (le-refl _)
+start-up s k (suc n) = let e : k + suc n ≡ suc (k + n) = omega arith in rw e (omega (arith, start-up s k n))
+
+pub start-within : (s : List ℕ) → Sized s → (k : ℕ) → k ≤ 9 → startOf s k ≤ length s
+start-within s z k h = let e : k + (9 - k) ≡ 9 = omega arith in omega (arith, z .whole, rw e at (start-up s k (9 - k)))
+
+next-start : (s : List ℕ) (k : ℕ) → startOf s (k + 1) ≡ startOf s k + lengthOf s k
+unfolding startOf
+next-start s k = rw add-one
+
+body-is : (s : List ℕ) (k : ℕ) → slice (startOf s k) (startOf s (k + 1)) s ≡ bodyOf s k
+unfolding bodyOf
+body-is s k = rw (next-start s k) (sym (slice-by (startOf s k) (lengthOf s k) s))
+
+-- the cursor from one start to the next is the body's
+pub body-at : (s : List ℕ) (k : ℕ) → Sized s → k < 9 → BodyAt s k (record { at = startOf s k; end = startOf s (k + 1) })
+body-at s k z h = record {
+  start = refl;
+  placed = record { before = start-up s k 1; inside = start-within s z (k + 1) (omega arith) };
+  is = body-is s k;
+}
+
+pub body-from : (s : List ℕ) (k : ℕ) {a e : ℕ} → badSize s ≡ false → k < 9 → a ≡ startOf s k → e ≡ startOf s (k + 1) → BodyAt s k (record { at = a; end = e })
+body-from s k z h p q = rw (p, q) (body-at s k (size-is s z) h)
+
+pub in-body : {A : Type 0} (reader : Reader A) {s : List ℕ} {k : ℕ} {c : Cursor} {xs : List A} → BodyAt s k c → readAll reader (bodyOf s k) ≡ some xs
+    → readAll reader (left s c) ≡ some xs
+in-body reader b e = rw (b .is) e

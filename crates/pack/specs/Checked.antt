@@ -1,0 +1,48 @@
+-- The first refusal of 3 to 8 (document 01, "Refused, in checking order"). Assumes nothing.
+use mathlib.Core.Bool.{Bool, true, false}
+use mathlib.Core.List.{List, [], _∷_}
+use mathlib.Core.Option.{Option, none, some}
+use Prim.Native.Nat.{ℕ}
+use Rattle.meaning.specs.Pack.{Pack}
+use Rattle.meaning.specs.WellFormed.{duplicates, prefixClash, dangling, broken, agree}
+use Rattle.pack.specs.Contents.{badSize}
+use Rattle.pack.specs.Unpack.{unpack, unpacking}
+
+pub data Checked : Type 0 where
+  refused : ℕ → Checked
+  accepted : Pack → Checked
+
+-- A refusal's number, and what it is true of.
+abbrev pub Refusal : Type 0
+Refusal = ℕ × (Pack → Bool)
+
+-- the number of the first one that is true
+unfoldable pub firstOf : List Refusal → Pack → Checked
+firstOf [] P = accepted P
+firstOf (r ∷ rs) P = elim (r .1 P) [ true ↦ refused (r .0) | false ↦ firstOf rs P ]
+
+unfoldable pub onPack : List Refusal → Option Pack → Checked
+onPack rs none = refused 4
+onPack rs (some P) = firstOf rs P
+
+-- 3, 4, then those of the list
+unfoldable pub checkBy : List Refusal → List ℕ → Checked
+checkBy rs s = elim (badSize s) [ true ↦ refused 3 | false ↦ onPack rs (unpack s) ]
+
+-- "A pack is well formed when none of 3 to 7 is true of it"
+unfoldable pub wellFormed : List ℕ → Checked
+wellFormed = checkBy ((5, duplicates) ∷ (6, prefixClash) ∷ (7, dangling) ∷ [])
+
+-- "and keeps its dependencies when 8 is not."
+unfoldable pub firstRefusal : List ℕ → Checked
+firstRefusal = checkBy ((5, duplicates) ∷ (6, prefixClash) ∷ (7, dangling) ∷ (8, broken) ∷ [])
+
+-- "A refusal gives its number"; 0 where there is none.
+abbrev pub numberOf : Checked → ℕ
+numberOf (refused n) = n
+numberOf (accepted P) = 0
+
+-- opens the checks for computation
+unfoldable pub checking : Unit {0}
+unfolding unpacking firstOf onPack checkBy wellFormed firstRefusal duplicates prefixClash dangling agree broken
+checking = tt

@@ -1,0 +1,112 @@
+-- What refusal 4 leaves of a record: lengths and arities in bounds. Assumes nothing.
+use borrow.Author.Tests.{leb-true}
+use lib.Dec.{leb}
+use lib.ListN.{length}
+use mathlib.Core.Bool.{Bool, true, false, _&&_}
+use mathlib.Core.List.{List, [], _∷_}
+use mathlib.Core.Option.{Option, none, some, Option·none-ne-some, Option·some-injective}
+use mathlib.Core.Path.{_≡_, refl, sym, ap, subst, _∙_}
+use native.Mathlib.Omega.{arith}
+use Prim.Native.Nat.{ℕ, zero, suc, _≤_, _<_}
+use Rattle.meaning.specs.Member.{_∈_, here, there}
+use Rattle.meaning.specs.Pack.{Text, Constructor}
+use Rattle.meaning.specs.Tests.{within}
+use Rattle.pack.specs.Readers.{Read, Reader, give, only, next, _>>=_, byte, byteIn, bytes, sized}
+use Rattle.pack.specs.Records.{value, constructor}
+use Rattle.pack.specs.Unpack.{also, records, readAll}
+
+-- ---- what every record of a body is
+
+module _ {A : Type 0} (reader : Reader A) (Q : A → Type 0) (each : (s : List ℕ) (r : Read A) → reader s ≡ some r → Q (r .got)) where
+  records-all : (k : ℕ) (s : List ℕ) (xs : List A) → records reader k s ≡ some xs → (x : A) → x ∈ xs → Q x
+  unfolding records
+  records-all zero s xs e x i = absurd (Option·none-ne-some xs e)
+  records-all (suc k) [] xs e x i = absurd (nothing (subst (λ l. x ∈ l) (sym (Option·some-injective [] xs e)) i))
+    where
+      nothing : x ∈ [] → ⊥
+      nothing h = elim h [ ]
+  records-all (suc k) (b ∷ s) xs e x i = go (reader (b ∷ s)) refl e (λ t ys q j. records-all k t ys q x j)
+    where
+      found : (r : Read A) → reader (b ∷ s) ≡ some r → (o : Option (List A)) → records reader k (r .rest) ≡ o → also (r .got) o ≡ some xs
+          → ((ys : List A) → records reader k (r .rest) ≡ some ys → x ∈ ys → Q x) → Q x
+      found r h none q f rest = absurd (Option·none-ne-some xs f)
+      found r h (some ys) q f rest = last (subst (λ l. x ∈ l) (sym (Option·some-injective _ xs f)) i)
+        where
+          last : x ∈ (r .got ∷ ys) → Q x
+          last (here p) = subst Q (sym p) (each (b ∷ s) r h)
+          last (there j) = rest ys q j
+
+      go : (o : Option (Read A)) → reader (b ∷ s) ≡ o
+          → (elim o as (λ _. Option (List A)) [ none ↦ none | some r ↦ also (r .got) (records reader k (r .rest)) ]) ≡ some xs
+          → ((t : List ℕ) (ys : List A) → records reader k t ≡ some ys → x ∈ ys → Q x) → Q x
+      go none h f rest = absurd (Option·none-ne-some xs f)
+      go (some r) h f rest = found r h (records reader k (r .rest)) refl f (rest (r .rest))
+
+  pub read-all : (s : List ℕ) (xs : List A) → readAll reader s ≡ some xs → (x : A) → x ∈ xs → Q x
+  unfolding readAll
+  read-all s xs = records-all (suc (length s)) s xs
+
+-- ---- readers of texts
+
+next-some : {A B : Type 0} (o : Option (Read A)) (f : A → Reader B) (r : Read B) → next o f ≡ some r
+    → (q : Read A) × (o ≡ some q) × (f (q .got) (q .rest) ≡ some r)
+next-some none f r e = absurd (Option·none-ne-some r e)
+next-some (some q) f r e = (q, refl, e)
+
+only-some : {A : Type 0} (b : Bool) (a : A) (s : List ℕ) (r : Read A) → only b a s ≡ some r → (b ≡ true) × (r .got ≡ a)
+only-some true a s r e = (refl, ap (λ (x : Read _). x .got) (sym (Option·some-injective _ r e)))
+only-some false a s r e = absurd (Option·none-ne-some r e)
+
+and-both : (a b : Bool) → (a && b) ≡ true → (a ≡ true) × (b ≡ true)
+and-both true b h = (refl, h)
+and-both false b h = absurd (let z : _≡_ {A = ℕ} 0 1 = cc in omega arith)
+
+byteIn-bound : (lo hi : ℕ) (s : List ℕ) (r : Read ℕ) → byteIn lo hi s ≡ some r → (lo ≤ r .got) × (r .got ≤ hi)
+unfolding byteIn
+byteIn-bound lo hi s r e =
+    let q = next-some (byte s) _ r e in
+    let o = only-some (within lo hi (q .0 .got)) (q .0 .got) (q .0 .rest) r (q .2) in
+    let w = and-both (leb lo (q .0 .got)) (leb (q .0 .got) hi) (o .0) in
+    (omega (arith, leb-true lo (q .0 .got) (w .0), o .1), omega (arith, leb-true (q .0 .got) hi (w .1), o .1))
+
+bytes-length : (ok : ℕ → Bool) (n : ℕ) (s : List ℕ) (r : Read (List ℕ)) → bytes ok n s ≡ some r → length (r .got) ≡ n
+unfolding bytes
+bytes-length ok zero s r e = ap (λ (x : Read (List ℕ)). length (x .got)) (sym (Option·some-injective _ r e))
+bytes-length ok (suc n) s r e =
+    let a = next-some (byte s) _ r e in
+    let b = next-some (only (ok (a .0 .got)) (a .0 .got) (a .0 .rest)) _ r (a .2) in
+    let c = next-some (bytes ok n (b .0 .rest)) _ r (b .2) in
+    ap (λ (x : Read (List ℕ)). length (x .got)) (sym (Option·some-injective _ r (c .2))) ∙ ap suc (bytes-length ok n (b .0 .rest) (c .0) (c .1))
+
+sized-bound : (ok : ℕ → Bool) (lo hi : ℕ) (s : List ℕ) (r : Read (List ℕ)) → sized ok lo hi s ≡ some r → (lo ≤ length (r .got)) × (length (r .got) ≤ hi)
+unfolding sized
+sized-bound ok lo hi s r e =
+    let a = next-some (byteIn lo hi s) _ r e in
+    let b = byteIn-bound lo hi s (a .0) (a .1) in
+    let l = bytes-length ok (a .0 .got) (a .0 .rest) r (a .2) in
+    (omega (arith, b .0, l), omega (arith, b .1, l))
+
+-- ---- values and constructors
+
+pub value-short : (s : List ℕ) (xs : List Text) → readAll value s ≡ some xs → (x : Text) → x ∈ xs → length x ≤ 64
+unfolding value
+value-short s xs = read-all value (λ x. length x ≤ 64) (λ t r e. sized-bound _ 0 64 t r e .1) s xs
+
+pub record Bounded (k : Constructor) : Type 0 where
+  pub some-arguments : 1 ≤ k .arity
+  pub few-arguments : k .arity ≤ 4
+  pub some-bytes : 1 ≤ length (k .prefix)
+  pub few-bytes : length (k .prefix) ≤ 32
+
+pub constructor-bounded : (s : List ℕ) (ks : List Constructor) → readAll constructor s ≡ some ks → (k : Constructor) → k ∈ ks → Bounded k
+unfolding constructor
+constructor-bounded s ks = read-all constructor Bounded one s ks
+  where
+    one : (t : List ℕ) (r : Read Constructor) → constructor t ≡ some r → Bounded (r .got)
+    one t r e =
+        let a = next-some (byteIn 1 4 t) _ r e in
+        let n = byteIn-bound 1 4 t (a .0) (a .1) in
+        let b = next-some (sized _ 1 32 (a .0 .rest)) _ r (a .2) in
+        let l = sized-bound _ 1 32 (a .0 .rest) (b .0) (b .1) in
+        subst Bounded (ap (λ (x : Read Constructor). x .got) (Option·some-injective _ r (b .2)))
+        (record { some-arguments = n .0; few-arguments = n .1; some-bytes = l .0; few-bytes = l .1 })

@@ -1,0 +1,4 @@
+pub mod Answered
+pub mod Bounds
+pub mod Filling
+pub mod Places

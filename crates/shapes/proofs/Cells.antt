@@ -1,0 +1,51 @@
+-- What a cell says of the shape that it holds. Assumes nothing.
+use borrow.Author.Tests.{eq-eqb, ne-eqb}
+use lib.Dec.{T, eqb}
+use mathlib.Core.List.{List, []}
+use mathlib.Core.Option.{Option, none, some}
+use mathlib.Core.Path.{_≡_, refl, sym, _∙_}
+use native.Mathlib.Omega.{arith}
+use Prim.Native.Nat.{ℕ, suc, _+_, _*_, _/_, _%_, _^_, _≤_, _<_}
+use Rattle.meaning.specs.Limits.{maxTypes, maxPredicates}
+use Rattle.meaning.specs.Pack.{HasShape, Multiplicity, Setting, Shape, anyNumber, atLeastOne, multiplicityNumber, one, optional, shapeOf}
+use Rattle.meaning.specs.Tables.{ShapeTable, cellAt, cellOf, targetCode}
+use Rattle.shapes.specs.Cells.{weightOf}
+
+pub weight-none : weightOf 0 ≡ 0
+unfolding weightOf
+weight-none = refl
+
+pub weight-some : (cell : ℕ) → (cell ≡ 0 → ⊥) → weightOf cell ≡ 2 ^ (cell / 8)
+unfolding weightOf
+weight-some cell h = rw (ne-eqb cell 0 h)
+
+multiplicity-small : (m : Multiplicity) → (1 ≤ multiplicityNumber m) × (multiplicityNumber m < 8)
+multiplicity-small one = (omega arith, omega arith)
+multiplicity-small optional = (omega arith, omega arith)
+multiplicity-small anyNumber = (omega arith, omega arith)
+multiplicity-small atLeastOne = (omega arith, omega arith)
+
+module _ (s : Shape) where
+  pub cell-held : cellOf (some s) ≡ 0 → ⊥
+  cell-held e = omega (arith, multiplicity-small (s .multiplicity))
+
+  pub cell-target : cellOf (some s) / 8 ≡ targetCode (s .target)
+  cell-target = omega (arith, multiplicity-small (s .multiplicity))
+
+  pub cell-multiplicity : cellOf (some s) % 8 ≡ multiplicityNumber (s .multiplicity)
+  cell-multiplicity = omega (arith, multiplicity-small (s .multiplicity))
+
+  pub cell-weight : weightOf (cellOf (some s)) ≡ 2 ^ targetCode (s .target)
+  cell-weight = weight-some (cellOf (some s)) cell-held ∙ rw cell-target
+
+-- the shape of a cell that is not 0
+module _ {S : Setting} {table : List (List ℕ)} (tab : ShapeTable S table) {t p : ℕ} (ht : t < maxTypes) (hp : p < maxPredicates) where
+  pub held-shape : (cellAt table t p ≡ 0 → ⊥) → (s : Shape) × HasShape S t p s × (cellAt table t p ≡ cellOf (some s))
+  held-shape n = go (shapeOf S t p) refl
+    where
+      go : (o : Option Shape) → shapeOf S t p ≡ o → (s : Shape) × HasShape S t p s × (cellAt table t p ≡ cellOf (some s))
+      go none e = absurd (n (tab .cells t p ht hp ∙ rw e))
+      go (some s) e = (s, record { is = e }, tab .cells t p ht hp ∙ rw e)
+
+  pub shape-held : (s : Shape) → HasShape S t p s → cellAt table t p ≡ cellOf (some s)
+  shape-held s h = tab .cells t p ht hp ∙ rw (h .is)

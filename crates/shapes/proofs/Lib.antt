@@ -1,0 +1,4 @@
+pub mod Sets
+pub mod Cells
+pub mod Union
+pub mod Search
