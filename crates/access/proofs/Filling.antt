@@ -11,10 +11,9 @@ use mathlib.Core.Path.{_≡_, refl, sym, ap, _∙_}
 use native.Mathlib.Decide.{ℕ-discrete}
 use native.Mathlib.Omega.{arith}
 use Prim.Native.Nat.{ℕ, _+_, _*_, _≤_, _<_}
-use Rattle.meaning.specs.Pack.{Pack, Shape, ShapeRecord, firstOf, shapeIn, shapeOf}
+use Rattle.meaning.specs.Pack.{Pack, Shape, ShapeRecord, firstOf, shapeIn, shapeOf, multiplicityNumber}
 use Rattle.meaning.specs.Tests.{every}
 use Rattle.meaning.specs.WellFormed.{dangling, goodShape, goodTarget, goodDependency, goodRule, goodRow}
-use Rattle.pack.specs.Encode.{targetByte, multiplicityByte}
 use Rattle.pack.specs.Records.{shape, targetOf, multiplicityOf}
 use Rattle.pack.specs.Shown.{Placed, BodyAt, ShapeGot, shapeOf as shapeFrom}
 use Rattle.pack.specs.Unpack.{unpack}
@@ -26,7 +25,7 @@ use Rattle.pack.proofs.Sizes.{in-body}
 use Rattle.pack.proofs.Unpacking.{unpacked}
 use Rattle.pack.proofs.Walks.{Asked, asked-start, asked-on, asked-done, front}
 use Rattle.access.proofs.Accepted.{well-formed}
-use Rattle.access.specs.Table.{cellOf, packed, putFirst, TableOf, Well}
+use Rattle.access.specs.Table.{cellOf, targetByte, packed, putFirst, TableOf, Well}
 
 -- ---- cells
 
@@ -96,7 +95,7 @@ target-back : (x : ℕ) → targetByte (targetOf x) ≡ x
 unfolding targetOf
 target-back x = case-on (eqb x 255) (λ e. rw e (sym (eqb-true x 255 e))) (λ e. rw e)
 
-multiplicity-back : (m : ℕ) → 1 ≤ m → m ≤ 4 → multiplicityByte (multiplicityOf m) ≡ m
+multiplicity-back : (m : ℕ) → 1 ≤ m → m ≤ 4 → multiplicityNumber (multiplicityOf m) ≡ m
 unfolding multiplicityOf
 multiplicity-back m a b =
     case-on (eqb m 1) (λ e. rw e (sym (eqb-true m 1 e)))
