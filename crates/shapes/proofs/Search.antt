@@ -11,12 +11,12 @@ use native.Mathlib.Decide.{ℕ-discrete}
 use native.Mathlib.Nat.{le-refl}
 use native.Mathlib.Omega.{arith}
 use Prim.Native.Nat.{ℕ, _%_, _^_, _≤_, _<_}
+use Rattle.meaning.proofs.Lists.Bits.{zero-bits}
 use Rattle.meaning.specs.Limits.{maxPredicates}
 use Rattle.meaning.specs.Pack.{AnswersTest, Multiplicity, Setting, Shape, multiplicityNumber, type}
 use Rattle.meaning.specs.Tables.{cellAt, cellOf}
 use Rattle.meaning.specs.TypeSet.{bit}
 use Rattle.sets.proofs.Lowest.{cleared, cleared-le, cleared-member, lowest}
-use Rattle.sets.proofs.Mask.{bit-none}
 use Rattle.shapes.specs.Shapes.{SomePasses, SomeShape, Tabled}
 use Rattle.shapes.proofs.Cells.{cell-held, cell-multiplicity, held-shape, shape-held}
 use Rattle.shapes.proofs.Sets.{low-member, type-in}
@@ -51,7 +51,7 @@ module _ (Has : ℕ → Type 0) where
 
 module _ {Has : ℕ → Type 0} {mask left : ℕ} (v : Searching Has mask left) where
   pub search-done : left ≡ 0 → (t : ℕ) → bit t mask ≡ 1 → ¬ Has t
-  search-done e t m h = omega (arith, bit-none t, rw e at (v .rest t m h))
+  search-done e t m h = omega (arith, zero-bits t, rw e at (v .rest t m h))
 
   module _ (more : left ≡ 0 → ⊥) (d : ℕ) (fits : mask < 2 ^ d) where
     pub search-member : bit (trailingZeros d left) mask ≡ 1

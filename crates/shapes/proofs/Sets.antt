@@ -8,11 +8,11 @@ use native.Mathlib.Decide.{ℕ-discrete}
 use native.Mathlib.Nat.{pow-suc, not-suc-le-zero, le-of-suc-le-suc}
 use native.Mathlib.Omega.{arith}
 use Prim.Native.Nat.{ℕ, zero, suc, _-_, _/_, _%_, _^_, _≤_, _<_}
-use Rattle.meaning.proofs.Lists.Bits.{bit-one, bit-other, bit-shift}
+use Rattle.meaning.proofs.Lists.Bits.{bit-one, bit-other, bit-shift, zero-bits}
 use Rattle.meaning.specs.Pack.{Target, Literal, type}
 use Rattle.meaning.specs.Tables.{targetCode, setOfMask, literalBit}
 use Rattle.meaning.specs.TypeSet.{bit, _∈ₜ_}
-use Rattle.sets.proofs.Mask.{bit-none, bit-small, intersection-member, union-member}
+use Rattle.sets.proofs.Mask.{bit-small, intersection-member, union-member}
 
 -- 2 ^ k - 1 is the mask of all types below k
 pub ones-bit : (k t : ℕ) → t < k → bit t (2 ^ k - 1) ≡ 1
@@ -98,4 +98,4 @@ one-in R t h = (
 
 -- nothing is in the empty mask
 pub none-in : (R : Target) → ¬ (R ∈ₜ setOfMask 0)
-none-in R h = let q = target-in R 0 (lit< tt) .0 h in omega (arith, bit-none (targetCode R), q .1)
+none-in R h = let q = target-in R 0 (lit< tt) .0 h in omega (arith, zero-bits (targetCode R), q .1)

@@ -7,12 +7,11 @@ use mathlib.Core.Path.{_≡_, refl, sym, _∙_, subst}
 use native.Mathlib.Decide.{ℕ-discrete}
 use native.Mathlib.Omega.{arith}
 use Prim.Native.Nat.{ℕ, zero, suc, _-_, _/_, _^_, _<_}
-use Rattle.meaning.proofs.Lists.Bits.{bit-one, bit-other}
+use Rattle.meaning.proofs.Lists.Bits.{bit-one, bit-other, zero-bits}
 use Rattle.meaning.specs.Limits.{maxPredicates}
 use Rattle.meaning.specs.Pack.{HasShape, Setting, Shape, Target, Literal, type}
 use Rattle.meaning.specs.Tables.{cellAt, cellOf, targetCode, setOfMask}
 use Rattle.meaning.specs.TypeSet.{bit, _∈ₜ_}
-use Rattle.sets.proofs.Mask.{bit-none}
 use Rattle.sets.proofs.Members.{members-all}
 use Rattle.sets.proofs.Union.{Entry, union-entry}
 use Rattle.sets.proofs.Lowest.{cleared}
@@ -61,7 +60,7 @@ module _ (table : List (List ℕ)) (mask p r : ℕ) (hp : p < maxPredicates) (fi
     found t ht b c = go (ℕ-discrete (cellAt table t p) 0)
       where
         go : Dec (cellAt table t p ≡ 0) → (s : Shape) × HasShape S t p s × (s .target ≡ R)
-        go (yes e) = absurd (omega (arith, bit-none (targetCode R), rw (e, weight-none) at b))
+        go (yes e) = absurd (omega (arith, zero-bits (targetCode R), rw (e, weight-none) at b))
         go (no n) =
             let h = held-shape (tab .cells) ht hp n in
             let w : weightOf (cellAt table t p) ≡ 2 ^ targetCode (h .0 .target) = rw (h .2) (cell-weight (h .0)) in

@@ -18,32 +18,32 @@ say-cases-spec =
     (tie.spec
     Inv-loop
     μ-loop
-    (λ c. search needs) -- loop-holds
-    (λ c. search needs) -- sub-if1
-    (λ c. search needs) -- returns
-    (λ c. search needs) -- shared-slice-read-word
-    (λ c. search needs) -- add-word
-    (λ c. search needs) -- shared-slice-read-word-2
-    (λ c κs. search needs) -- word-requires
-    (λ c. search needs) -- add-word-2
-    (λ c. search needs) -- shared-slice-read-word-3
-    (λ c. search needs) -- add-word-3
-    (λ c. search needs) -- shared-slice-read-word-4
-    (λ c κs. search needs) -- word-requires-2
-    (λ c. search needs) -- add-start
-    (λ c. search needs) -- sub-if2
-    (λ c. search needs) -- returns-2
-    (λ c. search needs) -- add-middle
-    (λ c. search needs) -- sub-if3
-    (λ c. search needs) -- returns-3
-    (λ c. search needs) -- add-end
-    (λ c. search needs) -- sub-say
-    (λ c. search needs) -- part-say-start
-    (λ c. search needs) -- part-say-end
-    (λ c. search needs) -- sub-say-2
-    (λ c. search needs) -- part-say-start-2
-    (λ c. search needs) -- part-say-end-2
-    (λ c κs. search needs) -- say-requires
-    (λ c. search needs) -- loop-less
-    (λ c. search needs) -- loop-again
-    (λ c. search needs)) -- returns-4
+    (λ c. search needs)  -- loop-holds
+    (λ c. search needs)  -- sub-if1
+    (λ c. search needs)  -- returns
+    (λ c. search needs)  -- shared-slice-read-word
+    (λ c. search needs)  -- add-word
+    (λ c. search needs)  -- shared-slice-read-word-2
+    (λ c κs. search needs)  -- word-requires
+    (λ c. search needs)  -- add-word-2
+    (λ c. search needs)  -- shared-slice-read-word-3
+    (λ c. search needs)  -- add-word-3
+    (λ c. search needs)  -- shared-slice-read-word-4
+    (λ c κs. search needs)  -- word-requires-2
+    (λ c. search needs)  -- add-start
+    (λ c. search needs)  -- sub-if2
+    (λ c. search needs)  -- returns-2
+    (λ c. search needs)  -- add-middle
+    (λ c. search needs)  -- sub-if3
+    (λ c. search needs)  -- returns-3
+    (λ c. search needs)  -- add-end
+    (λ c. search needs)  -- sub-say
+    (λ c. search needs)  -- part-say-start
+    (λ c. search needs)  -- part-say-end
+    (λ c. search needs)  -- sub-say-2
+    (λ c. search needs)  -- part-say-start-2
+    (λ c. search needs)  -- part-say-end-2
+    (λ c κs. search needs)  -- say-requires
+    (λ c. search needs)  -- loop-less
+    (λ c. search needs)  -- loop-again
+    (λ c. search needs))  -- returns-4
