@@ -25,7 +25,8 @@ use Rattle.pack.proofs.Sizes.{in-body}
 use Rattle.pack.proofs.Unpacking.{unpacked}
 use Rattle.pack.proofs.Walks.{Asked, asked-start, asked-on, asked-done, front}
 use Rattle.access.proofs.Accepted.{well-formed}
-use Rattle.access.specs.Table.{cellOf, targetByte, packed, putFirst, TableOf, Well}
+use Rattle.access.specs.Table.{cellOf, targetByte, packed, putFirst, TableOf}
+use Rattle.access.specs.Places.{IsWellFormed}
 
 -- ---- cells
 
@@ -146,7 +147,7 @@ step table t p x m ys w ht hp a b i j =
 pub record Filled (s : List ℕ) (c₀ : Cursor) (table : List (List ℕ)) (c : Cursor) : Type 0 where
   pub placed : Placed s c
   pub square : Square table
-  pub named : (w : Well s) → Asked shape s c₀ (every (goodShape (w .pack))) c (every (goodShape (w .pack)))
+  pub named : (w : IsWellFormed s) → Asked shape s c₀ (every (goodShape (w .pack))) c (every (goodShape (w .pack)))
   pub is : (i j : ℕ) → i < 8 → j < 12 → Asked shape s c₀ (λ xs. packed (shapeIn xs i j)) c (λ ys. orElse (cellOf table i j) (packed (shapeIn ys i j)))
 
 abbrev emptyRow : List ℕ
@@ -188,7 +189,7 @@ three true true w h = (refl, refl)
 three true false w h = absurd (let z : _≡_ {A = ℕ} 0 1 = cc in omega arith)
 three false v w h = absurd (let z : _≡_ {A = ℕ} 0 1 = cc in omega arith)
 
-module _ {s : List ℕ} {c₀ c d : Cursor} {table : List (List ℕ)} {t p x m : ℕ} (b : BodyAt s 5 c₀) (w : Well s) (f : Filled s c₀ table c) (g : ShapeGot s c t p x m d) where
+module _ {s : List ℕ} {c₀ c d : Cursor} {table : List (List ℕ)} {t p x m : ℕ} (b : BodyAt s 5 c₀) (w : IsWellFormed s) (f : Filled s c₀ table c) (g : ShapeGot s c t p x m d) where
   -- the shape in front is good
   good-here : goodShape (w .pack) (shapeFrom t p x m) ≡ true
   good-here =
@@ -208,7 +209,7 @@ module _ {s : List ℕ} {c₀ c d : Cursor} {table : List (List ℕ)} {t p x m :
       let l = three (ltb t nt) (ltb p np) (goodTarget (w .pack) (targetOf x)) good-here in
       (omega (arith, ltb-true t nt (l .0), u .types .1), omega (arith, ltb-true p np (l .1), u .predicates .1))
 
-pub filled-on : {s : List ℕ} {c₀ c d : Cursor} {table : List (List ℕ)} {t p x m : ℕ} → BodyAt s 5 c₀ → (w : Well s) → Filled s c₀ table c → ShapeGot s c t p x m d
+pub filled-on : {s : List ℕ} {c₀ c d : Cursor} {table : List (List ℕ)} {t p x m : ℕ} → BodyAt s 5 c₀ → (w : IsWellFormed s) → Filled s c₀ table c → ShapeGot s c t p x m d
     → Filled s c₀ (putFirst t p (x * 8 + m) table) d
 filled-on {s} {c₀} {c} {d} {table} {t} {p} {x} {m} b w f g =
     let h = shape-bounds b w f g in

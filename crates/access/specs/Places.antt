@@ -5,7 +5,8 @@ use mathlib.Core.Option.{Option, none, some}
 use mathlib.Core.Path.{_≡_}
 use Prim.Native.Nat.{ℕ, _+_, _≤_}
 use Rattle.meaning.specs.Limits.{maxAtoms}
-use Rattle.meaning.specs.Pack.{Text, Constructor, Atom, Rule}
+use Rattle.meaning.specs.Pack.{Pack, Text, Constructor, Atom, Rule}
+use Rattle.pack.specs.Checked.{wellFormed, accepted}
 use Rattle.pack.specs.Records.{atoms}
 use Rattle.pack.specs.Shown.{Got, Placed, headAt}
 use Rattle.pack.specs.declared.cursor.Cursor.{Cursor}
@@ -16,6 +17,11 @@ use Rattle.access.specs.declared.Place.{Place}
 use Rattle.access.specs.declared.Place.the-variants.{At, Nothing}
 use Rattle.access.specs.declared.ConstructorPlace.{ConstructorPlace}
 use Rattle.access.specs.declared.ConstructorPlace.the-variants.{At as AtConstructor, Nothing as NoConstructor}
+
+-- The bytes are a well-formed pack.
+pub record IsWellFormed (s : List ℕ) : Type 0 where
+  pub pack : Pack
+  pub is : wellFormed s ≡ accepted pack
 
 -- the text is the len bytes from start on
 pub record TextAt (s : List ℕ) (o : Option Text) (start len : ℕ) : Type 0 where

@@ -8,7 +8,6 @@ use mathlib.Core.Path.{_≡_}
 use Prim.Native.Nat.{ℕ, _+_, _*_, _<_}
 use Rattle.meaning.specs.Limits.{maxTypes, maxPredicates, literalTarget}
 use Rattle.meaning.specs.Pack.{Pack, Shape, Target, Literal, type, multiplicityNumber, shapeOf}
-use Rattle.pack.specs.Checked.{wellFormed, accepted}
 
 abbrev pub cellOf : List (List ℕ) → ℕ → ℕ → ℕ
 cellOf table t p = getD (getD table t []) p 0
@@ -29,8 +28,3 @@ pub record TableOf (P : Pack) (table : List (List ℕ)) : Type 0 where
 -- v where the cell is empty
 abbrev pub putFirst : ℕ → ℕ → ℕ → List (List ℕ) → List (List ℕ)
 putFirst t p v table = cond (eqb (cellOf table t p) 0) (set table t (set (getD table t []) p v)) table
-
--- the bytes are a well-formed pack
-pub record Well (s : List ℕ) : Type 0 where
-  pub pack : Pack
-  pub is : wellFormed s ≡ accepted pack

@@ -2,7 +2,8 @@
 ghost use mathlib.Core.Path.{_≡_};
 ghost use Prim.Native.Nat.{_<_};
 ghost use Rattle.pack.specs.Unpack.{Decoded};
-ghost use Rattle.access.specs.Table.{TableOf, Well, putFirst, cellOf};
+ghost use Rattle.access.specs.Table.{TableOf, putFirst, cellOf};
+ghost use Rattle.access.specs.Places.{IsWellFormed};
 use pack::contents::body;
 use pack::cursor::ShapeRead;
 
@@ -29,7 +30,7 @@ pub fn cell(table: [[u16; 12]; 8], t: usize, p: usize) -> u16
 
 // The table of a well-formed pack.
 pub fn shape_table(s: &[u8]) -> [[u16; 12]; 8]
-    requires { ⌜ Well (now s) ⌝ }
+    requires { ⌜ IsWellFormed (now s) ⌝ }
     ensures { λ r. ⌜ Decoded (now (s .entry)) (λ P. TableOf P r) ⌝ }
 {
     let mut table = [[0u16; 12]; 8];

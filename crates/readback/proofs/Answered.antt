@@ -17,7 +17,7 @@ use Rattle.pack.specs.Checked.{Checked, refused, accepted, wellFormed, numberOf
 use Rattle.readback.proofs.Bounds.{constructor-bounded}
 use Rattle.readback.specs.Answer.{Answers, not-well-formed, no-iri, iri, refusal, term, read}
 use Rattle.readback.specs.declared.ReadBack.{ReadBack}
-use Rattle.readback.specs.Held.{IsWellFormed, OfPack, TextsHeld, ConstructorsHeld}
+use Rattle.readback.specs.Held.{OfPack, TextsHeld, ConstructorsHeld}
 use Rattle.spelling.proofs.Answer.{spelled-is-read, read-is-spelled, not-read, tables-read}
 use Rattle.spelling.proofs.Reading.{SomeArguments}
 use Rattle.spelling.specs.declared.iri.IriRead.{IriRead}

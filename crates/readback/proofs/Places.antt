@@ -13,7 +13,7 @@ use Rattle.access.specs.declared.ConstructorPlace.{ConstructorPlace}
 use Rattle.access.specs.declared.ConstructorPlace.the-variants.{At as AtConstructor, Nothing as NoConstructor}
 use Rattle.access.specs.declared.Place.{Place}
 use Rattle.access.specs.declared.Place.the-variants.{At, Nothing}
-use Rattle.access.specs.Places.{TextAt, TextPlaced, ConstructorAt, ConstructorPlaced}
+use Rattle.access.specs.Places.{IsWellFormed, TextAt, TextPlaced, ConstructorAt, ConstructorPlaced}
 use Rattle.meaning.proofs.Lists.Members.{element}
 use Rattle.meaning.specs.Pack.{Pack, Text, Constructor}
 use Rattle.pack.proofs.Reading.{length-at, slice-by}
@@ -24,10 +24,10 @@ use Rattle.pack.specs.Contents.{badSize}
 use Rattle.pack.specs.Unpack.{Decoded}
 use Rattle.readback.proofs.Bounds.{value-short, Bounded, constructor-bounded}
 use Rattle.readback.proofs.Filling.{at-longer, at-shorter, take-more, texts-on, constructors-on}
-use Rattle.readback.specs.Held.{IsWellFormed, OfPack, TextsHeld, ConstructorsHeld, SamePlace}
+use Rattle.readback.specs.Held.{OfPack, TextsHeld, ConstructorsHeld, SamePlace}
 
 pub size-good : (s : Text) → IsWellFormed s → badSize s ≡ false
-size-good s w = well-formed s (w .0) (w .1) .size
+size-good s w = well-formed s (w .pack) (w .is) .size
 
 length-part : (s : Text) (start len : ℕ) → start + len ≤ length s → length (take len (drop start s)) ≡ len
 length-part s start len h = ap length (slice-by start len s) ∙ length-at s start len h
@@ -41,9 +41,9 @@ module _ (s : Text) (v : ℕ) (r : Place) (placed : Decoded s (λ P. TextPlaced 
   -- the place fits 16 bits
   pub value-fits : IsWellFormed s → {start len : ℕ} → r ≡ At start len → (start + len ≤ 65536) × (len ≤ 64)
   value-fits w {start} {len} e =
-      let t = value-at e (w .0) (w .1) in
-      let f = well-formed s (w .0) (w .1) in
-      let l = value-short _ _ (unpacked s (w .0) (f .read) .values .0) (take len (drop start s)) (element (w .0 .setting .values) v _ (t .is)) in
+      let t = value-at e (w .pack) (w .is) in
+      let f = well-formed s (w .pack) (w .is) in
+      let l = value-short _ _ (unpacked s (w .pack) (f .read) .values .0) (take len (drop start s)) (element (w .pack .setting .values) v _ (t .is)) in
       (omega (arith, t .inside, size-is s (f .size) .short), omega (arith, l, length-part s start len (t .inside)))
 
   pub value-on : (starts lens : List ℕ) (start len q : ℕ) → r ≡ At start len → v < length starts → SamePlace start len q
@@ -73,9 +73,9 @@ module _ (s : Text) (v : ℕ) (r : ConstructorPlace) (placed : Decoded s (λ P. 
 
   pub constructor-fits : IsWellFormed s → {arity start len : ℕ} → r ≡ AtConstructor arity start len → (start + len ≤ 65536) × (len ≤ 32)
   constructor-fits w {arity} {start} {len} e =
-      let t = constructor-at e (w .0) (w .1) in
-      let f = well-formed s (w .0) (w .1) in
-      let l = constructor-bounded _ _ (unpacked s (w .0) (f .read) .constructors .0) _ (element (w .0 .setting .constructors) v _ (t .is)) in
+      let t = constructor-at e (w .pack) (w .is) in
+      let f = well-formed s (w .pack) (w .is) in
+      let l = constructor-bounded _ _ (unpacked s (w .pack) (f .read) .constructors .0) _ (element (w .pack .setting .constructors) v _ (t .is)) in
       (omega (arith, t .inside, size-is s (f .size) .short), omega (arith, l .few-bytes, length-part s start len (t .inside)))
 
   pub constructor-on : (arities starts lens : List ℕ) (arity start len q : ℕ) → r ≡ AtConstructor arity start len → v < length starts → SamePlace start len q

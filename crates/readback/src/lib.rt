@@ -2,9 +2,10 @@
 ghost use lib.ListN.{length};
 ghost use mathlib.Core.Path.{_≡_};
 ghost use Prim.Native.Nat.{_+_, _≤_};
+ghost use Rattle.access.specs.Places.{IsWellFormed};
 ghost use Rattle.meaning.specs.Limits.{maxValues, maxConstructors};
 ghost use Rattle.readback.specs.Answer.{Answers, refusal, read};
-ghost use Rattle.readback.specs.Held.{IsWellFormed, OfPack, TextsHeld, ConstructorsHeld, SamePlace};
+ghost use Rattle.readback.specs.Held.{OfPack, TextsHeld, ConstructorsHeld, SamePlace};
 use access::ConstructorPlace;
 use access::Place;
 use access::constructor_place;

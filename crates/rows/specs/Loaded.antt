@@ -11,10 +11,6 @@ use Rattle.pack.specs.Records.{rowOf}
 use Rattle.pack.specs.Shown.{made, textAt}
 use Rattle.pack.specs.declared.cursor.Tuple.{Tuple}
 
--- the bytes are a well-formed pack
-abbrev pub HasPack : List ℕ → Type 0
-HasPack s = (P : Pack) × (wellFormed s ≡ accepted P)
-
 -- out′ holds the pack's n rows from its front on, and after them what out held
 pub record Loaded (P : Pack) (n : ℕ) (out out′ : List ℕ) : Type 0 where
   pub count : n ≡ length (P .rows)

@@ -2,7 +2,8 @@
 ghost use mathlib.Core.Path.{_≡_};
 ghost use Prim.Native.Nat.{_+_, _≤_, _<_};
 ghost use lib.ListN.{length};
-ghost use Rattle.rows.specs.Loaded.{HasPack, LoadedFrom, cellOrUnused, withRow};
+ghost use Rattle.rows.specs.Loaded.{LoadedFrom, cellOrUnused, withRow};
+ghost use Rattle.access.specs.Places.{IsWellFormed};
 use meaning::MAX_COLUMNS;
 use meaning::UNUSED;
 use pack::contents::body;
@@ -38,7 +39,7 @@ fn put_row(s: &[u8], row: Tuple, out: &mut [u16], at: usize)
 
 // Writes the rows, in the pack's order, and returns how many they are; the rest of the list keeps its numbers.
 pub fn load_rows(s: &[u8], out: &mut [u16]) -> usize
-    requires { ⌜ HasPack (now s) × (9216 ≤ length (now out)) ⌝ }
+    requires { ⌜ IsWellFormed (now s) × (9216 ≤ length (now out)) ⌝ }
     ensures { λ n. ⌜ LoadedFrom (now (s .entry)) n (now (out .entry)) (now (out .exit)) ⌝ }
 {
     let mut n = 0;

@@ -24,15 +24,15 @@ load-rows-spec =
     (tie.spec
     Inv-loop
     μ-loop
-    (λ c κs. (well-formed _ _ (c .before .before .pre .0 .1) .size, search needs))  -- body-requires
+    (λ c κs. (well-formed _ _ (c .before .before .pre .0 .is) .size, search needs))  -- body-requires
     (λ c. loading-start _ (c .body .ensures .placed))  -- loop-holds
     (λ c κs. c .before .before .loop .inv .asked .placed)  -- row-requires
     (λ c. search needs)  -- enum-known-tuple
-    (λ c. let r = loading-room (c .before .before .before .before .before .before .before .before .body .ensures) (c .before .before .before .before .before .before .before .loop .inv) (as-tuple (c .before .before .tuple .given .1) (c .before .before .before .before .row .ensures) .got) (c .before .before .before .before .before .before .before .before .before .before .before .pre .0 .0) (c .before .before .before .before .before .before .before .before .before .before .before .pre .0 .1) in omega (arith, r))  -- mul-put-row
-    (λ c κs. let r = loading-room (c .before .before .before .before .before .before .before .before .body .ensures) (c .before .before .before .before .before .before .before .loop .inv) (as-tuple (c .before .before .tuple .given .1) (c .before .before .before .before .row .ensures) .got) (c .before .before .before .before .before .before .before .before .before .before .before .pre .0 .0) (c .before .before .before .before .before .before .before .before .before .before .before .pre .0 .1) in (as-tuple (c .before .before .tuple .given .1) (c .before .before .before .before .row .ensures) .inside, omega (arith, r, c .before .before .before .before .before .before .before .loop .inv .written .long, c .before .before .before .before .before .before .before .before .before .before .before .pre .1)))  -- put-row-requires
-    (λ c. let r = loading-room (c .before .before .before .before .before .before .before .before .before .before .before .body .ensures) (c .before .before .before .before .before .before .before .before .before .before .loop .inv) (as-tuple (c .before .before .before .before .before .tuple .given .1) (c .before .before .before .before .before .before .before .row .ensures) .got) (c .before .before .before .before .before .before .before .before .before .before .before .before .before .before .pre .0 .0) (c .before .before .before .before .before .before .before .before .before .before .before .before .before .before .pre .0 .1) in omega (arith, r))  -- add-n
+    (λ c. let r = loading-room (c .before .before .before .before .before .before .before .before .body .ensures) (c .before .before .before .before .before .before .before .loop .inv) (as-tuple (c .before .before .tuple .given .1) (c .before .before .before .before .row .ensures) .got) (c .before .before .before .before .before .before .before .before .before .before .before .pre .0 .pack) (c .before .before .before .before .before .before .before .before .before .before .before .pre .0 .is) in omega (arith, r))  -- mul-put-row
+    (λ c κs. let r = loading-room (c .before .before .before .before .before .before .before .before .body .ensures) (c .before .before .before .before .before .before .before .loop .inv) (as-tuple (c .before .before .tuple .given .1) (c .before .before .before .before .row .ensures) .got) (c .before .before .before .before .before .before .before .before .before .before .before .pre .0 .pack) (c .before .before .before .before .before .before .before .before .before .before .before .pre .0 .is) in (as-tuple (c .before .before .tuple .given .1) (c .before .before .before .before .row .ensures) .inside, omega (arith, r, c .before .before .before .before .before .before .before .loop .inv .written .long, c .before .before .before .before .before .before .before .before .before .before .before .pre .1)))  -- put-row-requires
+    (λ c. let r = loading-room (c .before .before .before .before .before .before .before .before .before .before .before .body .ensures) (c .before .before .before .before .before .before .before .before .before .before .loop .inv) (as-tuple (c .before .before .before .before .before .tuple .given .1) (c .before .before .before .before .before .before .before .row .ensures) .got) (c .before .before .before .before .before .before .before .before .before .before .before .before .before .before .pre .0 .pack) (c .before .before .before .before .before .before .before .before .before .before .before .before .before .before .pre .0 .is) in omega (arith, r))  -- add-n
     (λ c. less _ (shrinks-of Of.Row) (c .before .before .before .before .before .before .before .before .before .before .loop .inv .asked .placed) (as-tuple (c .before .before .before .before .before .tuple .given .1) (c .before .before .before .before .before .before .before .row .ensures) .got))  -- loop-less
-    (λ c. let r = loading-room (c .before .before .before .before .before .before .before .before .before .before .before .body .ensures) (c .before .before .before .before .before .before .before .before .before .before .loop .inv) (as-tuple (c .before .before .before .before .before .tuple .given .1) (c .before .before .before .before .before .before .before .row .ensures) .got) (c .before .before .before .before .before .before .before .before .before .before .before .before .before .before .pre .0 .0) (c .before .before .before .before .before .before .before .before .before .before .before .before .before .before .pre .0 .1) in loading-on (c .before .before .before .before .before .before .before .before .before .before .before .body .ensures) (c .before .before .before .before .before .before .before .before .before .before .loop .inv) (as-tuple (c .before .before .before .before .before .tuple .given .1) (c .before .before .before .before .before .before .before .row .ensures) .got) (omega (arith, r, c .before .before .before .before .before .before .before .before .before .before .before .before .before .before .pre .1)) (c .before .before .put-row .ensures) (omega (arith, c .before .before .put-row .kept)))  -- loop-again
+    (λ c. let r = loading-room (c .before .before .before .before .before .before .before .before .before .before .before .body .ensures) (c .before .before .before .before .before .before .before .before .before .before .loop .inv) (as-tuple (c .before .before .before .before .before .tuple .given .1) (c .before .before .before .before .before .before .before .row .ensures) .got) (c .before .before .before .before .before .before .before .before .before .before .before .before .before .before .pre .0 .pack) (c .before .before .before .before .before .before .before .before .before .before .before .before .before .before .pre .0 .is) in loading-on (c .before .before .before .before .before .before .before .before .before .before .before .body .ensures) (c .before .before .before .before .before .before .before .before .before .before .loop .inv) (as-tuple (c .before .before .before .before .before .tuple .given .1) (c .before .before .before .before .before .before .before .row .ensures) .got) (omega (arith, r, c .before .before .before .before .before .before .before .before .before .before .before .before .before .before .pre .1)) (c .before .before .put-row .ensures) (omega (arith, c .before .before .put-row .kept)))  -- loop-again
     (λ c. search needs)  -- enum-told
     (λ c. c .before .before .before .before .before .loop .inv .written .long)  -- same-length
     (λ c. λ P e. loading-stuck (c .before .before .before .before .before .before .body .ensures) (c .before .before .before .before .before .loop .inv) (c .before .before .before .if1 .taken) (no-tuple rowOf (c .enum-told .given .1) (c .before .before .row .ensures)) P e)  -- returns
