@@ -25,7 +25,8 @@ use Rattle.pack.proofs.Sizes.{in-body}
 use Rattle.pack.proofs.Unpacking.{unpacked}
 use Rattle.pack.proofs.Walks.{Asked, asked-start, asked-on, asked-done, front}
 use Rattle.access.proofs.Accepted.{well-formed}
-use Rattle.access.specs.Table.{cellOf, targetByte, packed, putFirst, TableOf}
+use Rattle.access.specs.Table.{codeOf, putFirst}
+use Rattle.meaning.specs.Tables.{targetCode, cellOf, cellAt, ShapeTable}
 use Rattle.access.specs.Places.{IsWellFormed}
 
 -- ---- cells
@@ -45,10 +46,10 @@ module _ (table : List (List ℕ)) (o q v : ℕ) (w : Square table) (ho : o < 8)
   row-other : (t : ℕ) → (t ≡ o → ⊥) → getD put t [] ≡ getD table t []
   row-other t n = getD-set-other table o t _ [] n
 
-  cell-same : cellOf put o q ≡ v
+  cell-same : cellAt put o q ≡ v
   cell-same = rw row-same (getD-set-same (getD table o []) q v 0 (omega (arith, w .cells o ho)))
 
-  cell-other : (t p : ℕ) → ((t ≡ o) × (p ≡ q) → ⊥) → cellOf put t p ≡ cellOf table t p
+  cell-other : (t p : ℕ) → ((t ≡ o) × (p ≡ q) → ⊥) → cellAt put t p ≡ cellAt table t p
   cell-other t p n =
       case-on (eqb t o)
       (λ e.
@@ -66,7 +67,7 @@ module _ (table : List (List ℕ)) (o q v : ℕ) (w : Square table) (ho : o < 8)
   }
 
   pub put-first-square : Square (putFirst o q v table)
-  put-first-square = case-on (eqb (cellOf table o q) 0) (λ e. rw e put-square) (λ e. rw e w)
+  put-first-square = case-on (eqb (cellAt table o q) 0) (λ e. rw e put-square) (λ e. rw e w)
 
 -- x, or y where x is 0
 abbrev pub orElse : ℕ → ℕ → ℕ
@@ -92,9 +93,13 @@ shape-there r rs t p n = go (Dec·and (ℕ-discrete t (r .owner)) (ℕ-discrete 
 
 -- ---- the packed bytes
 
-target-back : (x : ℕ) → targetByte (targetOf x) ≡ x
+pub literal-code : (x m : ℕ) → x ≡ 255 → 120 + m ≡ codeOf x m
 unfolding targetOf
-target-back x = case-on (eqb x 255) (λ e. rw e (sym (eqb-true x 255 e))) (λ e. rw e)
+literal-code x m e = rw (eq-eqb x 255 e)
+
+pub type-code : (x m : ℕ) → (x ≡ 255 → ⊥) → x * 8 + m ≡ codeOf x m
+unfolding targetOf
+type-code x m n = rw (ne-eqb x 255 n)
 
 multiplicity-back : (m : ℕ) → 1 ≤ m → m ≤ 4 → multiplicityNumber (multiplicityOf m) ≡ m
 unfolding multiplicityOf
@@ -104,13 +109,13 @@ multiplicity-back m a b =
     (λ f. case-on (eqb m 3) (λ g. rw (e, f, g) (sym (eqb-true m 3 g)))
     (λ g. rw (e, f, g) (let x = eqb-false m 1 e in let y = eqb-false m 2 f in let z = eqb-false m 3 g in omega arith))))
 
-pub packed-back : (t p x m : ℕ) → 1 ≤ m → m ≤ 4 → packed (some (shapeFrom t p x m .shape)) ≡ x * 8 + m
-packed-back t p x m a b = rw (target-back x, multiplicity-back m a b)
+pub cell-back : (t p x m : ℕ) → 1 ≤ m → m ≤ 4 → cellOf (some (shapeFrom t p x m .shape)) ≡ codeOf x m
+cell-back t p x m a b = rw (multiplicity-back m a b)
 
 -- ---- one shape more
 
 step : (table : List (List ℕ)) (t p x m : ℕ) (ys : List ShapeRecord) → Square table → t < 8 → p < 12 → 1 ≤ m → m ≤ 4 → (i j : ℕ)
-    → orElse (cellOf table i j) (packed (shapeIn (shapeFrom t p x m ∷ ys) i j)) ≡ orElse (cellOf (putFirst t p (x * 8 + m) table) i j) (packed (shapeIn ys i j))
+    → orElse (cellAt table i j) (cellOf (shapeIn (shapeFrom t p x m ∷ ys) i j)) ≡ orElse (cellAt (putFirst t p (codeOf x m) table) i j) (cellOf (shapeIn ys i j))
 step table t p x m ys w ht hp a b i j =
     case-on (eqb i t && eqb j p) (λ e. here (both (eqb i t) (eqb j p) e)) (λ e. there (λ (k : (i ≡ t) × (j ≡ p)). differ k e))
   where
@@ -123,23 +128,23 @@ step table t p x m ys w ht hp a b i j =
         let h = rw (eq-eqb i t (k .0), eq-eqb j p (k .1)) at e in
         let z : _≡_ {A = ℕ} 0 1 = cc in omega arith
 
-    some-code : eqb (x * 8 + m) 0 ≡ false
-    some-code = ne-eqb (x * 8 + m) 0 (λ (e : x * 8 + m ≡ 0). omega (arith, a))
+    some-code : eqb (codeOf x m) 0 ≡ false
+    some-code = ne-eqb (codeOf x m) 0 (λ (e : codeOf x m ≡ 0). omega (arith, e, a))
 
-    here : (eqb i t ≡ true) × (eqb j p ≡ true) → orElse (cellOf table i j) (packed (shapeIn (shapeFrom t p x m ∷ ys) i j)) ≡ orElse (cellOf (putFirst t p (x * 8 + m) table) i j) (packed (shapeIn ys i j))
+    here : (eqb i t ≡ true) × (eqb j p ≡ true) → orElse (cellAt table i j) (cellOf (shapeIn (shapeFrom t p x m ∷ ys) i j)) ≡ orElse (cellAt (putFirst t p (codeOf x m) table) i j) (cellOf (shapeIn ys i j))
     here e =
         let k : i ≡ t = eqb-true i t (e .0) in
         let l : j ≡ p = eqb-true j p (e .1) in
-        rw (k, l, shape-here (shapeFrom t p x m) ys, packed-back t p x m a b)
-        (case-on (eqb (cellOf table t p) 0)
-        (λ f. rw (f, cell-same table t p (x * 8 + m) w ht hp, some-code))
+        rw (k, l, shape-here (shapeFrom t p x m) ys, cell-back t p x m a b)
+        (case-on (eqb (cellAt table t p) 0)
+        (λ f. rw (f, cell-same table t p (codeOf x m) w ht hp, some-code))
         (λ f. rw (f, f)))
 
-    there : ((i ≡ t) × (j ≡ p) → ⊥) → orElse (cellOf table i j) (packed (shapeIn (shapeFrom t p x m ∷ ys) i j)) ≡ orElse (cellOf (putFirst t p (x * 8 + m) table) i j) (packed (shapeIn ys i j))
+    there : ((i ≡ t) × (j ≡ p) → ⊥) → orElse (cellAt table i j) (cellOf (shapeIn (shapeFrom t p x m ∷ ys) i j)) ≡ orElse (cellAt (putFirst t p (codeOf x m) table) i j) (cellOf (shapeIn ys i j))
     there n =
         rw (shape-there (shapeFrom t p x m) ys i j n)
-        (case-on (eqb (cellOf table t p) 0)
-        (λ f. rw (f, cell-other table t p (x * 8 + m) w ht hp i j n))
+        (case-on (eqb (cellAt table t p) 0)
+        (λ f. rw (f, cell-other table t p (codeOf x m) w ht hp i j n))
         (λ f. rw f))
 
 -- ---- the table after the shapes before c
@@ -148,7 +153,7 @@ pub record Filled (s : List ℕ) (c₀ : Cursor) (table : List (List ℕ)) (c : 
   pub placed : Placed s c
   pub square : Square table
   pub named : (w : IsWellFormed s) → Asked shape s c₀ (every (goodShape (w .pack))) c (every (goodShape (w .pack)))
-  pub is : (i j : ℕ) → i < 8 → j < 12 → Asked shape s c₀ (λ xs. packed (shapeIn xs i j)) c (λ ys. orElse (cellOf table i j) (packed (shapeIn ys i j)))
+  pub is : (i j : ℕ) → i < 8 → j < 12 → Asked shape s c₀ (λ xs. cellOf (shapeIn xs i j)) c (λ ys. orElse (cellAt table i j) (cellOf (shapeIn ys i j)))
 
 abbrev emptyRow : List ℕ
 emptyRow = replicate 12 0
@@ -159,7 +164,7 @@ emptyTable = replicate 8 emptyRow
 empty-square : Square emptyTable
 empty-square = record { rows = refl; cells = λ t h. ap length (getD-replicate 8 t emptyRow [] h) }
 
-empty-cell : (i j : ℕ) → i < 8 → j < 12 → cellOf emptyTable i j ≡ 0
+empty-cell : (i j : ℕ) → i < 8 → j < 12 → cellAt emptyTable i j ≡ 0
 empty-cell i j hi hj = ap (λ (r : List ℕ). getD r j 0) (getD-replicate 8 i emptyRow [] hi) ∙ getD-replicate 12 j 0 0 hj
 
 pub filled-start : {s : List ℕ} {c : Cursor} → Placed s c → Filled s c emptyTable c
@@ -167,7 +172,7 @@ filled-start p = record {
   placed = p;
   square = empty-square;
   named = λ w. asked-start _ p;
-  is = λ i j hi hj. record { placed = p; is = λ xs e. (xs, e, ap (λ (n : ℕ). orElse n (packed (shapeIn xs i j))) (empty-cell i j hi hj)) };
+  is = λ i j hi hj. record { placed = p; is = λ xs e. (xs, e, ap (λ (n : ℕ). orElse n (cellOf (shapeIn xs i j))) (empty-cell i j hi hj)) };
 }
 
 -- refusal 7 is false of the shapes
@@ -210,12 +215,12 @@ module _ {s : List ℕ} {c₀ c d : Cursor} {table : List (List ℕ)} {t p x m :
       (omega (arith, ltb-true t nt (l .0), u .types .1), omega (arith, ltb-true p np (l .1), u .predicates .1))
 
 pub filled-on : {s : List ℕ} {c₀ c d : Cursor} {table : List (List ℕ)} {t p x m : ℕ} → BodyAt s 5 c₀ → (w : IsWellFormed s) → Filled s c₀ table c → ShapeGot s c t p x m d
-    → Filled s c₀ (putFirst t p (x * 8 + m) table) d
+    → Filled s c₀ (putFirst t p (codeOf x m) table) d
 filled-on {s} {c₀} {c} {d} {table} {t} {p} {x} {m} b w f g =
     let h = shape-bounds b w f g in
     record {
       placed = g .got .placed;
-      square = put-first-square table t p (x * 8 + m) (f .square) (h .0) (h .1);
+      square = put-first-square table t p (codeOf x m) (f .square) (h .0) (h .1);
       named = λ v. asked-on (shrinks-of Of.Shape) (f .named v) _ (g .got) (λ ys e. rw (good-here b v f g));
       is = λ i j hi hj. asked-on (shrinks-of Of.Shape) (f .is i j hi hj) _ (g .got)
           (λ ys e. step table t p x m ys (f .square) (h .0) (h .1) (g .some .0) (g .some .1) i j);
@@ -224,8 +229,8 @@ filled-on {s} {c₀} {c} {d} {table} {t} {p} {x} {m} b w f g =
 or-else-zero : (x : ℕ) → orElse x 0 ≡ x
 or-else-zero x = case-on (eqb x 0) (λ e. rw e (sym (eqb-true x 0 e))) (λ e. rw e)
 
-pub filled-done : {s : List ℕ} {c₀ c : Cursor} {table : List (List ℕ)} → BodyAt s 5 c₀ → Filled s c₀ table c → c .end ≤ c .at → (P : Pack) → unpack s ≡ some P → TableOf P table
+pub filled-done : {s : List ℕ} {c₀ c : Cursor} {table : List (List ℕ)} → BodyAt s 5 c₀ → Filled s c₀ table c → c .end ≤ c .at → (P : Pack) → unpack s ≡ some P → ShapeTable (P .setting) table
 unfolding shapeOf shapeIn
 filled-done {s} {table} b f h P e = record {
-  is = λ i j hi hj. asked-done (shrinks-of Of.Shape) (f .is i j hi hj) (cellOf table i j) h (or-else-zero (cellOf table i j)) _ (in-body shape b (unpacked s P e .shapes .0));
+  cells = λ i j hi hj. asked-done (shrinks-of Of.Shape) (f .is i j hi hj) (cellAt table i j) h (or-else-zero (cellAt table i j)) _ (in-body shape b (unpacked s P e .shapes .0));
 }

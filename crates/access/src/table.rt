@@ -2,10 +2,22 @@
 ghost use mathlib.Core.Path.{_≡_};
 ghost use Prim.Native.Nat.{_<_};
 ghost use Rattle.pack.specs.Unpack.{Decoded};
-ghost use Rattle.access.specs.Table.{TableOf, putFirst, cellOf};
+ghost use Rattle.access.specs.Table.{putFirst, codeOf};
+ghost use Rattle.meaning.specs.Tables.{ShapeTable, cellAt};
 ghost use Rattle.access.specs.Places.{IsWellFormed};
+use meaning::LITERAL_TARGET;
 use pack::contents::body;
 use pack::cursor::ShapeRead;
+
+// A cell: 8 times the target, 15 for Literal, and the multiplicity.
+fn cell_code(target: u8, multiplicity: u8) -> u16
+    ensures { λ r. ⌜ r ≡ codeOf target multiplicity ⌝ }
+{
+    if target == LITERAL_TARGET {
+        return 120 + multiplicity as u16;
+    }
+    (target as u16) * 8 + multiplicity as u16
+}
 
 // The table with v at type t and predicate p, where that cell is empty.
 fn put_first(table: [[u16; 12]; 8], t: usize, p: usize, v: u16) -> [[u16; 12]; 8]
@@ -20,10 +32,10 @@ fn put_first(table: [[u16; 12]; 8], t: usize, p: usize, v: u16) -> [[u16; 12]; 8
     next
 }
 
-// What the table has at type t and predicate p: 8 times the target, 255 for Literal, and the multiplicity; 0 for no shape.
+// What the table has at type t and predicate p.
 pub fn cell(table: [[u16; 12]; 8], t: usize, p: usize) -> u16
     requires { ⌜ (t < 8) × (p < 12) ⌝ }
-    ensures { λ r. ⌜ r ≡ cellOf table t p ⌝ }
+    ensures { λ r. ⌜ r ≡ cellAt table t p ⌝ }
 {
     table[t][p]
 }
@@ -31,7 +43,7 @@ pub fn cell(table: [[u16; 12]; 8], t: usize, p: usize) -> u16
 // The table of a well-formed pack.
 pub fn shape_table(s: &[u8]) -> [[u16; 12]; 8]
     requires { ⌜ IsWellFormed (now s) ⌝ }
-    ensures { λ r. ⌜ Decoded (now (s .entry)) (λ P. TableOf P r) ⌝ }
+    ensures { λ r. ⌜ Decoded (now (s .entry)) (λ P. ShapeTable (P .setting) r) ⌝ }
 {
     let mut table = [[0u16; 12]; 8];
     let mut c = body(s, 5);
@@ -44,7 +56,7 @@ pub fn shape_table(s: &[u8]) -> [[u16; 12]; 8]
                 multiplicity,
                 next,
             } => {
-                let v = (target as u16) * 8 + multiplicity as u16;
+                let v = cell_code(target, multiplicity);
                 let filled = put_first(table, owner as usize, predicate as usize, v);
                 table = filled;
                 c = next;

@@ -2,11 +2,15 @@
 use lib.ListN.{length}
 use mathlib.Core.List.{List, [], _∷_, _++_, flatMap}
 use Prim.Native.Nat.{ℕ, _/_, _%_}
-use Rattle.access.specs.Table.{targetByte}
-use Rattle.meaning.specs.Pack.{Pack, multiplicityNumber, ShapeRecord, Dependency, Constructor, Atom, Term, Row, Head, hasType, linksTo, linksToValue, Rule}
+use Rattle.meaning.specs.Limits.{literalTarget}
+use Rattle.meaning.specs.Pack.{Pack, Target, Literal, type, multiplicityNumber, ShapeRecord, Dependency, Constructor, Atom, Term, Row, Head, hasType, linksTo, linksToValue, Rule}
 
 abbrev pub sizedBytes : List ℕ → List ℕ
 sizedBytes s = length s ∷ s
+
+abbrev pub targetByte : Target → ℕ
+targetByte Literal = literalTarget
+targetByte (type t) = t
 
 abbrev pub shapeBytes : ShapeRecord → List ℕ
 shapeBytes r = r .owner ∷ r .predicate ∷ targetByte (r .shape .target) ∷ multiplicityNumber (r .shape .multiplicity) ∷ []

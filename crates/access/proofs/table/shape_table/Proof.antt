@@ -28,15 +28,12 @@ shape-table-spec =
     (λ c. filled-start (c .body .ensures .placed))  -- loop-holds
     (λ c κs. c .before .before .loop .inv .placed)  -- shape-requires
     (λ c. search needs)  -- enum-known-owner
-    (λ c. search needs)  -- cast-v
-    (λ c. search needs)  -- mul-v
-    (λ c. search needs)  -- cast-v-2
-    (λ c. search needs)  -- add-v
+    (λ c κs. search needs)  -- cell-code-requires
     (λ c. search needs)  -- cast-put-first
     (λ c. search needs)  -- cast-put-first-2
-    (λ c κs. shape-bounds (c .before .before .before .before .before .before .before .body .ensures) (c .before .before .before .before .before .before .before .before .before .pre) (c .before .before .before .before .before .before .loop .inv) (as-shape (c .before .owner .given .1) (c .before .before .before .shape .ensures)))  -- put-first-requires
-    (λ c. less _ (shrinks-of Of.Shape) (c .before .before .before .before .before .before .before .loop .inv .placed) (as-shape (c .before .before .owner .given .1) (c .before .before .before .before .shape .ensures) .got))  -- loop-less
-    (λ c. rw (c .put-first .ensures) (filled-on (c .before .before .before .before .before .before .before .before .body .ensures) (c .before .before .before .before .before .before .before .before .before .before .pre) (c .before .before .before .before .before .before .before .loop .inv) (as-shape (c .before .before .owner .given .1) (c .before .before .before .before .shape .ensures))))  -- loop-again
+    (λ c κs. shape-bounds (c .before .before .before .before .before .before .before .before .body .ensures) (c .before .before .before .before .before .before .before .before .before .before .pre) (c .before .before .before .before .before .before .before .loop .inv) (as-shape (c .before .before .owner .given .1) (c .before .before .before .before .shape .ensures)))  -- put-first-requires
+    (λ c. less _ (shrinks-of Of.Shape) (c .before .before .before .before .before .before .before .before .loop .inv .placed) (as-shape (c .before .before .before .owner .given .1) (c .before .before .before .before .before .shape .ensures) .got))  -- loop-less
+    (λ c. rw (c .put-first .ensures, c .before .cell-code .ensures) (filled-on (c .before .before .before .before .before .before .before .before .before .body .ensures) (c .before .before .before .before .before .before .before .before .before .before .before .pre) (c .before .before .before .before .before .before .before .before .loop .inv) (as-shape (c .before .before .before .owner .given .1) (c .before .before .before .before .before .shape .ensures))))  -- loop-again
     (λ c. search needs)  -- enum-told
     (λ c. λ P e. asked-never (shrinks-of Of.Shape) (c .before .before .before .before .before .loop .inv .named (c .before .before .before .before .before .before .before .before .pre)) (c .before .before .before .if1 .taken) (no-shape (c .enum-told .given .1) (c .before .before .shape .ensures)) _ (in-body _ (c .before .before .before .before .before .before .body .ensures) (unpacked _ P e .shapes .0)))  -- returns
     (λ c. λ P e. filled-done (c .before .before .before .body .ensures) (c .before .before .loop .inv) (c .if1 .left) P e))  -- returns-2
