@@ -1,0 +1,13 @@
+-- `core::keys::bytes` meets its contract. Assumes nothing.
+use borrow.Author.Needs.{needs}
+use Rattle.core.proofs.Powers.{bytes-made}
+use Rattle.core.proofs.keys.bytes.Statement.{statement}
+use Rattle.core.proofs.keys.bytes.Tie as tie
+
+pub bytes-spec : {M : Type 1} → statement M
+bytes-spec =
+    tie.close
+    (tie.spec
+    (λ c. search needs)  -- mul-result
+    (λ c. search needs)  -- shl-result
+    (λ c. bytes-made _ (c .pre)))  -- returns

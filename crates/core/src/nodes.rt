@@ -1,0 +1,100 @@
+// The nodes of all heads, as an ordered set of keys.
+use crate::KEYS_PER_RULE;
+use crate::counted::Counted;
+use crate::heads::FIRST_LITERAL;
+use crate::heads::KIND;
+ghost use mathlib.Core.Path.{_≡_};
+ghost use Prim.Native.Nat.{_≤_, _<_};
+ghost use lib.ListN.{length, take};
+ghost use Rattle.meaning.specs.Member.{_∈_};
+ghost use Rattle.meaning.specs.Ordered.{InOrder};
+ghost use Rattle.core.specs.Bounds.{HeadFits, KeyFits, KeysFit, HeadsFit, maxNodes};
+ghost use Rattle.core.specs.Outcomes.{NodesAnswer};
+ghost use Rattle.core.specs.Collected.{Adding, FromKeys, FromRules, nodeKeys};
+
+// Adds the nodes of one match: the subject, and the object unless the head gives a type.
+fn add_match(head: [u64; 6], k: u64, nodes: &mut [u64], n: usize) -> Counted
+    requires { ⌜ HeadFits head × KeyFits head k × (n ≤ length (now nodes)) × InOrder _<_ (take n (now nodes)) ⌝ }
+    ensures { λ r. ⌜ Adding r (λ y. y ∈ nodeKeys head k) n (now (nodes .entry)) (now (nodes .exit)) ⌝ }
+{
+    let subject = crate::keys::subject_key(head, k);
+    let added = crate::counted::add(nodes, n, subject);
+    match added {
+        Counted::TooLarge => Counted::TooLarge,
+        Counted::Count(m) => {
+            if head[KIND] == 0 {
+                return Counted::Count(m);
+            }
+            let object = crate::keys::object_key(head, k);
+            crate::counted::add(nodes, m, object)
+        }
+    }
+}
+
+// Adds those of all matches of one rule.
+fn add_rule(head: [u64; 6], keys: &[u64], nodes: &mut [u64], n: usize) -> Counted
+    requires { ⌜ HeadFits head × KeysFit head (now keys) × (n ≤ length (now nodes)) × InOrder _<_ (take n (now nodes)) ⌝ }
+    ensures { λ r. ⌜ Adding r (FromKeys (λ k y. y ∈ nodeKeys head k) (now (keys .entry))) n (now (nodes .entry)) (now (nodes .exit)) ⌝ }
+{
+    let mut m = n;
+    for i in 0..keys.len() {
+        let added = add_match(head, keys[i], nodes, m);
+        match added {
+            Counted::TooLarge => return Counted::TooLarge,
+            Counted::Count(more) => {
+                m = more;
+            }
+        }
+    }
+    Counted::Count(m)
+}
+
+// Adds those of all rules to the empty set.
+fn add_rules(
+    rules: [[u64; 6]; 32],
+    count: usize,
+    heads: &[u64],
+    counts: [usize; 32],
+    nodes: &mut [u64],
+) -> Counted
+    requires { ⌜ HeadsFit rules count (now heads) counts ⌝ }
+    ensures { λ r. ⌜ Adding r (FromRules (λ head k y. y ∈ nodeKeys head k) rules count (now (heads .entry)) counts) 0 (now (nodes .entry)) (now (nodes .exit)) ⌝ }
+{
+    let mut m = 0;
+    for r in 0..count {
+        let start = r * KEYS_PER_RULE;
+        let end = start + counts[r];
+        let added = add_rule(rules[r], &heads[start..end], nodes, m);
+        match added {
+            Counted::TooLarge => return Counted::TooLarge,
+            Counted::Count(more) => {
+                m = more;
+            }
+        }
+    }
+    Counted::Count(m)
+}
+
+// The nodes of all heads, or that they have over 512 IRIs: a full slice has, since there are at most 256 literals.
+pub fn nodes(
+    rules: [[u64; 6]; 32],
+    count: usize,
+    heads: &[u64],
+    counts: [usize; 32],
+    nodes: &mut [u64],
+) -> Counted
+    requires { ⌜ HeadsFit rules count (now heads) counts × (length (now nodes) ≡ maxNodes) ⌝ }
+    ensures { λ r. ⌜ NodesAnswer r rules count (now (heads .entry)) counts (now (nodes .entry)) (now (nodes .exit)) ⌝ }
+{
+    let added = add_rules(rules, count, heads, counts, nodes);
+    match added {
+        Counted::TooLarge => Counted::TooLarge,
+        Counted::Count(m) => {
+            let iris = sets::ordered::rank(&nodes[..m], FIRST_LITERAL);
+            if iris > meaning::MAX_IRIS {
+                return Counted::TooLarge;
+            }
+            Counted::Count(m)
+        }
+    }
+}

@@ -1,0 +1,100 @@
+// The triples of all heads, as an ordered set of keys by the places of their nodes.
+use crate::KEYS_PER_RULE;
+use crate::counted::Counted;
+use crate::heads::KIND;
+use crate::heads::NAMED;
+ghost use mathlib.Core.Path.{_≡_};
+ghost use Prim.Native.Nat.{_≤_, _<_};
+ghost use lib.ListN.{length, take};
+ghost use Rattle.meaning.specs.Limits.{maxCoreTriples};
+ghost use Rattle.meaning.specs.Member.{_∈_};
+ghost use Rattle.meaning.specs.Ordered.{InOrder};
+ghost use Rattle.core.specs.Bounds.{HeadFits, KeyFits, KeysFit, HeadsFit, maxNodes};
+ghost use Rattle.core.specs.Outcomes.{TriplesAnswer};
+ghost use Rattle.core.specs.Collected.{Adding, FromKeys, FromRules, tripleKeys};
+
+// Room in a triple's key for the places of objects, and for predicates.
+pub const PLACE_ROOM: u64 = 1024;
+
+pub const PREDICATE_ROOM: u64 = 16;
+
+pub const SUBJECT_WEIGHT: u64 = 16384; // the product of both
+
+// Adds the triple of one match, unless the head gives a type.
+fn add_match(head: [u64; 6], k: u64, nodes: &[u64], triples: &mut [u64], n: usize) -> Counted
+    requires { ⌜ HeadFits head × KeyFits head k × InOrder _<_ (now nodes) × (length (now nodes) ≤ maxNodes) × (n ≤ length (now triples)) × InOrder _<_ (take n (now triples)) ⌝ }
+    ensures { λ r. ⌜ Adding r (λ y. y ∈ tripleKeys (now (nodes .entry)) head k) n (now (triples .entry)) (now (triples .exit)) ⌝ }
+{
+    if head[KIND] == 0 {
+        return Counted::Count(n);
+    }
+    let subject = crate::keys::subject_key(head, k);
+    let object = crate::keys::object_key(head, k);
+    let s = sets::ordered::rank(nodes, subject) as u64;
+    let o = sets::ordered::rank(nodes, object) as u64;
+    crate::counted::add(
+        triples,
+        n,
+        (s * PREDICATE_ROOM + head[NAMED]) * PLACE_ROOM + o,
+    )
+}
+
+// Adds those of all matches of one rule.
+fn add_rule(head: [u64; 6], keys: &[u64], nodes: &[u64], triples: &mut [u64], n: usize) -> Counted
+    requires { ⌜ HeadFits head × KeysFit head (now keys) × InOrder _<_ (now nodes) × (length (now nodes) ≤ maxNodes) × (n ≤ length (now triples)) × InOrder _<_ (take n (now triples)) ⌝ }
+    ensures { λ r. ⌜ Adding r (FromKeys (λ k y. y ∈ tripleKeys (now (nodes .entry)) head k) (now (keys .entry))) n (now (triples .entry)) (now (triples .exit)) ⌝ }
+{
+    let mut m = n;
+    for i in 0..keys.len() {
+        let added = add_match(head, keys[i], nodes, triples, m);
+        match added {
+            Counted::TooLarge => return Counted::TooLarge,
+            Counted::Count(more) => {
+                m = more;
+            }
+        }
+    }
+    Counted::Count(m)
+}
+
+// Adds those of all rules to the empty set.
+fn add_rules(
+    rules: [[u64; 6]; 32],
+    count: usize,
+    heads: &[u64],
+    counts: [usize; 32],
+    nodes: &[u64],
+    triples: &mut [u64],
+) -> Counted
+    requires { ⌜ HeadsFit rules count (now heads) counts × InOrder _<_ (now nodes) × (length (now nodes) ≤ maxNodes) ⌝ }
+    ensures { λ r. ⌜ Adding r (FromRules (λ head k y. y ∈ tripleKeys (now (nodes .entry)) head k) rules count (now (heads .entry)) counts) 0 (now (triples .entry)) (now (triples .exit)) ⌝ }
+{
+    let mut m = 0;
+    for r in 0..count {
+        let start = r * KEYS_PER_RULE;
+        let end = start + counts[r];
+        let added = add_rule(rules[r], &heads[start..end], nodes, triples, m);
+        match added {
+            Counted::TooLarge => return Counted::TooLarge,
+            Counted::Count(more) => {
+                m = more;
+            }
+        }
+    }
+    Counted::Count(m)
+}
+
+// The triples of all heads, or that they are over 1,024.
+pub fn triples(
+    rules: [[u64; 6]; 32],
+    count: usize,
+    heads: &[u64],
+    counts: [usize; 32],
+    nodes: &[u64],
+    triples: &mut [u64],
+) -> Counted
+    requires { ⌜ HeadsFit rules count (now heads) counts × InOrder _<_ (now nodes) × (length (now nodes) ≤ maxNodes) × (length (now triples) ≡ maxCoreTriples) ⌝ }
+    ensures { λ r. ⌜ TriplesAnswer r (now (nodes .entry)) rules count (now (heads .entry)) counts (now (triples .entry)) (now (triples .exit)) ⌝ }
+{
+    add_rules(rules, count, heads, counts, nodes, triples)
+}

@@ -1,0 +1,122 @@
+// The types of the nodes, as masks by place: those of the heads, then those that spread along the triples.
+use crate::KEYS_PER_RULE;
+use crate::heads::KIND;
+use crate::heads::NAMED;
+use crate::triples::PLACE_ROOM;
+use crate::triples::PREDICATE_ROOM;
+use crate::triples::SUBJECT_WEIGHT;
+ghost use mathlib.Core.Path.{_≡_};
+ghost use Prim.Native.Nat.{_≤_, _<_};
+ghost use lib.ListN.{length};
+ghost use Rattle.meaning.specs.Ordered.{InOrder};
+ghost use Rattle.sets.specs.Buffers.{zeros};
+ghost use Rattle.shapes.specs.Shapes.{CodesFit};
+ghost use Rattle.core.specs.Bounds.{HeadFits, KeyFits, KeysFit, HeadsFit, maxNodes};
+ghost use Rattle.core.specs.Collected.{FromKeys, FromRules, KnownMatch, KnownKeys, KnownRules, Marked, TypeFact};
+ghost use Rattle.core.specs.Outcomes.{TypesAnswer};
+ghost use Rattle.core.specs.Spread.{AllPlaced, PassedOnce, Placed, Progress, Round, SpreadFrom};
+
+// Marks the type of one match, if the head gives one.
+fn mark_match(head: [u64; 6], k: u64, nodes: &[u64], masks: &mut [u16])
+    requires { ⌜ HeadFits head × KeyFits head k × InOrder _<_ (now nodes) × KnownMatch (now nodes) head k × (length (now nodes) ≤ length (now masks)) ⌝ }
+    ensures { λ _. ⌜ Marked (TypeFact (now (nodes .entry)) head k) (now (masks .entry)) (now (masks .exit)) ⌝ }
+{
+    if head[KIND] != 0 {
+        return;
+    }
+    let subject = crate::keys::subject_key(head, k);
+    let at = sets::ordered::rank(nodes, subject);
+    masks[at] |= 1u16 << head[NAMED];
+}
+
+// Marks those of all matches of one rule.
+fn mark_rule(head: [u64; 6], keys: &[u64], nodes: &[u64], masks: &mut [u16])
+    requires { ⌜ HeadFits head × KeysFit head (now keys) × InOrder _<_ (now nodes) × KnownKeys (now nodes) head (now keys) × (length (now nodes) ≤ length (now masks)) ⌝ }
+    ensures { λ _. ⌜ Marked (FromKeys (TypeFact (now (nodes .entry)) head) (now (keys .entry))) (now (masks .entry)) (now (masks .exit)) ⌝ }
+{
+    for i in 0..keys.len() {
+        mark_match(head, keys[i], nodes, masks);
+    }
+}
+
+// Marks those of all rules.
+fn mark_rules(
+    rules: [[u64; 6]; 32],
+    count: usize,
+    heads: &[u64],
+    counts: [usize; 32],
+    nodes: &[u64],
+    masks: &mut [u16],
+)
+    requires { ⌜ HeadsFit rules count (now heads) counts × InOrder _<_ (now nodes) × KnownRules (now nodes) rules count (now heads) counts × (length (now nodes) ≤ length (now masks)) ⌝ }
+    ensures { λ _. ⌜ Marked (FromRules (TypeFact (now (nodes .entry))) rules count (now (heads .entry)) counts) (now (masks .entry)) (now (masks .exit)) ⌝ }
+{
+    for r in 0..count {
+        let start = r * KEYS_PER_RULE;
+        let end = start + counts[r];
+        mark_rule(rules[r], &heads[start..end], nodes, masks);
+    }
+}
+
+// Passes the subject's types along one triple; says whether that changed the object's.
+fn pass(shapes: [[u16; 12]; 8], key: u64, masks: &mut [u16]) -> bool
+    requires { ⌜ CodesFit shapes × Placed key × (maxNodes ≤ length (now masks)) ⌝ }
+    ensures { λ r. ⌜ PassedOnce shapes key (now (masks .entry)) (now (masks .exit)) × Progress r (now (masks .entry)) (now (masks .exit)) ⌝ }
+{
+    let s = (key / SUBJECT_WEIGHT) as usize;
+    let p = (key / PLACE_ROOM % PREDICATE_ROOM) as usize;
+    let o = (key % PLACE_ROOM) as usize;
+    let old = masks[o];
+    let new = old | shapes::targets(shapes, masks[s], p);
+    if new == old {
+        return false;
+    }
+    masks[o] = new;
+    true
+}
+
+// Passes along every triple once; says whether anything changed.
+fn round(shapes: [[u16; 12]; 8], triples: &[u64], masks: &mut [u16]) -> bool
+    requires { ⌜ CodesFit shapes × AllPlaced (now triples) × (maxNodes ≤ length (now masks)) ⌝ }
+    ensures { λ r. ⌜ Round shapes (now (triples .entry)) r (now (masks .entry)) (now (masks .exit)) ⌝ }
+{
+    let mut changed = false;
+    for i in 0..triples.len() {
+        let more = pass(shapes, triples[i], masks);
+        if more {
+            changed = true;
+        }
+    }
+    changed
+}
+
+// Passes along the triples until a round adds nothing.
+fn spread(shapes: [[u16; 12]; 8], triples: &[u64], masks: &mut [u16])
+    requires { ⌜ CodesFit shapes × AllPlaced (now triples) × (maxNodes ≤ length (now masks)) ⌝ }
+    ensures { λ _. ⌜ SpreadFrom shapes (now (triples .entry)) (now (masks .entry)) (now (masks .exit)) ⌝ }
+{
+    loop {
+        let changed = round(shapes, triples, masks);
+        if !changed {
+            return;
+        }
+    }
+}
+
+// The types of the nodes, in masks that are zero at the start.
+pub fn typing(
+    shapes: [[u16; 12]; 8],
+    rules: [[u64; 6]; 32],
+    count: usize,
+    heads: &[u64],
+    counts: [usize; 32],
+    nodes: &[u64],
+    triples: &[u64],
+    masks: &mut [u16],
+)
+    requires { ⌜ CodesFit shapes × HeadsFit rules count (now heads) counts × InOrder _<_ (now nodes) × (length (now nodes) ≤ maxNodes) × KnownRules (now nodes) rules count (now heads) counts × AllPlaced (now triples) × (maxNodes ≤ length (now masks)) × (now masks ≡ zeros (length (now masks))) ⌝ }
+    ensures { λ _. ⌜ TypesAnswer shapes rules count (now (heads .entry)) counts (now (nodes .entry)) (now (triples .entry)) (now (masks .exit)) ⌝ }
+{
+    mark_rules(rules, count, heads, counts, nodes, masks);
+    spread(shapes, triples, masks);
+}
