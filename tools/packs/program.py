@@ -1,0 +1,30 @@
+"""Runs a program: what goes wrong is told in lines, never by a traceback."""
+
+import os
+import sys
+
+if sys.version_info < (3, 11):
+    sys.exit("Python 3.11 or later is needed")
+
+from problems import Wrong, print_some
+
+
+def run(main):
+    sys.stdout = sys.stdout or open(os.devnull, "w")
+    sys.stderr = sys.stderr or open(os.devnull, "w")
+    for stream in (sys.stdout, sys.stderr):
+        stream.reconfigure(encoding="utf-8", errors="backslashreplace")
+    try:
+        status = main()
+        sys.stdout.flush()
+    except Wrong as wrong:
+        print_some(wrong.problems, sys.stderr)
+        status = 1
+    except OSError as error:    # standard output is closed or full
+        if not isinstance(error, BrokenPipeError):
+            print(f"standard output can't be written: {error.strerror}", file=sys.stderr)
+        os.dup2(os.open(os.devnull, os.O_WRONLY), sys.stdout.fileno())
+        status = 1
+    except KeyboardInterrupt:
+        status = 130
+    sys.exit(status)
