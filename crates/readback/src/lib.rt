@@ -63,7 +63,7 @@ fn place(start: usize, len: usize) -> u16
 }
 
 // Fills in where the text of each value stands; how many values there are.
-fn value_places(s: &[u8], starts: &mut [u16], lens: &mut [u16]) -> usize
+pub fn value_places(s: &[u8], starts: &mut [u16], lens: &mut [u16]) -> usize
     requires { ⌜ IsWellFormed (now s) × (length (now starts) ≡ maxValues) × (length (now lens) ≡ maxValues) ⌝ }
     ensures { λ n. ⌜ OfPack (now (s .entry)) (λ P. TextsHeld (now (s .entry)) (now (starts .exit)) (now (lens .exit)) n (P .setting .values)) ⌝ }
 {
@@ -84,7 +84,12 @@ fn value_places(s: &[u8], starts: &mut [u16], lens: &mut [u16]) -> usize
 }
 
 // Fills in the arity of each constructor and where its prefix stands; how many constructors there are.
-fn constructor_places(s: &[u8], arities: &mut [u16], starts: &mut [u16], lens: &mut [u16]) -> usize
+pub fn constructor_places(
+    s: &[u8],
+    arities: &mut [u16],
+    starts: &mut [u16],
+    lens: &mut [u16],
+) -> usize
     requires { ⌜ IsWellFormed (now s) × (length (now arities) ≡ maxConstructors) × (length (now starts) ≡ maxConstructors) × (length (now lens) ≡ maxConstructors) ⌝ }
     ensures { λ n. ⌜ OfPack (now (s .entry)) (λ P. ConstructorsHeld (now (s .entry)) (now (arities .exit)) (now (starts .exit)) (now (lens .exit)) n (P .setting .constructors)) ⌝ }
 {

@@ -1,0 +1,11 @@
+pub mod Answers
+pub mod ByNumber
+pub mod Filling
+pub mod Labelled
+pub mod Names
+pub mod Numbered
+pub mod OneNode
+pub mod PartKinds
+pub mod Records
+pub mod Searching
+pub mod TableLaws

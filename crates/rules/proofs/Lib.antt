@@ -1,0 +1,10 @@
+pub mod Read
+pub mod Filling
+pub mod Places
+pub mod Putting
+pub mod AtomLoop
+pub mod Numbered
+pub mod Bounds
+pub mod Held
+pub mod Over
+pub mod Collecting

@@ -1,0 +1,73 @@
+// The keys of all rules' heads, each rule's in its part of a lent slice.
+ghost use Prim.Native.Nat.{_≤_};
+ghost use lib.ListN.{length};
+ghost use Rattle.access.specs.Places.{IsWellFormed};
+ghost use Rattle.rules.specs.Answer.{IsRule, RowsFrom, RuleAnswer, HeadsAnswer, TableFrom};
+use crate::numbers::rule_numbers;
+use access::rule_count;
+use matching::Heads;
+use matching::rule_heads;
+
+// How many rules there are and how many keys each has; or that the core is too large.
+pub struct AllHeads {
+    pub too_large: bool,
+    pub count: usize,
+    pub counts: [usize; 32],
+}
+
+// The keys of rule r's heads, ascending at the front of keys.
+fn heads_of(s: &[u8], r: usize, rows: &[u16], keys: &mut [u64], work: &mut [u64]) -> Heads
+    requires { ⌜ IsWellFormed (now s) × IsRule (now s) r × RowsFrom (now s) (now rows) × (3072 ≤ length (now work)) ⌝ }
+    ensures { λ h. ⌜ RuleAnswer (now (s .entry)) r h (now (keys .exit)) ⌝ }
+{
+    let n = rule_numbers(s, r);
+    let atoms = n.atoms;
+    let vars = n.vars;
+    rule_heads(rows, atoms, n.atom_count, vars, n.var_count, keys, work)
+}
+
+// The keys of all rules' heads, rule r's from r * 1,024 on.
+pub fn all_heads(s: &[u8], rows: &[u16], heads: &mut [u64], work: &mut [u64]) -> AllHeads
+    requires { ⌜ IsWellFormed (now s) × RowsFrom (now s) (now rows) × (32768 ≤ length (now heads)) × (3072 ≤ length (now work)) ⌝ }
+    ensures { λ a. ⌜ HeadsAnswer (now (s .entry)) a (now (heads .exit)) ⌝ }
+{
+    let count = rule_count(s);
+    let mut counts = [0usize; 32];
+    for r in 0..count {
+        let start = r * 1024;
+        let end = start + 1024;
+        let found = heads_of(s, r, rows, &mut heads[start..end], work);
+        match found {
+            Heads::Over => {
+                return AllHeads {
+                    too_large: true,
+                    count,
+                    counts,
+                };
+            }
+            Heads::Listed(n) => {
+                counts[r] = n;
+            }
+        }
+    }
+    AllHeads {
+        too_large: false,
+        count,
+        counts,
+    }
+}
+
+// The heads of all rules, six numbers each.
+pub fn head_table(s: &[u8]) -> [[u64; 6]; 32]
+    requires { ⌜ IsWellFormed (now s) ⌝ }
+    ensures { λ rules. ⌜ TableFrom (now (s .entry)) rules ⌝ }
+{
+    let count = rule_count(s);
+    let mut rules = [[0u64; 6]; 32];
+    for rule in 0..count {
+        let n = rule_numbers(s, rule);
+        let head = n.head;
+        rules[rule] = head;
+    }
+    rules
+}
