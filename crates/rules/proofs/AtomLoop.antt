@@ -1,17 +1,17 @@
 -- The loop over a rule's atoms: those before the cursor are put. Assumes nothing.
-use lib.ListN.{length, take, drop, length-append, length-drop, length-take}
+use lib.ListN.{length, take, drop, length-append, length-drop}
 use lib.Seq.{take-at, length-take-le}
 use mathlib.Core.List.{List, [], _∷_, _++_, flatMap, append-nil, append-assoc}
 use mathlib.Core.Option.{Option, none, some, Option·some-injective}
-use mathlib.Core.Path.{_≡_, refl, sym, ap, subst, _∙_}
+use mathlib.Core.Path.{_≡_, refl, sym, ap, _∙_}
 use native.Mathlib.Nat.{sub-zero}
 use native.Mathlib.Omega.{arith}
-use Prim.Native.Nat.{ℕ, zero, suc, _+_, _*_, _-_, _≤_, _<_, zero-le}
+use Prim.Native.Nat.{ℕ, suc, _+_, _*_, _-_, _≤_, _<_, zero-le}
 use Rattle.matching.specs.Rule.{atomNumbers, AtomsHeld}
 use Rattle.meaning.specs.Pack.{Atom}
 use Rattle.pack.specs.Readers.{Read, give, next}
 use Rattle.pack.specs.Records.{atom, atomOf, atoms}
-use Rattle.pack.specs.Shown.{left, Got, Not, Placed, TupleGot, made, textAt}
+use Rattle.pack.specs.Shown.{left, Got, Not, Placed, TupleGot, made}
 use Rattle.pack.specs.declared.cursor.Cursor.{Cursor}
 use Rattle.pack.specs.declared.cursor.Tuple.{Tuple}
 use Rattle.pack.proofs.Reading.{length-at}

@@ -3,15 +3,14 @@ use lib.Dec.{T, eqb, eqb→eq}
 use lib.ListN.{length, getElem?, take, replicate, length-append}
 use lib.Seq.{take-at, take-take}
 use mathlib.Core.Bool.{Bool, true, false, not, _&&_}
-use mathlib.Core.List.{List, [], _∷_, _++_, List·Memᴰ·append-cases}
+use mathlib.Core.List.{List, [], _∷_, List·Memᴰ·append-cases}
 use mathlib.Core.Logic.{⊎-elim}
 use mathlib.Core.Option.{Option, none, some}
 use mathlib.Core.Path.{_≡_, refl, sym, ap, subst, _∙_}
 use native.Mathlib.Omega.{arith}
-use Prim.Native.Nat.{ℕ, _≤_, _<_}
+use Prim.Native.Nat.{ℕ, _≤_}
 use Rattle.access.proofs.Accepted.{WellFormed}
 use Rattle.core.proofs.NodeSources.{term-short}
-use Rattle.core.specs.Bounds.{Bounded}
 use Rattle.core.specs.Heads.{headArguments}
 use Rattle.matching.specs.Rule.{RuleHeld}
 use Rattle.meaning.proofs.Lists.Members.{both, every-at}

@@ -7,4 +7,7 @@ pub mod Numbered
 pub mod Bounds
 pub mod Held
 pub mod Over
+pub mod OneRule
+pub mod Tabling
 pub mod Collecting
+pub mod Answers

@@ -1,12 +1,12 @@
 -- A rule by its places and by its numbers. Assumes nothing.
 use lib.ListN.{length, getElem?, take}
 use mathlib.Core.List.{List}
-use mathlib.Core.Option.{Option, none, some, Option·none-ne-some, Option·some-injective}
+use mathlib.Core.Option.{Option, some, Option·none-ne-some, Option·some-injective}
 use mathlib.Core.Path.{_≡_, refl, sym, ap, subst, _∙_}
 use Prim.Native.Nat.{ℕ, _≤_}
 use Rattle.access.proofs.Accepted.{well-formed}
 use Rattle.access.specs.Places.{IsWellFormed, RuleAt, RulePlaced}
-use Rattle.core.specs.Heads.{headArguments, headNumbers}
+use Rattle.core.specs.Heads.{headNumbers}
 use Rattle.matching.specs.Rule.{AtomsHeld}
 use Rattle.meaning.specs.Pack.{Pack, Rule}
 use Rattle.pack.proofs.Sizes.{size-is}

@@ -5,10 +5,10 @@ use mathlib.Core.List.{List, [], _∷_, _++_, map, map-append}
 use mathlib.Core.Logic.{_≢_, inl, inr}
 use mathlib.Core.Path.{_≡_, refl, sym, ap, subst, _∙_}
 use native.Mathlib.Omega.{arith}
-use Prim.Native.Nat.{ℕ, suc, _≤_, _<_}
+use Prim.Native.Nat.{ℕ, suc, _≤_}
 use Rattle.core.specs.Heads.{headArguments}
 use Rattle.matching.specs.Rule.{HeadKey}
-use Rattle.meaning.specs.Core.{CoreNode, Given, Node, asTyped, headFact, iriNode, literalNode, nodeOf}
+use Rattle.meaning.specs.Core.{Node, asTyped, headFact, iriNode, literalNode, nodeOf}
 use Rattle.meaning.specs.Limits.{maxCoreTriples, maxIris}
 use Rattle.meaning.specs.Member.{_∈_, here, there}
 use Rattle.meaning.specs.NoGraph.{CoreIri, CoreTriple, TooLarge}

@@ -7,7 +7,7 @@ use native.Mathlib.Omega.{arith}
 use Prim.Native.Nat.{ℕ, zero, suc, _+_, _-_, _≤_, _<_}
 use Rattle.core.specs.Heads.{headArguments, headNumbers}
 use Rattle.matching.specs.Rule.{atomNumbers}
-use Rattle.meaning.specs.Pack.{Atom, Head}
+use Rattle.meaning.specs.Pack.{Atom}
 use Rattle.pack.specs.Records.{atomOf}
 use Rattle.pack.specs.Shown.{headAt, made, textAt}
 use Rattle.pack.specs.declared.cursor.Tuple.{Tuple}

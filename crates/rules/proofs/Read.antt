@@ -1,18 +1,18 @@
--- What refusal 4 leaves of a rule: at most three atoms, each of at most eight variables of the 16, and terms of one to four
--- variables. Assumes nothing.
+-- What refusal 4 leaves of a constructor and of a rule: arities from 1 to 4; at most three atoms, each of at most eight
+-- variables of the 16. Assumes nothing.
 use borrow.Author.Tests.{leb-true, ltb-true}
-use lib.Dec.{leb, ltb}
+use lib.Dec.{leb}
 use lib.ListN.{length}
 use mathlib.Core.Bool.{Bool, true, false, _&&_}
 use mathlib.Core.List.{List, [], _∷_}
 use mathlib.Core.Option.{Option, none, some, Option·none-ne-some, Option·some-injective}
 use mathlib.Core.Path.{_≡_, refl, sym, ap, subst, _∙_}
 use native.Mathlib.Omega.{arith}
-use Prim.Native.Nat.{ℕ, zero, suc, _≤_, _<_, zero-le}
+use Prim.Native.Nat.{ℕ, zero, suc, _≤_, _<_}
 use Rattle.meaning.specs.Member.{_∈_, here, there}
-use Rattle.meaning.specs.Pack.{Atom, Constructor, Head, Rule, Term}
+use Rattle.meaning.specs.Pack.{Atom, Constructor, Rule}
 use Rattle.meaning.specs.Tests.{within}
-use Rattle.pack.specs.Readers.{Read, Reader, give, only, next, _>>=_, byte, byteIn, bytes, sized}
+use Rattle.pack.specs.Readers.{Read, Reader, only, next, byte, byteIn, bytes, sized}
 use Rattle.pack.specs.Records.{atom, atoms, constructor, headOf, rule, tuple, variable}
 use Rattle.pack.specs.Unpack.{also, records, readAll}
 

@@ -1,7 +1,7 @@
 // One rule of a well-formed pack as numbers: its atoms, its head's variables, its head.
 ghost use mathlib.Core.List.{_++_};
 ghost use mathlib.Core.Path.{_≡_};
-ghost use Prim.Native.Nat.{ℕ, _+_, _≤_, _<_};
+ghost use Prim.Native.Nat.{_+_, _≤_, _<_};
 ghost use lib.ListN.{length, getD, take, drop};
 ghost use Rattle.access.specs.Places.{IsWellFormed};
 ghost use Rattle.core.specs.Heads.{headNumbers};

@@ -4,7 +4,8 @@ use mathlib.Core.Path.{_≡_, refl, _∙_}
 use native.Mathlib.Omega.{arith}
 use Prim.Native.Nat.{_-_}
 use Rattle.access.proofs.Accepted.{well-formed}
-use Rattle.rules.proofs.Collecting.{Collecting, collecting-start, collecting-on, collecting-over, collecting-done, is-rule, long-is, rules-few}
+use Rattle.rules.proofs.Collecting.{Collecting, collecting-start, collecting-on, collecting-over, collecting-done, long-is}
+use Rattle.rules.proofs.OneRule.{is-rule, rules-few}
 use borrow.Author.Needs.{needs}
 use Rattle.rules.proofs.heads.all_heads.Statement.{statement}
 use Rattle.rules.proofs.heads.all_heads.Tie as tie

@@ -3,7 +3,8 @@ use mathlib.Core.Path.{refl}
 use native.Mathlib.Omega.{arith}
 use Prim.Native.Nat.{_-_}
 use Rattle.access.proofs.Accepted.{well-formed}
-use Rattle.rules.proofs.Collecting.{Tabling, tabling-start, tabling-on, tabling-done, rules-few}
+use Rattle.rules.proofs.OneRule.{rules-few}
+use Rattle.rules.proofs.Tabling.{Tabling, tabling-start, tabling-on, tabling-done}
 use borrow.Author.Needs.{needs}
 use Rattle.rules.proofs.heads.head_table.Statement.{statement}
 use Rattle.rules.proofs.heads.head_table.Tie as tie

@@ -1,5 +1,5 @@
 -- `heads::heads_of` meets its contract. Assumes nothing.
-use Rattle.rules.proofs.Collecting.{rule-given, held-at}
+use Rattle.rules.proofs.OneRule.{rule-given, held-at}
 use borrow.Author.Needs.{needs}
 use Rattle.rules.proofs.heads.heads_of.Statement.{statement}
 use Rattle.rules.proofs.heads.heads_of.Tie as tie
