@@ -1,0 +1,39 @@
+// Build, an open call: from a pack to its graph.
+ghost use Rattle.build.specs.Answer.{Answers};
+use construct::Constructed;
+use construct::HEADS_LENGTH;
+use construct::ROWS_LENGTH;
+use construct::construct;
+use construct::refused;
+use meaning::NODE_LIST_LENGTH;
+use meaning::TRIPLE_LIST_LENGTH;
+use sets::buffers::clear_u16;
+use sets::buffers::clear_u64;
+
+// The graph of a pack at the front of the two lists, and its counts; or a refusal. `rows` and `heads` are working buffers.
+pub fn build(
+    pack: &[u8],
+    nodes: &mut [u16],
+    triples: &mut [u16],
+    rows: &mut [u16],
+    heads: &mut [u64],
+) -> Constructed
+    ensures { λ r. ⌜ Answers (now (pack .entry)) r (now (nodes .entry)) (now (nodes .exit)) (now (triples .entry)) (now (triples .exit)) (now (rows .entry)) (now (rows .exit)) (now (heads .entry)) (now (heads .exit)) ⌝ }
+{
+    if nodes.len() < NODE_LIST_LENGTH {
+        return refused(1);
+    }
+    if triples.len() < TRIPLE_LIST_LENGTH {
+        return refused(1);
+    }
+    if rows.len() < ROWS_LENGTH {
+        return refused(1);
+    }
+    if heads.len() < HEADS_LENGTH {
+        return refused(1);
+    }
+    let answer = construct(pack, nodes, triples, rows, heads);
+    clear_u16(rows);
+    clear_u64(heads);
+    answer
+}

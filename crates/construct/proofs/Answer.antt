@@ -1,0 +1,71 @@
+-- From what the steps say to what a pack comes to. Assumes nothing.
+use lib.ListN.{drop, length, take}
+use mathlib.Core.List.{List, _++_, flatten}
+use mathlib.Core.Logic.{inl, inr, ⊎-elim}
+use mathlib.Core.Path.{_≡_, refl, sym, ap, subst, _∙_}
+use native.Mathlib.Omega.{arith}
+use Prim.Native.Nat.{ℕ, _*_, _≤_}
+use Rattle.access.proofs.Accepted.{WellFormed, well-formed}
+use Rattle.access.specs.Places.{IsWellFormed}
+use Rattle.construct.proofs.Accepted.{Accepts, none-obey, some-obeys}
+use Rattle.construct.specs.Outcome.{Constructs, counted, gives, mixed-kinds, not-accepted, refusal, refuses, too-large, two-objects}
+use Rattle.construct.specs.Steps.{FromCore, FromHeads, OfHeads, clash, graph, large, mixed, small}
+use Rattle.construct.specs.declared.Constructed.{Constructed}
+use Rattle.meaning.specs.NoGraph.{NoGraph, TooLarge}
+use Rattle.meaning.specs.Pack.{Pack, Text}
+use Rattle.pack.proofs.Unpacking.{unpacked}
+use Rattle.pack.specs.Checked.{Checked, accepted, firstRefusal, numberOf, refused, wellFormed}
+use Rattle.rows.specs.Loaded.{LoadedFrom}
+use Rattle.rules.specs.Answer.{RowsFrom}
+
+-- ---- the pack is accepted, and its rows are loaded
+
+pub is-formed : {s : List ℕ} → Accepts s → IsWellFormed s
+is-formed a = record { pack = a .pack; is = a .formed }
+
+pub rows-few : (s : List ℕ) (n : ℕ) (out out′ : List ℕ) → Accepts s → LoadedFrom s n out out′ → n ≤ 1024
+rows-few s n out out′ a l = omega (arith, l (a .pack) (a .formed) .count, unpacked s (a .pack) (well-formed s (a .pack) (a .formed) .read) .rows .1)
+
+pub rows-from : (s : List ℕ) (n : ℕ) (out out′ : List ℕ) → LoadedFrom s n out out′ → RowsFrom s (take (9 * n) out′)
+rows-from s n out out′ l P e = l P e .held
+
+-- ---- the answers
+
+formed : {s : Text} (a : Accepts s) → WellFormed s (a .pack)
+formed {s} a = well-formed s (a .pack) (a .formed)
+
+module _ {pack : Text} {r : Constructed} {nodes nodes′ triples triples′ : List ℕ} where
+  -- 3 to 8
+  pub refused-answer : (k : ℕ) → k ≡ numberOf (firstRefusal pack) → (k ≡ 0 → ⊥) → r ≡ refusal k → nodes′ ≡ nodes → triples′ ≡ triples → Constructs pack r nodes nodes′ triples triples′
+  refused-answer k e n h x y = go (firstRefusal pack) refl e
+    where
+      go : (c : Checked) → firstRefusal pack ≡ c → k ≡ numberOf c → Constructs pack r nodes nodes′ triples triples′
+      go (refused m) w q = refuses (not-accepted m w (h ∙ ap refusal q)) x y
+      go (accepted P) w q = absurd (n q)
+
+  module _ (a : Accepts pack) where
+    -- 9, by the heads of one rule
+    pub large-heads : TooLarge (a .pack) → r ≡ refusal 9 → nodes′ ≡ nodes → triples′ ≡ triples → Constructs pack r nodes nodes′ triples triples′
+    large-heads h q x y = refuses (too-large (a .pack) (a .all) h q) x y
+
+    -- 10, 11, or the graph
+    core-answer : ¬ TooLarge (a .pack) → FromCore (a .pack) r nodes nodes′ triples triples′ → Constructs pack r nodes nodes′ triples triples′
+    core-answer n (clash s p f g c q x y) = refuses (two-objects (a .pack) (a .all) n (none-obey (formed a) (inl (c .clash))) s p f g c q) x y
+    core-answer n (mixed m k q x y) = refuses (mixed-kinds (a .pack) (a .all) n (none-obey (formed a) (inr k)) m k q) x y
+    core-answer n (graph k t w q) = gives (a .pack) (record {
+      is = a .all;
+      small = n;
+      obeyed = some-obeys (formed a) (λ h. ⊎-elim (w .not-10) (w .not-11) h);
+      node-records = w .nodeRecords;
+      triple-records = w .tripleRecords;
+      lists = w .lists;
+      counts = q ∙ (λ i. counted (w .node-count i) (w .triple-count i));
+      few-nodes = omega (arith, w .few-nodes, w .node-count);
+      few-triples = omega (arith, w .few-triples, w .triple-count);
+      nodes-are = subst (λ z. nodes′ ≡ flatten (w .nodeRecords) ++ drop (z * 7) nodes) (w .node-count) (w .nodes-written);
+      triples-are = subst (λ z. triples′ ≡ flatten (w .tripleRecords) ++ drop (z * 3) triples) (w .triple-count) (w .triples-written);
+    })
+
+    pub heads-answer : FromHeads (a .pack) r nodes nodes′ triples triples′ → Constructs pack r nodes nodes′ triples triples′
+    heads-answer (large h q x y) = large-heads h q x y
+    heads-answer (small n c) = core-answer n c

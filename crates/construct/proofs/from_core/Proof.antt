@@ -1,0 +1,32 @@
+-- `construct::from_core` meets its contract. Assumes nothing.
+use borrow.Author.Needs.{needs}
+use mathlib.Core.Path.{refl}
+use native.Mathlib.Omega.{arith}
+use Rattle.construct.proofs.FromCore.{clash-answer, clash-inside, graph-answer, mixed-answer}
+use Rattle.construct.proofs.from_core.Statement.{statement}
+use Rattle.construct.proofs.from_core.Tie as tie
+use Rattle.graph.proofs.MixedLaws.{keys-small}
+use Rattle.graph.proofs.Places.{input-codes, input-placed}
+
+pub from-core-spec : {M : Type 1} → statement M
+from-core-spec =
+    tie.close
+    (tie.spec
+    (λ c. search needs)  -- slice-aggregate-build
+    (λ c. search needs)  -- slice-aggregate-build-2
+    (λ c κs. let p = c .before .before .before .before .before .before .before .before .before .pre in (input-placed (p .0 .input), keys-small (p .0 .input), input-codes (p .0 .input), omega arith, omega arith, p .1, p .2))  -- build-requires
+    (λ c. search needs)  -- enum-known-n
+    (λ c. search needs)  -- enum-known-i
+    (λ c. search needs)  -- slice-aggregate-clash-records
+    (λ c κs. let p = c .before .before .before .before .before .before .before .before .before .before .before .before .before .before .before .before .before .before .before .before .pre in (input-placed (p .0 .input), keys-small (p .0 .input), clash-inside _ _ _ _ _ _ _ _ _ _ (c .before .before .before .before .before .before .before .before .before .before .build .ensures) _ (c .before .before .i .given .1) (p .0), omega arith))  -- clash-records-requires
+    (λ c. search needs)  -- enum-told
+    (λ c κs. search needs)  -- refused-requires
+    (λ c. search needs)  -- same-length
+    (λ c. search needs)  -- same-length-2
+    (λ c. graph-answer _ _ _ _ _ _ _ _ _ _ (c .before .before .before .before .before .before .before .before .before .build .ensures) _ _ (c .before .n .given .1) _ refl)  -- returns
+    (λ c. search needs)  -- same-length-3
+    (λ c. search needs)  -- same-length-4
+    (λ c. clash-answer _ _ _ _ _ _ _ _ _ _ (c .before .before .before .before .before .before .before .before .before .before .before .before .build .ensures) _ (c .before .before .before .before .i .given .1) _ _ refl (c .before .clash-records .ensures))  -- returns-2
+    (λ c. search needs)  -- same-length-5
+    (λ c. search needs)  -- same-length-6
+    (λ c. mixed-answer _ _ _ _ _ _ _ _ _ _ (c .before .before .before .before .before .before .before .before .before .build .ensures) (c .before .enum-told .given .1) _ (c .refused .ensures)))  -- returns-3

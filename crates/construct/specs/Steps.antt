@@ -1,0 +1,48 @@
+-- The outcomes of the steps from a pack to its graph: from its heads, from its core. Assumes nothing.
+use mathlib.Core.List.{List}
+use mathlib.Core.Path.{_≡_}
+use Prim.Native.Nat.{ℕ}
+use Rattle.construct.specs.Outcome.{clashing, counted, refusal}
+use Rattle.construct.specs.declared.Constructed.{Constructed}
+use Rattle.core.specs.Bounds.{Bounded}
+use Rattle.graph.specs.Build.{GraphWritten}
+use Rattle.graph.specs.Input.{Input}
+use Rattle.graph.specs.Records.{Arities}
+use Rattle.meaning.specs.Listing.{ClashGiven}
+use Rattle.meaning.specs.NoGraph.{MixedKinds, TooLarge, TwoObjects}
+use Rattle.meaning.specs.Pack.{Pack}
+use Rattle.meaning.specs.Tables.{ShapeTable}
+use Rattle.pack.specs.Checked.{accepted, wellFormed}
+use Rattle.rules.specs.Answer.{HeadsFound}
+use Rattle.rules.specs.declared.heads.AllHeads.{AllHeads}
+
+module _ (P : Pack) (r : Constructed) (nodes nodes′ triples triples′ : List ℕ) where
+  -- 10, 11 or the graph, of a pack whose core is small
+  pub data FromCore : Type 0 where
+    clash : (subject : List ℕ) (predicate : ℕ) (first second : List ℕ) → ClashGiven P subject predicate first second
+        → r ≡ clashing subject predicate first second → nodes′ ≡ nodes → triples′ ≡ triples → FromCore
+    mixed : ¬ TwoObjects P → MixedKinds P → r ≡ refusal 11 → nodes′ ≡ nodes → triples′ ≡ triples → FromCore
+    graph : (n t : ℕ) → GraphWritten P n t nodes nodes′ triples triples′ → r ≡ counted n t → FromCore
+
+  -- 9, or one of these
+  pub data FromHeads : Type 0 where
+    large : TooLarge P → r ≡ refusal 9 → nodes′ ≡ nodes → triples′ ≡ triples → FromHeads
+    small : ¬ TooLarge P → FromCore → FromHeads
+
+-- The core's numbers are those of some pack; what is answered is true of each.
+pub record CoreGiven (table : List (List ℕ)) (arities nodes triples masks : List ℕ) : Type 0 where
+  pub pack : Pack
+  pub input : Input pack table nodes triples masks
+  pub arity : Arities pack arities
+
+abbrev pub OfCore : List (List ℕ) → List ℕ → List ℕ → List ℕ → List ℕ → (Pack → Type 0) → Type 0
+OfCore table arities nodes triples masks Q = (P : Pack) → Input P table nodes triples masks → Arities P arities → Q P
+
+-- The same of the heads.
+pub record HeadsGiven (s : List ℕ) (a : AllHeads) (heads : List ℕ) : Type 0 where
+  pub pack : Pack
+  pub is : wellFormed s ≡ accepted pack
+  pub found : HeadsFound pack a heads
+
+abbrev pub OfHeads : List ℕ → AllHeads → List ℕ → (Pack → Type 0) → Type 0
+OfHeads s a heads Q = (P : Pack) → wellFormed s ≡ accepted P → HeadsFound P a heads → Q P

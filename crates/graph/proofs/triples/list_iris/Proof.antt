@@ -1,0 +1,59 @@
+-- `graph::triples::list_iris` meets its contract: the nodes below s are done. Assumes nothing.
+use borrow.Author.Needs.{needs}
+use lib.ListN.{getD, length}
+use mathlib.Core.Path.{_≡_}
+use native.Mathlib.Omega.{arith}
+use Prim.Native.Nat.{_+_, _*_, _-_, _≤_}
+use Rattle.graph.specs.Input.{firstLiteral}
+use Rattle.graph.specs.Invent.{Upto}
+use Rattle.graph.specs.Triples.{Listed, SubjectEdge, keysBefore}
+use Rattle.graph.proofs.EdgeLaws.{by-subject, iri-after, iri-end, iri-room}
+use Rattle.graph.proofs.ListedLaws.{listed-again, listed-start}
+use Rattle.graph.proofs.triples.list_iris.Statement.{statement}
+use Rattle.graph.proofs.triples.list_iris.Tie as tie
+use Rattle.sets.proofs.Rank.{rank-le}
+use Rattle.sets.specs.Ordered.{rankOf}
+
+abbrev Inv-loop : tie.InvT-loop
+Inv-loop shapes nodes triples masks places out₀ iris next₀ s₀ out next s =
+    (s ≤ iris) × (iris ≡ rankOf firstLiteral nodes) × (length out ≡ length out₀) × (next ≤ s * 12 + keysBefore (s * 16) triples)
+    × Listed shapes (λ P. Upto (λ t. SubjectEdge P triples places t (getD masks t 0)) s) 0 out₀ out next
+
+abbrev μ-loop : tie.MeasureT-loop
+μ-loop shapes nodes triples masks places out₀ iris next₀ s₀ out next s = iris - s
+
+pub list-iris-spec : {M : Type 1} → statement M
+list-iris-spec =
+    tie.close
+    (tie.spec
+    Inv-loop
+    μ-loop
+    (λ c κs. search needs)  -- rank-requires
+    (λ c. let a = c .before .before .before .before .before .before .args in  -- loop-holds
+    (search needs, c .rank .ensures, search needs, search needs, listed-start (λ P t. SubjectEdge P (a .triples .now) (a .places .now) t (getD (a .masks .now) t 0)) 0 _))
+    (λ c. omega (arith, c .before .before .before .before .before .before .before .before .pre .0 .iris, c .before .loop .inv .1))  -- mul-list-subject
+    (λ c. let s = c .before .before .before .before .before .before .before .before .before in let l = c .before .before .loop in  -- shared-slice-read-list-subject
+    omega (arith, rank-le firstLiteral (s .args .nodes .now), s .pre .0 .long, l .inv .1))
+    (λ c κs. let s = c .before .before .before .before .before .before .before .before .before .before in let l = c .before .before .before .loop in let a = s .args in  -- list-subject-requires
+    (
+      s .pre .0 .triples-ascend,
+      s .pre .1,
+      s .pre .2,
+      omega (arith, s .pre .0 .iris, l .inv .1),
+      iri-room (a .triples .now) (s .pre .0 .short) (l .s) (l .next) (l .inv .3) (omega (arith, s .pre .0 .iris, l .inv .1)),
+      omega (arith, s .pre .3, l .inv .2),
+    ))
+    (λ c. search needs)  -- add-s
+    (λ c. search needs)  -- loop-less
+    (λ c. let s = c .before .before .before .before .before .before .before .before .before .before .before .before .before in let l = c .before .before .before .before .before .before .loop in let m = c .before .before .list-subject in let a = s .args in  -- loop-again
+    (
+      search needs,
+      l .inv .1,
+      search needs,
+      iri-after (a .triples .now) (s .pre .0 .short) (l .s) (l .next) (l .inv .3) (m .result) (m .ensures .1),
+      listed-again (λ P t. SubjectEdge P (a .triples .now) (a .places .now) t (getD (a .masks .now) t 0)) (l .inv .4) (m .ensures .0)
+          (omega (arith, iri-end (a .triples .now) (s .pre .0 .short) (l .s) (l .next) (l .inv .3) (omega (arith, s .pre .0 .iris, l .inv .1)), s .pre .3)) (λ P k h. by-subject h),
+    ))
+    (λ c. search needs)  -- same-length
+    (λ c. let s = c .before .before .before .before .before .before .before .before in let l = c .before .loop in let e : l .s ≡ rankOf firstLiteral (s .args .nodes .now) = omega (arith, l .inv .1) in
+    (rw e at (l .inv .4), iri-end (s .args .triples .now) (s .pre .0 .short) (l .s) (l .next) (l .inv .3) (omega (arith, s .pre .0 .iris, l .inv .1)))))  -- returns

@@ -1,0 +1,45 @@
+-- What a search for refusal 10 answers, and the clash as numbers. Assumes nothing.
+use lib.ListN.{drop, getElem?}
+use mathlib.Core.List.{List, [], _∷_, _++_}
+use mathlib.Core.Option.{some}
+use mathlib.Core.Path.{_≡_}
+use Prim.Native.Nat.{ℕ, suc}
+use Rattle.core.specs.Keys.{keyOf, tripleKey}
+use Rattle.graph.specs.Input.{Input}
+use Rattle.graph.specs.Records.{Arities}
+use Rattle.meaning.specs.Listing.{ClashGiven}
+use Rattle.meaning.specs.NoGraph.{TwoObjects}
+use Rattle.meaning.specs.Pack.{Pack}
+use Rattle.sets.specs.declared.ordered.Found.{Found}
+use Rattle.sets.specs.declared.ordered.Found.the-variants.{At, Nothing}
+
+-- The triples at a place and the next are a clash: "a core node has two p-objects and a type with multiplicity 1 or 2 for p".
+pub record ClashAt (P : Pack) (nodes triples : List ℕ) (i : ℕ) : Type 0 where
+  pub clash : TwoObjects P
+  pub subject : ℕ
+  pub first : ℕ
+  pub second : ℕ
+  pub subject-at : getElem? nodes subject ≡ some (keyOf (clash .subject))
+  pub first-at : getElem? nodes first ≡ some (keyOf (clash .first))
+  pub second-at : getElem? nodes second ≡ some (keyOf (clash .second))
+  pub first-key : getElem? triples i ≡ some (tripleKey subject (clash .predicate) first)
+  pub second-key : getElem? triples (suc i) ≡ some (tripleKey subject (clash .predicate) second)
+
+module _ (table : List (List ℕ)) (nodes triples masks : List ℕ) where
+  abbrev pub ClashShown : Found → Type 0
+  ClashShown (At i) = (P : Pack) → Input P table nodes triples masks → ClashAt P nodes triples i
+  ClashShown Nothing = (P : Pack) → Input P table nodes triples masks → ¬ TwoObjects P
+
+-- "one such node, predicate and two objects are given, the nodes as node records of the core": 22 numbers
+pub record ClashWritten (P : Pack) (out out′ : List ℕ) : Type 0 where
+  pub subject : List ℕ
+  pub predicate : ℕ
+  pub first : List ℕ
+  pub second : List ℕ
+  pub given : ClashGiven P subject predicate first second
+  pub written : out′ ≡ subject ++ (predicate ∷ []) ++ first ++ second ++ drop 22 out
+
+abbrev pub ClashRecorded : List ℕ → List ℕ → List ℕ → List ℕ → ℕ → List ℕ → List ℕ → Type 0
+ClashRecorded arities nodes triples masks i out out′ =
+    (P : Pack) (table : List (List ℕ)) → Input P table nodes triples masks → Arities P arities → ClashAt P nodes triples i
+    → ClashWritten P out out′
