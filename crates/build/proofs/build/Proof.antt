@@ -25,6 +25,6 @@ build-spec =
     (λ c. search needs)  -- same-length-3
     (λ c. search needs)  -- same-length-4
     (λ c.  -- returns-5
-    long-answer _ _
+    long-answer (c .before .before .before .before .before .before .before .before .before .before .before .before .before .before .before .before .construct .last .1 .1 .1 .0) (c .before .before .before .before .before .before .before .before .before .before .before .before .before .before .before .before .construct .last .1 .1 .1 .1 .0)
     (record { node-list = omega (arith, c .before .before .before .before .before .before .before .before .before .before .before .before .before .before .before .before .before .before .before .before .before .before .before .before .if1 .left); triple-list = omega (arith, c .before .before .before .before .before .before .before .before .before .before .before .before .before .before .before .before .before .before .before .before .before .before .before .if2 .left); row-buffer = omega (arith, c .before .before .before .before .before .before .before .before .before .before .before .before .before .before .before .before .before .before .before .before .before .before .if3 .left); head-buffer = omega (arith, c .before .before .before .before .before .before .before .before .before .before .before .before .before .before .before .before .before .before .before .before .before .if4 .left) })
     (c .before .before .before .before .before .before .before .before .before .before .before .before .before .before .before .before .construct .ensures) (c .before .before .before .before .before .before .clear-u16 .ensures) (c .before .before .before .before .before .before .before .before .before .before .before .before .before .before .before .before .construct .kept .1 .1 .1 .0) (c .before .before .clear-u64 .ensures) (c .before .before .before .before .before .before .before .before .before .before .before .before .before .before .before .before .construct .kept .1 .1 .1 .1 .0)))
