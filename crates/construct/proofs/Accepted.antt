@@ -2,7 +2,7 @@
 use mathlib.Core.Bool.{Bool, true, false}
 use mathlib.Core.List.{List, [], _∷_}
 use mathlib.Core.Option.{Option, none, some}
-use mathlib.Core.Path.{_≡_, refl}
+use mathlib.Core.Path.{_≡_, refl, sym, ap, _∙_}
 use native.Mathlib.Omega.{arith}
 use Prim.Native.Nat.{ℕ}
 use Rattle.access.proofs.Accepted.{WellFormed, well-formed}
@@ -53,3 +53,17 @@ module _ {s : List ℕ} {P : Pack} (w : WellFormed s P) where
 
   pub none-obey : NoGraph P → NoneObeys P
   none-obey = none-obeys P (w .named) _ (plain-distinct P (w .distinct) (w .prefixFree) (w .named))
+
+-- a pack that is accepted is well formed
+pub accepted-formed : (s : List ℕ) (P : Pack) → firstRefusal s ≡ accepted P → wellFormed s ≡ accepted P
+accepted-formed s P e =
+    let a = accepts s (ap numberOf (sym e)) in
+    let z : _≡_ {A = Checked} (accepted (a .pack)) (accepted P) = sym (a .all) ∙ e in
+    a .formed ∙ z
+
+-- a refusal has a number
+pub refused-some : (s : List ℕ) (k : ℕ) → firstRefusal s ≡ refused k → k ≡ 0 → ⊥
+refused-some s k e z =
+    let a = accepts s (sym (ap numberOf e ∙ z)) in
+    let q : _≡_ {A = Checked} (accepted (a .pack)) (refused k) = sym (a .all) ∙ e in
+    absurd (let w : _≡_ {A = ℕ} 0 1 = cc in omega arith)

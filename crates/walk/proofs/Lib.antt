@@ -3,5 +3,5 @@ pub mod Answers
 mod Expressions
 pub mod KindLaws
 mod Links
-mod Meanings
+pub mod Meanings
 mod Trees

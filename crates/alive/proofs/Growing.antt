@@ -1,0 +1,236 @@
+-- The marked states grow until they are those that are alive. Assumes nothing.
+use lib.ListN.{getD}
+use mathlib.Core.Bool.{Bool, false, true}
+use mathlib.Core.List.{List}
+use mathlib.Core.Logic.{inl, inr, _⊎_}
+use mathlib.Core.Path.{ap, refl, subst, sym, _∙_, _≡_}
+use native.Mathlib.Decide.{decLt, ℕ-discrete}
+use native.Mathlib.Omega.{arith}
+use Prim.Native.Nat.{ℕ, _%_, _*_, _+_, _-_, _/_, _<_, _≤_}
+use Rattle.alive.specs.Fits.{Fits}
+use Rattle.alive.specs.Lists.{Lists, leafAt, numbered}
+use Rattle.alive.specs.Living.{Living, SomeAt, Yes}
+use Rattle.alive.specs.Steps.{AllAlive, At, BackAt, BackTo, EndAt, Led, PartBack, StateAlive, leads, turns}
+use Rattle.alive.specs.Worklist.{Adds, Table, Unmarked, states}
+use Rattle.index.specs.Index.{ByObject}
+use Rattle.meaning.specs.Query.{Joins}
+use Rattle.walk.proofs.Alive.{alive-least}
+use Rattle.walk.specs.Parts.{Child, Part, chain, either, leaf, listed, partOf, repeat, test}
+use Rattle.walk.specs.Walk.{Saturated, StepBy, ended}
+use Rattle.alive.proofs.Leaves.{leaf-says, leaf-to}
+use Rattle.alive.proofs.Marking.{adds-as, adds-none, adds-then, nothing-marked}
+use Rattle.alive.proofs.States.{alive-at, back-part, leaf-kind, led-more, part-alive, state-alive, state-node, state-part}
+
+-- ---- the ends, node by node
+
+pub record Ending (nodes parts : ℕ) (t₁ q₁ t₂ q₂ : List ℕ) (tail n : ℕ) : Type 0 where
+  pub within : n ≤ nodes
+  pub adds : Adds 1 states (EndAt nodes parts) (EndAt n parts) t₁ q₁ 0 t₂ q₂ tail
+
+pub end-start : {nodes parts : ℕ} {t q : List ℕ} → Unmarked 1 states t q → Ending nodes parts t q t q 0 0
+end-start u = record { within = omega arith; adds = adds-none (nothing-marked u) (λ y e. let z = e .is in omega arith) }
+
+pub end-again : {nodes parts : ℕ} {t₁ q₁ t₂ q₂ t₃ q₃ : List ℕ} {k₂ k₃ n : ℕ} → n < nodes → Ending nodes parts t₁ q₁ t₂ q₂ k₂ n → Adds 1 states (λ y. y ≡ parts * 1024 + n) (λ y. y ≡ parts * 1024 + n) t₂ q₂ k₂ t₃ q₃ k₃ → Ending nodes parts t₁ q₁ t₃ q₃ k₃ (n + 1)
+end-again {nodes} {parts} {n = n} l w a = record {
+  within = omega arith;
+  adds = adds-as {Y′ = EndAt (n + 1) parts} (adds-then (w .adds) (adds-as {S′ = EndAt nodes parts} {Y′ = λ y. y ≡ parts * 1024 + n} a (λ y e. record { node = n; is = l; state = e }) (λ y e. e))) (λ y e. e) (λ y e. split y e (decLt (e .node) n));
+}
+  where
+    split : (y : ℕ) → (e : EndAt (n + 1) parts y) → Dec (e .node < n) → EndAt n parts y ⊎ (y ≡ parts * 1024 + n)
+    split y e (yes h) = inl (record { node = e .node; is = h; state = e .state })
+    split y e (no h) = let g = e .is in let p : e .node ≡ n = omega arith in inr (e .state ∙ ap (λ x. parts * 1024 + x) p)
+
+pub end-done : {nodes parts : ℕ} {t₁ q₁ t₂ q₂ : List ℕ} {k₂ n : ℕ} → nodes ≤ n → Ending nodes parts t₁ q₁ t₂ q₂ k₂ n → Adds 1 states (EndAt nodes parts) (EndAt nodes parts) t₁ q₁ 0 t₂ q₂ k₂
+end-done {nodes} {parts} {n = n} l w = let h = w .within in adds-as (w .adds) (λ y e. e) (λ y e. let g = e .is in record { node = e .node; is = omega arith; state = e .state })
+
+-- ---- one state, part by part
+
+-- Every marked state stays alive while such are added.
+still-alive : {L : Lists} {Y : ℕ → Type 0} {t₁ q₁ t₂ q₂ : List ℕ} {k₁ k₂ : ℕ} → Table 1 states t₁ q₁ k₁ → AllAlive L t₁ → Adds 1 states (StateAlive L) Y t₁ q₁ k₁ t₂ q₂ k₂ → AllAlive L t₂
+still-alive {L} {Y} {t₁} {q₁} {t₂} {q₂} {k₁} {k₂} t a d x l e = go (d .after .listed x l e)
+  where
+    by : (k : ℕ) → k < k₂ → Dec (k < k₁) → StateAlive L (getD q₂ k 0)
+    by k g (yes h) = subst (StateAlive L) (sym (d .kept k h)) (a (getD q₁ k 0) (t .inside k h) (t .marked k h))
+    by k g (no h) = d .new k (omega arith) g
+
+    go : (k : ℕ) × (k < k₂) × (getD q₂ k 0 ≡ x) → StateAlive L x
+    go (k, g, p) = subst (StateAlive L) p (by k g (decLt k k₁))
+
+-- The states that s makes alive, of the parts below i.
+pub record Backing (L : Lists) (s : ℕ) (t₁ q₁ : List ℕ) (k₁ : ℕ) (t₂ q₂ : List ℕ) (k₂ i : ℕ) : Type 0 where
+  pub within : i ≤ L .parts
+  pub adds : Adds 1 states (StateAlive L) (λ y. ⊥) t₁ q₁ k₁ t₂ q₂ k₂
+  pub done : (j y : ℕ) → j < i → BackAt L t₁ s j y → getD t₂ y 0 ≡ 1
+
+pub back-start : {L : Lists} {s : ℕ} {t q : List ℕ} {k : ℕ} → Table 1 states t q k → Backing L s t q k t q k 0
+back-start t = record { within = omega arith; adds = adds-none t (λ y h. h); done = λ j y l h. absurd (omega arith) }
+
+pub back-again : {L : Lists} {s : ℕ} {last earlier t₁ q₁ t₂ q₂ t₃ q₃ : List ℕ} {k₁ k₂ k₃ i : ℕ} → Fits L → ByObject (L .triples) (L .edges) last earlier → Table 1 states t₁ q₁ k₁ → AllAlive L t₁ → StateAlive L s → i < L .parts → Backing L s t₁ q₁ k₁ t₂ q₂ k₂ i
+    → Adds 1 states (PartBack (L .triples) earlier last (L .tree) (L .next) (L .wanted) t₂ i (s / 1024) (s % 1024)) (PartBack (L .triples) earlier last (L .tree) (L .next) (L .wanted) t₂ i (s / 1024) (s % 1024)) t₂ q₂ k₂ t₃ q₃ k₃
+    → Backing L s t₁ q₁ k₁ t₃ q₃ k₃ (i + 1)
+back-again {L} {s} {last} {earlier} {t₁} {q₁} {t₂} {q₂} {t₃} {q₃} {k₁} {k₂} {k₃} {i} f b t a w l g d = record {
+  within = omega arith;
+  adds = adds-as {Y′ = λ y. ⊥} (adds-then (g .adds) (adds-as {S′ = StateAlive L} {Y′ = λ y. ⊥} d (λ y x. part-alive f b (still-alive t a (g .adds)) s w i y l x) (λ y x. absurd x))) (λ y x. x) (λ y x. absurd x);
+  done = λ j y h x. by j y x (decLt j i) h;
+}
+  where
+    by : (j y : ℕ) → BackAt L t₁ s j y → Dec (j < i) → j < i + 1 → getD t₃ y 0 ≡ 1
+    by j y x (yes h) r = d .more y (g .done j y h x)
+    by j y x (no h) r =
+        let p : j ≡ i = omega arith in
+        d .all y (back-part f b (g .adds .more) s i y (omega arith) l (subst (λ z. BackAt L t₁ s z y) p x))
+
+pub back-done : {L : Lists} {s : ℕ} {t₁ q₁ t₂ q₂ : List ℕ} {k₁ k₂ i : ℕ} → L .parts ≤ i → Backing L s t₁ q₁ k₁ t₂ q₂ k₂ i → Adds 1 states (StateAlive L) (BackTo L t₁ s) t₁ q₁ k₁ t₂ q₂ k₂
+back-done l g = record {
+  after = g .adds .after;
+  longer = g .adds .longer;
+  kept = g .adds .kept;
+  more = g .adds .more;
+  new = g .adds .new;
+  all = λ y b. let h = b .is in g .done (b .part) y (omega arith) (b .back);
+}
+
+-- ---- state by state
+
+-- The part j at the node m is one of the first `head` states.
+abbrev pub Passed : List ℕ → ℕ → ℕ → ℕ → Type 0
+Passed queue head m j = (k : ℕ) × (k < head) × (getD queue k 0 ≡ j * 1024 + m)
+
+-- What is marked is alive, and what the first `head` of the listed states make alive is marked.
+pub record Growing (L : Lists) (table queue : List ℕ) (head tail : ℕ) : Type 0 where
+  pub within : head ≤ tail
+  pub marks : Table 1 states table queue tail
+  pub sound : AllAlive L table
+  pub ends : (n : ℕ) → n < L .nodes → getD table (L .parts * 1024 + n) 0 ≡ 1
+  pub led : (k : ℕ) → k < head → (i n : ℕ) → i < L .parts → partOf (L .tree) i ≡ leaf → getD (L .next) i 0 ≡ getD queue k 0 / 1024 → Joins (numbered L) (leafAt L i) n (getD queue k 0 % 1024) → getD table (i * 1024 + n) 0 ≡ 1
+  pub turned : (i m : ℕ) → i < L .parts → m < L .nodes → Led (Passed queue head m) (getD (L .next) i 0) (partOf (L .tree) i) → getD table (i * 1024 + m) 0 ≡ 1
+
+module _ {L : Lists} (f : Fits L) where
+  -- nothing is passed yet
+  none-led : (B : ℕ → Type 0) → ((j : ℕ) → B j → ⊥) → (after : ℕ) (p : Part) → Led B after p → ⊥
+  none-led B out after leaf x = x
+  none-led B out after (test b) (x, y) = out b x
+  none-led B out after (repeat b) (inl x) = out after x
+  none-led B out after (repeat b) (inr x) = out b x
+  none-led B out after (chain a b) x = out a x
+  none-led B out after (either a b) (inl x) = out a x
+  none-led B out after (either a b) (inr x) = out b x
+
+  pub grow-start : {t₁ q₁ t₂ q₂ : List ℕ} {k₂ : ℕ} → Unmarked 1 states t₁ q₁ → Adds 1 states (EndAt (L .nodes) (L .parts)) (EndAt (L .nodes) (L .parts)) t₁ q₁ 0 t₂ q₂ k₂ → Growing L t₂ q₂ 0 k₂
+  grow-start {t₁} {q₁} {t₂} {q₂} {k₂} u a = record {
+    within = omega arith;
+    marks = a .after;
+    sound = still-alive {L = L} (nothing-marked u) (λ x l e. absurd (let z = u .below x l in omega arith)) (adds-as {S′ = StateAlive L} {Y′ = λ y. ⊥} a (λ y e. state-alive f (L .parts) (e .node) y (omega arith) (e .is) (e .state) ended) (λ y x. absurd x));
+    ends = λ n l. a .all (L .parts * 1024 + n) (record { node = n; is = l; state = refl });
+    led = λ k l. absurd (omega arith);
+    turned = λ i m l h x. absurd (none-led (Passed q₂ 0 m) (λ j (k, g, e). omega arith) (getD (L .next) i 0) (partOf (L .tree) i) x);
+  }
+
+  module _ {t₂ q₂ : List ℕ} {head k₂ : ℕ} (g : Growing L t₂ q₂ head k₂) (l : head < k₂) where
+    -- the state that is passed now
+    pub now-inside : getD q₂ head 0 < states
+    now-inside = g .marks .inside head l
+
+    pub now-marked : getD t₂ (getD q₂ head 0) 0 ≡ 1
+    now-marked = g .marks .marked head l
+
+    pub grow-again : {t₃ q₃ : List ℕ} {k₃ : ℕ} → Adds 1 states (StateAlive L) (BackTo L t₂ (getD q₂ head 0)) t₂ q₂ k₂ t₃ q₃ k₃ → Growing L t₃ q₃ (head + 1) k₃
+    grow-again {t₃} {q₃} {k₃} a = record {
+      within = let z = a .longer in omega arith;
+      marks = a .after;
+      sound = still-alive {L = L} (g .marks) (g .sound) a;
+      ends = λ n h. a .more (L .parts * 1024 + n) (g .ends n h);
+      led = λ k h i n r e p j. by-leaf k i n h r e p j (ℕ-discrete k head);
+      turned = λ i m r h x. by-part i m r h x (ℕ-discrete m (s % 1024));
+    }
+      where
+        s : ℕ
+        s = getD q₂ head 0
+
+        by-leaf : (k i n : ℕ) → k < head + 1 → i < L .parts → partOf (L .tree) i ≡ leaf → getD (L .next) i 0 ≡ getD q₃ k 0 / 1024 → Joins (numbered L) (leafAt L i) n (getD q₃ k 0 % 1024) → Dec (k ≡ head) → getD t₃ (i * 1024 + n) 0 ≡ 1
+        by-leaf k i n h r e p j (yes z) =
+            let w : getD q₃ k 0 ≡ getD q₂ head 0 = a .kept k (omega arith) ∙ ap (λ x. getD q₂ x 0) z in
+            a .all (i * 1024 + n) (record { part = i; is = r; back = leads n e (p ∙ ap (λ x. x / 1024) w) (subst (λ x. Joins (numbered L) (leafAt L i) n (x % 1024)) w j) refl })
+        by-leaf k i n h r e p j (no z) =
+            let w : getD q₃ k 0 ≡ getD q₂ k 0 = a .kept k (omega arith) in
+            a .more (i * 1024 + n) (g .led k (omega arith) i n r e (p ∙ ap (λ x. x / 1024) w) (subst (λ x. Joins (numbered L) (leafAt L i) n (x % 1024)) w j))
+
+        marked-now : (m j : ℕ) → Passed q₃ (head + 1) m j → At t₂ m j
+        marked-now m j (k, h, e) =
+            let w : getD q₂ k 0 ≡ j * 1024 + m = sym (a .kept k (omega arith)) ∙ e in
+            subst (λ x. getD t₂ x 0 ≡ 1) w (g .marks .marked k (omega arith))
+
+        passed-before : (m j : ℕ) → m < L .nodes → (m ≡ getD q₂ head 0 % 1024 → ⊥) → Passed q₃ (head + 1) m j → Passed q₂ head m j
+        passed-before m j lm ne (k, h, e) = (k, other (ℕ-discrete k head), w)
+          where
+            w : getD q₂ k 0 ≡ j * 1024 + m
+            w = sym (a .kept k (omega arith)) ∙ e
+
+            other : Dec (k ≡ head) → k < head
+            other (yes z) = absurd (ne (let q = f .graph .few-nodes in sym (state-node j m (getD q₂ head 0) (omega arith) (sym (ap (λ x. getD q₂ x 0) z) ∙ w))))
+            other (no z) = omega arith
+
+        by-part : (i m : ℕ) → i < L .parts → m < L .nodes → Led (Passed q₃ (head + 1) m) (getD (L .next) i 0) (partOf (L .tree) i) → Dec (m ≡ getD q₂ head 0 % 1024) → getD t₃ (i * 1024 + m) 0 ≡ 1
+        by-part i m r h x (yes z) = a .all (i * 1024 + m) (record { part = i; is = r; back = turns (subst (λ y. Led (At t₂ y) (getD (L .next) i 0) (partOf (L .tree) i)) z (led-more f (Passed q₃ (head + 1) m) (At t₂ m) (marked-now m) (getD (L .next) i 0) (partOf (L .tree) i) x)) (ap (λ y. i * 1024 + y) z) })
+        by-part i m r h x (no z) = a .more (i * 1024 + m) (g .turned i m r h (led-more f (Passed q₃ (head + 1) m) (Passed q₂ head m) (λ j y. passed-before m j h z y) (getD (L .next) i 0) (partOf (L .tree) i) x))
+
+  -- All listed states are passed: the marked states are saturated.
+  module _ {table queue : List ℕ} {head tail : ℕ} (g : Growing L table queue head tail) (whole : tail ≤ head) where
+    abbrev Marked : ℕ → ℕ → Type 0
+    Marked i n = n < L .nodes → getD table (i * 1024 + n) 0 ≡ 1
+
+    passed : (i n : ℕ) → i ≤ L .parts → n < L .nodes → Marked i n → Passed queue head n i
+    passed i n l h m =
+        let p = f .query .few in
+        let q = f .graph .few-nodes in
+        let (k, r, e) = g .marks .listed (i * 1024 + n) (omega arith) (m h) in
+        (k, omega arith, e)
+
+    step-back : (i j n m : ℕ) → i < L .parts → StepBy (numbered L) (partOf (L .tree)) (leafAt L) (listed (L .next)) (L .parts) Marked (partOf (L .tree) i) i n j m → Marked j m → Marked i n
+    step-back i j n m l s b h = go (partOf (L .tree) i) refl s
+      where
+        own : (p : Part) → partOf (L .tree) i ≡ p → (c : ℕ) → Child p c → c ≤ L .parts
+        own p e c y = let z = f .query .before i c l (subst (λ q. Child q c) (sym e) y) in omega arith
+
+        up : (c : ℕ) → c ≤ L .parts → Marked c n → Passed queue head n c
+        up c r x = passed c n r h x
+
+        here : (j ≡ j) → n ≡ m → Marked j n
+        here e p = subst (λ x. Marked j x) (sym p) b
+
+        by : (p : Part) → partOf (L .tree) i ≡ p → Led (Passed queue head n) (getD (L .next) i 0) p → getD table (i * 1024 + n) 0 ≡ 1
+        by p e x = g .turned i n l h (subst (λ q. Led (Passed queue head n) (getD (L .next) i 0) q) (sym e) x)
+
+        after : (j ≡ getD (L .next) i 0) → n ≡ m → Passed queue head n (getD (L .next) i 0)
+        after q p = up (getD (L .next) i 0) (f .query .onward i l) (subst (λ x. Marked x n) q (here refl p))
+
+        go : (p : Part) → partOf (L .tree) i ≡ p → StepBy (numbered L) (partOf (L .tree)) (leafAt L) (listed (L .next)) (L .parts) Marked p i n j m → getD table (i * 1024 + n) 0 ≡ 1
+        go leaf e (q, x) =
+            let d = leaf-to (f .graph) (leaf-says L i n m (leaf-kind f i l e) x) in
+            let z = f .graph .few-nodes in
+            let (k, r, w) = passed (getD (L .next) i 0) m (f .query .onward i l) d (subst (λ y. Marked y m) q b) in
+            g .led k r i n l e (sym (state-part (getD (L .next) i 0) m (getD queue k 0) (omega arith) w)) (subst (λ y. Joins (numbered L) (leafAt L i) n y) (sym (state-node (getD (L .next) i 0) m (getD queue k 0) (omega arith) w)) x)
+        go (test c) e (q, p, x) = by (test c) e (up c (own (test c) e c refl) x, after q p)
+        go (repeat c) e (p, inl (q, x)) = by (repeat c) e (inl (after q p))
+        go (repeat c) e (p, inr q) = by (repeat c) e (inr (up c (own (repeat c) e c refl) (subst (λ x. Marked x n) q (here refl p))))
+        go (chain c d) e (p, q) = by (chain c d) e (up c (own (chain c d) e c (inl refl)) (subst (λ x. Marked x n) q (here refl p)))
+        go (either c d) e (p, inl q) = by (either c d) e (inl (up c (own (either c d) e c (inl refl)) (subst (λ x. Marked x n) q (here refl p))))
+        go (either c d) e (p, inr q) = by (either c d) e (inr (up d (own (either c d) e d (inr refl)) (subst (λ x. Marked x n) q (here refl p))))
+
+    saturated : Saturated (numbered L) (partOf (L .tree)) (leafAt L) (listed (L .next)) (L .parts) Marked
+    saturated = record { ends = g .ends; back = λ i j n m s b. step-back i j n m (s .0) (s .1) b }
+
+    pub grow-done : Living L table
+    grow-done = record {
+      long = g .marks .long;
+      alive = λ i n l h. (
+        (λ e. alive-at f table (g .sound) n i h l e),
+        (λ a. alive-least (numbered L) (partOf (L .tree)) (leafAt L) (listed (L .next)) (L .parts) Marked saturated a h),
+      );
+    }
+
+-- ---- whether the root is alive somewhere
+
+pub some-yes : {L : Lists} {table : List ℕ} → 0 < L .parts → Living L table → (r : Bool) → SomeAt r table (L .nodes) (L .parts - 1) → Yes r L
+some-yes {L} p v true (n, l, e) = (n, l, v .alive (L .parts - 1) n (omega arith) l .0 e)
+some-yes {L} p v false none = λ n l a. none n l (v .alive (L .parts - 1) n (omega arith) l .1 a)

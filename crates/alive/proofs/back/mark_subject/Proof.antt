@@ -1,0 +1,30 @@
+-- `alive::back::mark_subject` meets its contract. Assumes nothing.
+use borrow.Author.Needs.{needs}
+use borrow.Author.Tests.{not-false}
+use mathlib.Core.Path.{sym, _∙_}
+use mir.Facts.{fits-widen}
+use native.Mathlib.Omega.{arith}
+use Rattle.alive.proofs.Backward.{subject-none, subject-one}
+use Rattle.alive.proofs.back.mark_subject.Statement.{statement}
+use Rattle.alive.proofs.back.mark_subject.Tie as tie
+
+pub mark-subject-spec : {M : Type 1} → statement M
+mark-subject-spec =
+    tie.close
+    (tie.spec
+    (λ c. search needs)  -- mul-takes-predicate
+    (λ c. search needs)  -- add-takes-predicate
+    (λ c. search needs)  -- mul-takes-predicate-2
+    (λ c. search needs)  -- shared-slice-read-takes-predicate
+    (λ c κs. search needs)  -- takes-predicate-requires
+    (λ c. subject-none (c .before .takes-predicate .result) (c .if1 .taken) (c .before .takes-predicate .ensures) (c .before .before .before .before .before .before .pre .1 .1 .1))  -- returns
+    (λ c. search needs)  -- mul-subject
+    (λ c. search needs)  -- mul-subject-2
+    (λ c. search needs)  -- shared-slice-read-subject
+    (λ c. fits-widen tt (c .shared-slice-known3 .given _))  -- cast-subject
+    (λ c. search needs)  -- mul-mark
+    (λ c. search needs)  -- add-mark
+    (λ c κs. (omega arith, c .before .before .before .before .before .before .before .before .before .pre .1 .1 .1))  -- mark-requires
+    (λ c. search needs)  -- same-length
+    (λ c. search needs)  -- same-length-2
+    (λ c. subject-one (sym (c .before .before .before .before .before .before .before .before .before .takes-predicate .ensures) ∙ not-false (c .before .before .before .before .before .before .before .before .before .takes-predicate .result) (c .before .before .before .before .before .before .before .before .if1 .left)) (c .before .before .before .before .mark .ensures)))  -- returns-2

@@ -1,0 +1,5 @@
+pub mod Lists
+pub mod Fits
+pub mod Worklist
+pub mod Steps
+pub mod Living

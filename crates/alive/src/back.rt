@@ -1,0 +1,168 @@
+// The states from which a step leads to one.
+ghost use lib.ListN.{getD, length};
+ghost use mathlib.Core.Path.{_≡_};
+ghost use Prim.Native.Nat.{_*_, _+_, _<_, _≤_};
+ghost use Rattle.alive.specs.Steps.{At, Chain, LeafBack, PartBack, PartReady, SubjectAt, SubjectOn, Turns, takes};
+ghost use Rattle.alive.specs.Worklist.{AddsOnly, Table, states};
+ghost use Rattle.index.specs.Triples.{subjectOf};
+ghost use Rattle.walk.specs.Parts.{partOf};
+use crate::PLACES;
+use crate::marks::mark;
+use query::kinds;
+
+// Whether a step of this kind takes the predicate.
+pub fn takes_predicate(kind: usize, want: u16, predicate: u16) -> bool
+    ensures { λ r. ⌜ r ≡ takes kind want predicate ⌝ }
+{
+    kind == kinds::ANY_STEP || predicate == want
+}
+
+// Marks the part i at the subject of the triple k, if the step takes it.
+fn mark_subject(
+    triples: &[u16],
+    k: usize,
+    kind: usize,
+    want: u16,
+    i: usize,
+    alive: &mut [u8],
+    queue: &mut [u32],
+    tail: usize,
+) -> usize
+    requires { ⌜ (k * 3 + 3 ≤ length (now triples)) × ((subjectOf (now triples) k < 1024) × ((i < 256) × Table 1 states (now alive) (now queue) tail)) ⌝ }
+    ensures { λ r. ⌜ AddsOnly 1 states (SubjectAt (now (triples .entry)) k kind want i) (now (alive .entry)) (now (queue .entry)) tail (now (alive .exit)) (now (queue .exit)) r ⌝ }
+{
+    if !takes_predicate(kind, want, triples[k * 3 + 1]) {
+        return tail;
+    }
+    let subject = triples[k * 3] as usize;
+    mark(i * PLACES + subject, alive, queue, tail)
+}
+
+// Marks the part i at the subjects of the triples of a chain, which begins at x, that the step takes.
+fn mark_subjects(
+    triples: &[u16],
+    earlier: &[u16],
+    x: usize,
+    kind: usize,
+    want: u16,
+    i: usize,
+    alive: &mut [u8],
+    queue: &mut [u32],
+    tail: usize,
+) -> usize
+    requires { ⌜ Chain (now triples) (now earlier) x × ((i < 256) × Table 1 states (now alive) (now queue) tail) ⌝ }
+    ensures { λ r. ⌜ AddsOnly 1 states (SubjectOn (now (triples .entry)) (now (earlier .entry)) x kind want i) (now (alive .entry)) (now (queue .entry)) tail (now (alive .exit)) (now (queue .exit)) r ⌝ }
+{
+    let mut end = tail;
+    let mut at = x;
+    while 0 < at {
+        end = mark_subject(triples, at - 1, kind, want, i, alive, queue, end);
+        at = earlier[at - 1] as usize;
+    }
+    end
+}
+
+// Marks the leaf i, of this kind, at the nodes from which it leads to m; a chain from x has the triples that end at m.
+fn mark_leaf(
+    triples: &[u16],
+    earlier: &[u16],
+    x: usize,
+    kind: usize,
+    want: u16,
+    i: usize,
+    m: usize,
+    alive: &mut [u8],
+    queue: &mut [u32],
+    tail: usize,
+) -> usize
+    requires { ⌜ Chain (now triples) (now earlier) x × (((i < 256) × (m < 1024)) × Table 1 states (now alive) (now queue) tail) ⌝ }
+    ensures { λ r. ⌜ AddsOnly 1 states (LeafBack (now (triples .entry)) (now (earlier .entry)) x kind want i m) (now (alive .entry)) (now (queue .entry)) tail (now (alive .exit)) (now (queue .exit)) r ⌝ }
+{
+    if kind == kinds::STAY {
+        return mark(i * PLACES + m, alive, queue, tail);
+    }
+    if kind < kinds::AT_IRI {
+        return mark_subjects(triples, earlier, x, kind, want, i, alive, queue, tail);
+    }
+    if kinds::NESTED <= kind {
+        return tail;
+    }
+    if want as usize != m {
+        return tail;
+    }
+    mark(i * PLACES + m, alive, queue, tail)
+}
+
+// Whether the part i, which has parts, is alive at m by what is marked there.
+fn turns_alive(tree: &[u32], next: &[u16], i: usize, m: usize, alive: &[u8]) -> bool
+    requires { ⌜ PartReady (now tree) (now next) i × ((m < 1024) × (states ≤ length (now alive))) ⌝ }
+    ensures { λ r. ⌜ Turns r (At (now (alive .entry)) m) (getD (now (next .entry)) i 0) (partOf (now (tree .entry)) i) ⌝ }
+{
+    let part = tree[i] as usize;
+    let kind = part / 65536;
+    if kind < kinds::NESTED {
+        return false;
+    }
+    let left = part / 256 % 256;
+    let body = alive[(i - 1) * PLACES + m];
+    let after = alive[next[i] as usize * PLACES + m];
+    let first = alive[left * PLACES + m];
+    if kind == kinds::NESTED {
+        if body != 1 {
+            return false;
+        }
+        return after == 1;
+    }
+    if kind == kinds::STAR {
+        if after == 1 {
+            return true;
+        }
+        return body == 1;
+    }
+    if first == 1 {
+        return true;
+    }
+    if kind == kinds::SEQUENCE {
+        return false;
+    }
+    body == 1
+}
+
+// Marks the part i at each node from which it leads to (j, m), or at m, if its own parts make it alive there.
+pub fn mark_part(
+    triples: &[u16],
+    earlier: &[u16],
+    last: &[u16],
+    tree: &[u32],
+    next: &[u16],
+    wanted: &[u16],
+    i: usize,
+    j: usize,
+    m: usize,
+    alive: &mut [u8],
+    queue: &mut [u32],
+    tail: usize,
+) -> usize
+    requires { ⌜ (Chain (now triples) (now earlier) (getD (now last) m 0) × (1024 ≤ length (now last))) × ((PartReady (now tree) (now next) i × (i < length (now wanted))) × ((m < 1024) × Table 1 states (now alive) (now queue) tail)) ⌝ }
+    ensures { λ r. ⌜ AddsOnly 1 states (PartBack (now (triples .entry)) (now (earlier .entry)) (now (last .entry)) (now (tree .entry)) (now (next .entry)) (now (wanted .entry)) (now (alive .entry)) i j m) (now (alive .entry)) (now (queue .entry)) tail (now (alive .exit)) (now (queue .exit)) r ⌝ }
+{
+    if turns_alive(tree, next, i, m, &alive[..]) {
+        return mark(i * PLACES + m, alive, queue, tail);
+    }
+    if next[i] as usize != j {
+        return tail;
+    }
+    let kind = tree[i] as usize / 65536;
+    mark_leaf(
+        triples,
+        earlier,
+        last[m] as usize,
+        kind,
+        wanted[i],
+        i,
+        m,
+        alive,
+        queue,
+        tail,
+    )
+}

@@ -1,0 +1,133 @@
+// The states of a query over a graph in number lists from which the end is reached, found backward from the ends.
+mod marks; // a state is marked once
+pub mod back; // the states from which a step leads to one
+
+ghost use lib.ListN.{getD, length};
+ghost use mathlib.Core.Path.{_≡_};
+ghost use Prim.Native.Nat.{_%_, _*_, _+_, _-_, _/_, _<_, _≤_};
+ghost use Rattle.alive.specs.Fits.{Fits};
+ghost use Rattle.alive.specs.Lists.{lists};
+ghost use Rattle.alive.specs.Living.{Living, SomeAt};
+ghost use Rattle.alive.specs.Steps.{AllAlive, BackTo, EndAt, StateAlive};
+ghost use Rattle.alive.specs.Worklist.{Adds, AddsOnly, Table, Unmarked, states};
+ghost use Rattle.index.specs.Index.{ByObject};
+use crate::back::mark_part;
+use crate::marks::mark;
+
+// How many nodes, triples and parts there are.
+pub struct Sizes {
+    pub nodes: usize,
+    pub edges: usize,
+    pub parts: usize,
+}
+
+// The nodes of a part's states, and the states of all parts and the end.
+pub const PLACES: usize = 1024;
+
+pub const STATES: usize = 263168;
+
+// Marks the end at every node.
+fn mark_ends(nodes: usize, parts: usize, alive: &mut [u8], queue: &mut [u32]) -> usize
+    requires { ⌜ ((nodes ≤ 1024) × (parts ≤ 256)) × Unmarked 1 states (now alive) (now queue) ⌝ }
+    ensures { λ r. ⌜ AddsOnly 1 states (EndAt nodes parts) (now (alive .entry)) (now (queue .entry)) 0 (now (alive .exit)) (now (queue .exit)) r ⌝ }
+{
+    let mut tail = 0;
+    let mut n = 0;
+    while n < nodes {
+        tail = mark(parts * PLACES + n, alive, queue, tail);
+        n += 1;
+    }
+    tail
+}
+
+// Marks each state that the state s makes alive.
+fn mark_back(
+    sizes: Sizes,
+    triples: &[u16],
+    earlier: &[u16],
+    last: &[u16],
+    tree: &[u32],
+    next: &[u16],
+    wanted: &[u16],
+    s: usize,
+    alive: &mut [u8],
+    queue: &mut [u32],
+    tail: usize,
+) -> usize
+    requires { ⌜ (Fits (lists sizes (now triples) (now tree) (now next) (now wanted)) × ByObject (now triples) (sizes .edges) (now last) (now earlier)) × ((AllAlive (lists sizes (now triples) (now tree) (now next) (now wanted)) (now alive) × ((s < states) × (getD (now alive) s 0 ≡ 1))) × Table 1 states (now alive) (now queue) tail) ⌝ }
+    ensures { λ r. ⌜ Adds 1 states (StateAlive (lists sizes (now (triples .entry)) (now (tree .entry)) (now (next .entry)) (now (wanted .entry)))) (BackTo (lists sizes (now (triples .entry)) (now (tree .entry)) (now (next .entry)) (now (wanted .entry))) (now (alive .entry)) s) (now (alive .entry)) (now (queue .entry)) tail (now (alive .exit)) (now (queue .exit)) r ⌝ }
+{
+    let j = s / PLACES;
+    let m = s % PLACES;
+    let mut end = tail;
+    let mut i = 0;
+    while i < sizes.parts {
+        end = mark_part(
+            triples,
+            earlier,
+            last,
+            tree,
+            next,
+            wanted,
+            i,
+            j,
+            m,
+            alive,
+            queue,
+            end,
+        );
+        i += 1;
+    }
+    end
+}
+
+// Marks the states from which the end is reached.
+pub fn mark_alive(
+    sizes: Sizes,
+    triples: &[u16],
+    earlier: &[u16],
+    last: &[u16],
+    tree: &[u32],
+    next: &[u16],
+    wanted: &[u16],
+    alive: &mut [u8],
+    queue: &mut [u32],
+)
+    requires { ⌜ (Fits (lists sizes (now triples) (now tree) (now next) (now wanted)) × ByObject (now triples) (sizes .edges) (now last) (now earlier)) × Unmarked 1 states (now alive) (now queue) ⌝ }
+    ensures { λ _. ⌜ Living (lists sizes (now (triples .entry)) (now (tree .entry)) (now (next .entry)) (now (wanted .entry))) (now (alive .exit)) ⌝ }
+{
+    let mut tail = mark_ends(sizes.nodes, sizes.parts, alive, queue);
+    let mut head = 0;
+    while head < tail {
+        let s = queue[head] as usize;
+        tail = mark_back(
+            sizes,
+            triples,
+            earlier,
+            last,
+            tree,
+            next,
+            wanted,
+            s,
+            alive,
+            queue,
+            tail,
+        );
+        head += 1;
+    }
+}
+
+// Whether the root is marked at some node.
+pub fn some_alive(nodes: usize, parts: usize, alive: &[u8]) -> bool
+    requires { ⌜ ((nodes ≤ 1024) × ((0 < parts) × (parts ≤ 256))) × (states ≤ length (now alive)) ⌝ }
+    ensures { λ r. ⌜ SomeAt r (now (alive .entry)) nodes (parts - 1) ⌝ }
+{
+    let mut n = 0;
+    while n < nodes {
+        if alive[(parts - 1) * PLACES + n] == 1 {
+            return true;
+        }
+        n += 1;
+    }
+    false
+}

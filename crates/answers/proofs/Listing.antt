@@ -1,0 +1,266 @@
+-- Listing the pairs in ascending order, start by start. Assumes nothing.
+use borrow.Author.Tests.{eq-eqb, ne-eqb}
+use lib.ListN.{getD, length, length-append, set, take}
+use lib.Seq.{length-take-le, take-suc-set}
+use mathlib.Core.List.{List, List·Memᴰ·append-cases, Memᴰ·append-left, Memᴰ·append-right, [], append-assoc, append-nil, _++_, _∷_}
+use mathlib.Core.Logic.{⊎-elim, _≢_, _⊎_}
+use mathlib.Core.Path.{ap, refl, subst, sym, _∙_, _≡_}
+use native.Mathlib.Decide.{decLt, ℕ-discrete}
+use native.Mathlib.Numerals.{add-one}
+use native.Mathlib.Omega.{arith}
+use Prim.Native.Nat.{suc, zero, ℕ, _*_, _+_, _-_, _<_, _≤_}
+use Rattle.alive.specs.Fits.{Fits}
+use Rattle.alive.specs.Lists.{AliveIn, Lists, ReachedIn, leafAt, numbered}
+use Rattle.alive.specs.Living.{Living}
+use Rattle.answers.specs.Answers.{EndsAre, ListedBelow, ListedUpTo, PairIn, PairsAre, Walked, endsFrom}
+use Rattle.answers.specs.declared.pairs.Pairs.{Pairs}
+use Rattle.answers.specs.declared.pairs.Pairs.the-variants.{Listed, TooMany}
+use Rattle.meaning.specs.Limits.{maxPairs}
+use Rattle.meaning.specs.Member.{here, there, _∈_}
+use Rattle.meaning.specs.Ordered.{InOrder, ListOf, Over, before, empty}
+use Rattle.walk.proofs.Alive.{alive-saturated}
+use Rattle.walk.specs.Parts.{listed, partOf}
+use Rattle.walk.specs.Walk.{ended, onward, start}
+
+-- ---- one start, end by end
+
+module _ (seen : List ℕ) (row stamp base : ℕ) where
+  ends-hit : (e f : ℕ) → getD seen (row + e) 0 ≡ stamp → endsFrom seen row stamp base e (suc f) ≡ (base + e) ∷ endsFrom seen row stamp base (suc e) f
+  unfolding endsFrom
+  ends-hit e f h = rw (eq-eqb (getD seen (row + e) 0) stamp h)
+
+  ends-miss : (e f : ℕ) → (getD seen (row + e) 0 ≡ stamp → ⊥) → endsFrom seen row stamp base e (suc f) ≡ endsFrom seen row stamp base (suc e) f
+  unfolding endsFrom
+  ends-miss e f h = rw (ne-eqb (getD seen (row + e) 0) stamp h)
+
+  ends-none : (e : ℕ) → endsFrom seen row stamp base e 0 ≡ []
+  unfolding endsFrom
+  ends-none e = refl
+
+-- What is listed, and what is still to come from the end e on.
+pub record Ends (seen : List ℕ) (row stamp base named : ℕ) (pairs₀ : List ℕ) (k₀ : ℕ) (pairs : List ℕ) (k e : ℕ) : Type 0 where
+  pub within : e ≤ named
+  pub few : k ≤ maxPairs
+  pub are : take k pairs ++ endsFrom seen row stamp base e (named - e) ≡ take k₀ pairs₀ ++ endsFrom seen row stamp base 0 named
+
+module _ {seen : List ℕ} {row stamp base named : ℕ} {pairs₀ : List ℕ} {k₀ : ℕ} where
+  pub ends-start : k₀ ≤ maxPairs → Ends seen row stamp base named pairs₀ k₀ pairs₀ k₀ 0
+  ends-start l = record { within = omega arith; few = l; are = let e : named - 0 ≡ named = omega arith in ap (λ x. take k₀ pairs₀ ++ endsFrom seen row stamp base 0 x) e }
+
+  module _ {pairs : List ℕ} {k e : ℕ} (s : Ends seen row stamp base named pairs₀ k₀ pairs k e) where
+    left-over : e < named → named - e ≡ suc (named - (e + 1))
+    left-over l = omega arith
+
+    pub ends-skip : e < named → (getD seen (row + e) 0 ≡ stamp → ⊥) → Ends seen row stamp base named pairs₀ k₀ pairs k (e + 1)
+    ends-skip l h = record {
+      within = omega arith;
+      few = s .few;
+      are =
+          ap (λ x. take k pairs ++ endsFrom seen row stamp base x (named - (e + 1))) (add-one e)
+          ∙ ap (λ x. take k pairs ++ x) (sym (ends-miss seen row stamp base e (named - (e + 1)) h))
+          ∙ ap (λ x. take k pairs ++ endsFrom seen row stamp base e x) (sym (left-over l))
+          ∙ s .are;
+    }
+
+    pub ends-add : e < named → k < maxPairs → k < length pairs → getD seen (row + e) 0 ≡ stamp → Ends seen row stamp base named pairs₀ k₀ (set pairs k (base + e)) (k + 1) (e + 1)
+    ends-add l g r h = record {
+      within = omega arith;
+      few = omega arith;
+      are =
+          ap (λ x. take x (set pairs k (base + e)) ++ endsFrom seen row stamp base (e + 1) (named - (e + 1))) (add-one k)
+          ∙ ap (λ x. take (suc k) (set pairs k (base + e)) ++ endsFrom seen row stamp base x (named - (e + 1))) (add-one e)
+          ∙ ap (λ x. x ++ endsFrom seen row stamp base (suc e) (named - (e + 1))) (take-suc-set pairs k (base + e) r)
+          ∙ append-assoc (take k pairs) ((base + e) ∷ []) (endsFrom seen row stamp base (suc e) (named - (e + 1)))
+          ∙ ap (λ x. take k pairs ++ x) (sym (ends-hit seen row stamp base e (named - (e + 1)) h))
+          ∙ ap (λ x. take k pairs ++ endsFrom seen row stamp base e x) (sym (left-over l))
+          ∙ s .are;
+    }
+
+    pub ends-over : e < named → k ≡ maxPairs → maxPairs ≤ length pairs → getD seen (row + e) 0 ≡ stamp → maxPairs < length (take k₀ pairs₀ ++ endsFrom seen row stamp base 0 named)
+    ends-over l g r h =
+        let a : take k pairs ++ ((base + e) ∷ endsFrom seen row stamp base (suc e) (named - (e + 1))) ≡ take k₀ pairs₀ ++ endsFrom seen row stamp base 0 named
+        = ap (λ x. take k pairs ++ x) (sym (ends-hit seen row stamp base e (named - (e + 1)) h)) ∙ ap (λ x. take k pairs ++ endsFrom seen row stamp base e x) (sym (left-over l)) ∙ s .are in
+        let b = ap length a in
+        let c = length-append (take k pairs) ((base + e) ∷ endsFrom seen row stamp base (suc e) (named - (e + 1))) in
+        let d = length-take-le k pairs (omega arith) in
+        omega arith
+
+    pub ends-done : named ≤ e → take k pairs ≡ take k₀ pairs₀ ++ endsFrom seen row stamp base 0 named
+    ends-done l =
+        let z : named - e ≡ 0 = omega arith in
+        sym (append-nil (take k pairs)) ∙ ap (λ x. take k pairs ++ x) (sym (ends-none seen row stamp base e)) ∙ ap (λ x. take k pairs ++ endsFrom seen row stamp base e x) (sym z) ∙ s .are
+
+-- ---- what is in that list
+
+module _ (seen : List ℕ) (row stamp base : ℕ) where
+  -- a number of the list, by the end that it is of
+  pub record EndIn (e f x : ℕ) : Type 0 where
+    pub end : ℕ
+    pub from : e ≤ end
+    pub upto : end < e + f
+    pub stamped : getD seen (row + end) 0 ≡ stamp
+    pub number : x ≡ base + end
+
+  later : {e f x : ℕ} → EndIn (suc e) f x → EndIn e (suc f) x
+  later r = let a = r .from in let b = r .upto in record { end = r .end; from = omega arith; upto = omega arith; stamped = r .stamped; number = r .number }
+
+  in-ends : (f e x : ℕ) → x ∈ endsFrom seen row stamp base e f → EndIn e f x
+  in-ends zero e x m = absurd (none (subst (λ xs. x ∈ xs) (ends-none seen row stamp base e) m))
+    where
+      none : x ∈ [] → ⊥
+      none y = elim y [ ]
+  in-ends (suc f) e x m = go (ℕ-discrete (getD seen (row + e) 0) stamp) (in-ends f (suc e) x)
+    where
+      hit : getD seen (row + e) 0 ≡ stamp → (x ∈ endsFrom seen row stamp base (suc e) f → EndIn (suc e) f x) → x ∈ ((base + e) ∷ endsFrom seen row stamp base (suc e) f) → EndIn e (suc f) x
+      hit h rec (here p) = record { end = e; from = omega arith; upto = omega arith; stamped = h; number = p }
+      hit h rec (there n) = later (rec n)
+
+      go : Dec (getD seen (row + e) 0 ≡ stamp) → (x ∈ endsFrom seen row stamp base (suc e) f → EndIn (suc e) f x) → EndIn e (suc f) x
+      go (yes h) rec = hit h rec (subst (λ xs. x ∈ xs) (ends-hit seen row stamp base e f h) m)
+      go (no h) rec = later (rec (subst (λ xs. x ∈ xs) (ends-miss seen row stamp base e f h) m))
+
+  into-ends : (f e x : ℕ) → EndIn e f x → x ∈ endsFrom seen row stamp base e f
+  into-ends zero e x r = absurd (let a = r .from in let b = r .upto in omega arith)
+  into-ends (suc f) e x r = go (ℕ-discrete (getD seen (row + e) 0) stamp) (ℕ-discrete (r .end) e) (λ n. into-ends f (suc e) x (rest n))
+    where
+      rest : (r .end ≡ e → ⊥) → EndIn (suc e) f x
+      rest n = let a = r .from in let b = r .upto in record { end = r .end; from = omega arith; upto = omega arith; stamped = r .stamped; number = r .number }
+
+      go : Dec (getD seen (row + e) 0 ≡ stamp) → Dec (r .end ≡ e) → ((r .end ≡ e → ⊥) → x ∈ endsFrom seen row stamp base (suc e) f) → x ∈ endsFrom seen row stamp base e (suc f)
+      go (yes h) (yes p) rec = subst (λ xs. x ∈ xs) (sym (ends-hit seen row stamp base e f h)) (here (r .number ∙ ap (λ y. base + y) p))
+      go (yes h) (no p) rec = subst (λ xs. x ∈ xs) (sym (ends-hit seen row stamp base e f h)) (there (rec p))
+      go (no h) (yes p) rec = absurd (h (ap (λ y. getD seen (row + y) 0) (sym p) ∙ r .stamped))
+      go (no h) (no p) rec = subst (λ xs. x ∈ xs) (sym (ends-miss seen row stamp base e f h)) (rec p)
+
+  ends-ascend : (f e : ℕ) → InOrder _<_ (endsFrom seen row stamp base e f)
+  ends-ascend zero e = subst (InOrder _<_) (sym (ends-none seen row stamp base e)) empty
+  ends-ascend (suc f) e = go (ℕ-discrete (getD seen (row + e) 0) stamp) (ends-ascend f (suc e))
+    where
+      go : Dec (getD seen (row + e) 0 ≡ stamp) → InOrder _<_ (endsFrom seen row stamp base (suc e) f) → InOrder _<_ (endsFrom seen row stamp base e (suc f))
+      go (yes h) rec = subst (InOrder _<_) (sym (ends-hit seen row stamp base e f h)) (before (λ y m. let r = in-ends f (suc e) y m in let a = r .from in let b = r .number in omega arith) rec)
+      go (no h) rec = subst (InOrder _<_) (sym (ends-miss seen row stamp base e f h)) rec
+
+-- ---- lists of a set, piece by piece
+
+append-order : (xs ys : List ℕ) → InOrder _<_ xs → InOrder _<_ ys → ((x y : ℕ) → x ∈ xs → y ∈ ys → x < y) → InOrder _<_ (xs ++ ys)
+append-order [] ys a b h = b
+append-order (x ∷ xs) ys (before p a) b h =
+    before (λ y m. ⊎-elim (λ n. p y n) (λ n. h x y (here refl) n) (List·Memᴰ·append-cases xs m)) (append-order xs ys a b (λ z y m n. h z y (there m) n))
+
+apart : (x y : ℕ) → x < y → x ≢ y
+apart x y l e = omega arith
+
+differ : (xs : List ℕ) → InOrder _<_ xs → InOrder _≢_ xs
+differ [] a = empty
+differ (x ∷ xs) (before p a) = before (λ y m. apart x y (p y m)) (differ xs a)
+
+module _ (Q : ℕ → Type 0) where
+  abbrev Below : ℕ → ℕ → Type 0
+  Below b x = Q x × (x < b)
+
+  -- Nothing is below 0, and the rest is added from b up to c.
+  list-none : ListOf _<_ (Below 0) []
+  list-none = record { ascending = empty; members = λ x. ((λ m. elim m [ ]), (λ (q, l). absurd (omega arith))) }
+
+  list-append : {b c : ℕ} {xs ys : List ℕ} → b ≤ c → ListOf _<_ (Below b) xs → InOrder _<_ ys → ((x : ℕ) → x ∈ ys → Q x × (b ≤ x) × (x < c)) → ((x : ℕ) → Q x → b ≤ x → x < c → x ∈ ys) → ListOf _<_ (Below c) (xs ++ ys)
+  list-append {b} {c} {xs} {ys} h l up sound complete = record {
+    ascending = append-order xs ys (l .ascending) up (λ x y m n. let p = l .members x .0 m .1 in let q = sound y n .1 in omega arith);
+    members = λ x. ((λ m. ⊎-elim (λ n. let p = l .members x .0 n in let g = p .1 in (p .0, omega arith)) (λ n. let p = sound x n in (p .0, p .2)) (List·Memᴰ·append-cases xs m)), (λ (q, g). back x q g (decLt x b)));
+  }
+    where
+      back : (x : ℕ) → Q x → x < c → Dec (x < b) → x ∈ (xs ++ ys)
+      back x q g (yes n) = Memᴰ·append-left ys (l .members x .1 (q, n))
+      back x q g (no n) = Memᴰ·append-right xs (complete x q (omega arith) g)
+
+  list-skip : {b c : ℕ} {xs : List ℕ} → b ≤ c → ListOf _<_ (Below b) xs → ((x : ℕ) → Q x → b ≤ x → x < c → ⊥) → ListOf _<_ (Below c) xs
+  list-skip {b} {c} {xs} h l none = record {
+    ascending = l .ascending;
+    members = λ x. ((λ m. let p = l .members x .0 m in let g = p .1 in (p .0, omega arith)), (λ (q, g). back x q g (decLt x b)));
+  }
+    where
+      back : (x : ℕ) → Q x → x < c → Dec (x < b) → x ∈ xs
+      back x q g (yes n) = l .members x .1 (q, n)
+      back x q g (no n) = absurd (none x q (omega arith) g)
+
+  list-over : {c : ℕ} {k : ℕ} {xs : List ℕ} → ListOf _<_ (Below c) xs → k < length xs → Over k Q
+  list-over {c} {k} {xs} l h = record { some = xs; differ = differ xs (l .ascending); members = λ x m. l .members x .0 m .0; over = h }
+
+-- ---- the pairs
+
+module _ {L : Lists} (f : Fits L) {named : ℕ} (fit : named ≤ L .nodes) where
+  pub listed-start : {pairs : List ℕ} → ListedBelow L named 0 pairs 0
+  listed-start = record { few = omega arith; are = list-none (PairIn L named) }
+
+  -- the pair that a number in the range of a start is
+  from-start : {x v : ℕ} → (p : PairIn L named x) → v * 1024 ≤ x → x < (v + 1) * 1024 → p .from ≡ v
+  from-start p l h = let q = f .graph .few-nodes in let a = p .number in let b = p .to-named in omega arith
+
+  -- Where an end is reached from the root, the root is alive.
+  reached-alive : {v i n : ℕ} → ReachedIn L v i n → AliveIn L i n → AliveIn L (L .parts - 1) v
+  reached-alive start a = a
+  reached-alive (onward {j = j} {k = k} {m = m} {o = o} r s) a = reached-alive r (alive-saturated (numbered L) (partOf (L .tree)) (leafAt L) (listed (L .next)) (L .parts) .back j k m o s a)
+
+  -- A start at which the root is not alive has no pair.
+  pub listed-dead : {pairs table : List ℕ} {v k : ℕ} → Living L table → v < named → (getD table ((L .parts - 1) * 1024 + v) 0 ≡ 1 → ⊥) → ListedBelow L named (v * 1024) pairs k → ListedBelow L named ((v + 1) * 1024) pairs k
+  listed-dead {v = v} t l dead b = record { few = b .few; are = list-skip (PairIn L named) (omega arith) (b .are) none }
+    where
+      none : (x : ℕ) → PairIn L named x → v * 1024 ≤ x → x < (v + 1) * 1024 → ⊥
+      none x p g h =
+          let e = from-start p g h in
+          let s = f .query .some in
+          dead (t .alive (L .parts - 1) v (omega arith) (omega arith) .1 (reached-alive (subst (λ y. ReachedIn L y (L .parts) (p .to)) e (p .reached)) ended))
+
+  module _ {v stamp : ℕ} {seen : List ℕ} (w : Walked L v stamp seen) (l : v < named) where
+    abbrev ends : List ℕ
+    ends = endsFrom seen (L .parts * 1024) stamp (v * 1024) 0 named
+
+    sound : (x : ℕ) → x ∈ ends → PairIn L named x × (v * 1024 ≤ x) × (x < (v + 1) * 1024)
+    sound x m =
+        let r = in-ends seen (L .parts * 1024) stamp (v * 1024) named 0 x m in
+        let a = r .upto in
+        let b = r .number in
+        let q = f .graph .few-nodes in (
+          record {
+            from = v;
+            to = r .end;
+            from-named = l;
+            to-named = omega arith;
+            reached = w .reached (L .parts) (r .end) (omega arith) (omega arith) .0 (r .stamped);
+            number = b;
+          },
+          omega arith,
+          omega arith,
+        )
+
+    complete : (x : ℕ) → PairIn L named x → v * 1024 ≤ x → x < (v + 1) * 1024 → x ∈ ends
+    complete x p g h =
+        let e = from-start p g h in
+        let a = p .to-named in
+        let b = p .number in
+        into-ends seen (L .parts * 1024) stamp (v * 1024) named 0 x (record {
+          end = p .to;
+          from = omega arith;
+          upto = omega arith;
+          stamped = w .reached (L .parts) (p .to) (omega arith) (omega arith) .1 (subst (λ y. ReachedIn L y (L .parts) (p .to)) e (p .reached));
+          number = b ∙ ap (λ y. y * 1024 + p .to) e;
+        })
+
+    added : {xs : List ℕ} → ListOf _<_ (λ x. PairIn L named x × (x < v * 1024)) xs → ListOf _<_ (λ x. PairIn L named x × (x < (v + 1) * 1024)) (xs ++ ends)
+    added b = list-append (PairIn L named) (omega arith) b (ends-ascend seen (L .parts * 1024) stamp (v * 1024) named 0) sound complete
+
+    -- The pairs of one start more.
+    pub listed-from : {pairs : List ℕ} (pairs′ : List ℕ) {k : ℕ} (r : Pairs) → ListedBelow L named (v * 1024) pairs k → EndsAre r (endsFrom seen (L .parts * 1024) stamp (v * 1024) 0 named) pairs k pairs′ → ListedUpTo r L named ((v + 1) * 1024) pairs′
+    listed-from pairs′ (Listed n) b (h, e) = record { few = h; are = subst (ListOf _<_ (λ x. PairIn L named x × (x < (v + 1) * 1024))) (sym e) (added (b .are)) }
+    listed-from pairs′ TooMany b h = list-over (PairIn L named) (added (b .are)) h
+
+  pub listed-done : {pairs : List ℕ} {k v : ℕ} → named ≤ v → ListedBelow L named (v * 1024) pairs k → PairsAre (Listed k) L named pairs
+  listed-done {pairs} {k} {v} l b = (
+    b .few,
+    record {
+      ascending = b .are .ascending;
+      members = λ x. ((λ m. b .are .members x .0 m .0), (λ p. b .are .members x .1 (p, low p)));
+    },
+  )
+    where
+      low : {x : ℕ} → PairIn L named x → x < v * 1024
+      low p = let q = f .graph .few-nodes in let a = p .number in let c = p .from-named in let d = p .to-named in omega arith

@@ -1,0 +1,22 @@
+-- `answers::marks::visit` meets its contract. Assumes nothing.
+use borrow.Author.Needs.{needs}
+use Rattle.alive.proofs.Marking.{has-room, mark-new, mark-old}
+use Rattle.answers.proofs.marks.visit.Statement.{statement}
+use Rattle.answers.proofs.marks.visit.Tie as tie
+
+pub visit-spec : {M : Type 1} → statement M
+visit-spec =
+    tie.close
+    (tie.spec
+    (λ c. search needs)  -- mul-if1
+    (λ c. search needs)  -- slice-read-if1
+    (λ c. mark-old (c .before .before .pre .1) (c .before .before .pre .0) (c .if1 .taken))  -- returns
+    (λ c. search needs)  -- mul-seen
+    (λ c. search needs)  -- slice-write-seen
+    (λ c. search needs)  -- cast-queue
+    (λ c. search needs)  -- mul-queue
+    (λ c. has-room (c .before .before .pre .1) (c .before .before .pre .0) (c .if1 .left))  -- slice-write-queue
+    (λ c. search needs)  -- add-result
+    (λ c. search needs)  -- same-length
+    (λ c. search needs)  -- same-length-2
+    (λ c. mark-new (c .before .before .pre .1) (c .before .before .pre .0) (c .if1 .left)))  -- returns-2

@@ -1,0 +1,74 @@
+-- What the evaluation of a query answers, over lists. Assumes nothing.
+use lib.Dec.{eqb}
+use lib.ListN.{getD, length, take}
+use mathlib.Core.Bool.{cond}
+use mathlib.Core.List.{List, [], _++_, _∷_}
+use mathlib.Core.Logic.{_↔_}
+use mathlib.Core.Path.{_≡_}
+use Prim.Native.Nat.{suc, zero, ℕ, _*_, _+_, _-_, _<_, _≤_}
+use Rattle.alive.specs.Fits.{Fits}
+use Rattle.alive.specs.Lists.{Lists, ReachedIn}
+use Rattle.alive.specs.Worklist.{Unmarked, states}
+use Rattle.answers.specs.declared.pairs.Pairs.{Pairs}
+use Rattle.answers.specs.declared.pairs.Pairs.the-variants.{Listed, TooMany}
+use Rattle.index.specs.Index.{ChainReady}
+use Rattle.index.specs.Triples.{SubjectsRise}
+use Rattle.meaning.specs.Limits.{maxPairs}
+use Rattle.meaning.specs.Ordered.{ListOf, Over}
+
+-- The stamp says which states are reached from the root at v. No number is over the stamp.
+pub record Walked (L : Lists) (v stamp : ℕ) (seen : List ℕ) : Type 0 where
+  pub reached : (i n : ℕ) → i ≤ L .parts → n < L .nodes → (getD seen (i * 1024 + n) 0 ≡ stamp) ↔ ReachedIn L v i n
+  pub most : (x : ℕ) → x < states → getD seen x 0 ≤ stamp
+
+-- x is the number of a pair of two of the first `named` nodes, where the end is reached from the root at the start.
+pub record PairIn (L : Lists) (named x : ℕ) : Type 0 where
+  pub from : ℕ
+  pub to : ℕ
+  pub from-named : from < named
+  pub to-named : to < named
+  pub reached : ReachedIn L from (L .parts) to
+  pub number : x ≡ from * 1024 + to
+
+-- ---- listing
+
+-- The numbers base + e, for each of so many e from the first on at which the table, from row on, has the stamp.
+unfoldable pub endsFrom : List ℕ → ℕ → ℕ → ℕ → ℕ → ℕ → List ℕ
+endsFrom seen row stamp base e zero = []
+endsFrom seen row stamp base e (suc f) =
+    cond (eqb (getD seen (row + e) 0) stamp) ((base + e) ∷ endsFrom seen row stamp base (suc e) f) (endsFrom seen row stamp base (suc e) f)
+
+-- xs were added to the k numbers that are listed; or there are too many then.
+abbrev pub EndsAre : Pairs → List ℕ → List ℕ → ℕ → List ℕ → Type 0
+EndsAre (Listed k′) xs pairs k pairs′ = (k′ ≤ maxPairs) × (take k′ pairs′ ≡ take k pairs ++ xs)
+EndsAre TooMany xs pairs k pairs′ = maxPairs < length (take k pairs ++ xs)
+
+-- The pairs with a number below b are listed, k of them.
+pub record ListedBelow (L : Lists) (named b : ℕ) (pairs : List ℕ) (k : ℕ) : Type 0 where
+  pub few : k ≤ maxPairs
+  pub are : ListOf _<_ (λ x. PairIn L named x × (x < b)) (take k pairs)
+
+-- The same, or there are too many pairs.
+abbrev pub ListedUpTo : Pairs → Lists → ℕ → ℕ → List ℕ → Type 0
+ListedUpTo (Listed k) L named b pairs = ListedBelow L named b pairs k
+ListedUpTo TooMany L named b pairs = Over maxPairs (PairIn L named)
+
+-- "Over 4,096 pairs": the pairs are listed, so many; or they are too many.
+abbrev pub PairsAre : Pairs → Lists → ℕ → List ℕ → Type 0
+PairsAre (Listed k) L named pairs = (k ≤ maxPairs) × ListOf _<_ (PairIn L named) (take k pairs)
+PairsAre TooMany L named pairs = Over maxPairs (PairIn L named)
+
+-- ---- what the two calls ask of their lists: working slices that are long enough, and zero where they are read first
+
+pub record YesReady (L : Lists) (last earlier alive queue : List ℕ) : Type 0 where
+  pub fits : Fits L
+  pub chains : ChainReady (L .edges) last earlier
+  pub unmarked : Unmarked 1 states alive queue
+
+pub record PairsReady (L : Lists) (named : ℕ) (first seen pairs : List ℕ) : Type 0 where
+  pub rise : SubjectsRise (L .triples) (L .edges)
+  pub nodes : named ≤ L .nodes
+  pub starts : 1025 ≤ length first
+  pub long : states ≤ length seen
+  pub unseen : (x : ℕ) → x < states → getD seen x 0 ≡ 0
+  pub room : maxPairs ≤ length pairs

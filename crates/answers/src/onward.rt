@@ -1,0 +1,173 @@
+// The states to which a step leads from one.
+ghost use lib.ListN.{getD, length};
+ghost use Prim.Native.Nat.{_*_, _+_, _<_, _≤_};
+ghost use Rattle.alive.specs.Fits.{Fits};
+ghost use Rattle.alive.specs.Lists.{lists};
+ghost use Rattle.alive.specs.Living.{Living};
+ghost use Rattle.alive.specs.Steps.{PartReady};
+ghost use Rattle.alive.specs.Worklist.{AddsOnly, Table, states};
+ghost use Rattle.answers.specs.Steps.{Ahead, LeafOnward, ObjectAt, ObjectIn, PartsOnward, StateIn, StepFrom};
+ghost use Rattle.index.specs.Index.{BySubject};
+ghost use Rattle.index.specs.Triples.{objectOf};
+ghost use Rattle.walk.specs.Parts.{kindOf, partOf};
+use crate::marks::visit;
+use alive::PLACES;
+use alive::Sizes;
+use alive::back::takes_predicate;
+use index::subject_range;
+use query::kinds;
+
+// Visits `to` at the object of the triple k, if the step takes it.
+fn visit_object(
+    triples: &[u16],
+    k: usize,
+    kind: usize,
+    want: u16,
+    to: usize,
+    stamp: u16,
+    seen: &mut [u16],
+    queue: &mut [u32],
+    tail: usize,
+) -> usize
+    requires { ⌜ (k * 3 + 3 ≤ length (now triples)) × ((objectOf (now triples) k < 1024) × ((to ≤ 256) × Table stamp states (now seen) (now queue) tail)) ⌝ }
+    ensures { λ r. ⌜ AddsOnly stamp states (ObjectAt (now (triples .entry)) k kind want to) (now (seen .entry)) (now (queue .entry)) tail (now (seen .exit)) (now (queue .exit)) r ⌝ }
+{
+    if !takes_predicate(kind, want, triples[k * 3 + 1]) {
+        return tail;
+    }
+    let object = triples[k * 3 + 2] as usize;
+    visit(to * PLACES + object, stamp, seen, queue, tail)
+}
+
+// Visits `to` at the objects of the triples from lo up to hi that the step takes.
+fn visit_objects(
+    triples: &[u16],
+    lo: usize,
+    hi: usize,
+    kind: usize,
+    want: u16,
+    to: usize,
+    stamp: u16,
+    seen: &mut [u16],
+    queue: &mut [u32],
+    tail: usize,
+) -> usize
+    requires { ⌜ Ahead (now triples) lo hi × ((to ≤ 256) × Table stamp states (now seen) (now queue) tail) ⌝ }
+    ensures { λ r. ⌜ AddsOnly stamp states (ObjectIn (now (triples .entry)) lo hi kind want to) (now (seen .entry)) (now (queue .entry)) tail (now (seen .exit)) (now (queue .exit)) r ⌝ }
+{
+    let mut end = tail;
+    let mut k = lo;
+    while k < hi {
+        end = visit_object(triples, k, kind, want, to, stamp, seen, queue, end);
+        k += 1;
+    }
+    end
+}
+
+// Visits what a leaf of this kind leads to from n, whose triples are those from lo up to hi, at `to`.
+fn visit_leaf(
+    triples: &[u16],
+    lo: usize,
+    hi: usize,
+    kind: usize,
+    want: u16,
+    to: usize,
+    n: usize,
+    stamp: u16,
+    seen: &mut [u16],
+    queue: &mut [u32],
+    tail: usize,
+) -> usize
+    requires { ⌜ (Ahead (now triples) lo hi × (kind < 5)) × (((to ≤ 256) × (n < 1024)) × Table stamp states (now seen) (now queue) tail) ⌝ }
+    ensures { λ r. ⌜ AddsOnly stamp states (LeafOnward (now (triples .entry)) lo hi kind want to n) (now (seen .entry)) (now (queue .entry)) tail (now (seen .exit)) (now (queue .exit)) r ⌝ }
+{
+    if kind == kinds::STAY {
+        return visit(to * PLACES + n, stamp, seen, queue, tail);
+    }
+    if kind < kinds::AT_IRI {
+        return visit_objects(triples, lo, hi, kind, want, to, stamp, seen, queue, tail);
+    }
+    if want as usize != n {
+        return tail;
+    }
+    visit(to * PLACES + n, stamp, seen, queue, tail)
+}
+
+// Visits what the part i, which has parts, leads to at n.
+fn visit_parts(
+    tree: &[u32],
+    next: &[u16],
+    alive: &[u8],
+    i: usize,
+    n: usize,
+    stamp: u16,
+    seen: &mut [u16],
+    queue: &mut [u32],
+    tail: usize,
+) -> usize
+    requires { ⌜ (PartReady (now tree) (now next) i × (5 ≤ kindOf (now tree) i)) × (((n < 1024) × (states ≤ length (now alive))) × Table stamp states (now seen) (now queue) tail) ⌝ }
+    ensures { λ r. ⌜ AddsOnly stamp states (PartsOnward (now (alive .entry)) (getD (now (next .entry)) i 0) n (partOf (now (tree .entry)) i)) (now (seen .entry)) (now (queue .entry)) tail (now (seen .exit)) (now (queue .exit)) r ⌝ }
+{
+    let part = tree[i] as usize;
+    let kind = part / 65536;
+    let left = part / 256 % 256;
+    let after = next[i] as usize;
+    if kind == kinds::NESTED {
+        if alive[(i - 1) * PLACES + n] != 1 {
+            return tail;
+        }
+        return visit(after * PLACES + n, stamp, seen, queue, tail);
+    }
+    if kind == kinds::STAR {
+        let end = visit(after * PLACES + n, stamp, seen, queue, tail);
+        return visit((i - 1) * PLACES + n, stamp, seen, queue, end);
+    }
+    let end = visit(left * PLACES + n, stamp, seen, queue, tail);
+    if kind == kinds::SEQUENCE {
+        return end;
+    }
+    visit((i - 1) * PLACES + n, stamp, seen, queue, end)
+}
+
+// Visits each state that a step leads to from the state s.
+pub fn visit_onward(
+    sizes: Sizes,
+    triples: &[u16],
+    first: &[u16],
+    tree: &[u32],
+    next: &[u16],
+    wanted: &[u16],
+    alive: &[u8],
+    s: usize,
+    stamp: u16,
+    seen: &mut [u16],
+    queue: &mut [u32],
+    tail: usize,
+) -> usize
+    requires { ⌜ (Fits (lists sizes (now triples) (now tree) (now next) (now wanted)) × BySubject (now triples) (sizes .edges) (now first)) × ((Living (lists sizes (now triples) (now tree) (now next) (now wanted)) (now alive) × StateIn sizes s) × Table stamp states (now seen) (now queue) tail) ⌝ }
+    ensures { λ r. ⌜ AddsOnly stamp states (StepFrom (lists sizes (now (triples .entry)) (now (tree .entry)) (now (next .entry)) (now (wanted .entry))) s) (now (seen .entry)) (now (queue .entry)) tail (now (seen .exit)) (now (queue .exit)) r ⌝ }
+{
+    let i = s / PLACES;
+    let n = s % PLACES;
+    if sizes.parts <= i {
+        return tail;
+    }
+    let kind = tree[i] as usize / 65536;
+    if kinds::NESTED <= kind {
+        return visit_parts(tree, next, alive, i, n, stamp, seen, queue, tail);
+    }
+    let range = subject_range(first, n);
+    visit_leaf(
+        triples,
+        range.0,
+        range.1,
+        kind,
+        wanted[i],
+        next[i] as usize,
+        n,
+        stamp,
+        seen,
+        queue,
+        tail,
+    )
+}

@@ -1,0 +1,28 @@
+-- `build_cases::all_are` is safe and ends. Assumes nothing.
+use borrow.Author.Needs.{needs}
+use lib.ListN.{length}
+use mathlib.Core.Path.{_≡_}
+use Prim.Native.Nat.{_-_}
+use Rattle.build_cases.proofs.all_are.Statement.{statement}
+use Rattle.build_cases.proofs.all_are.Tie as tie
+
+abbrev Inv-loop : tie.InvT-loop
+Inv-loop x list i₀ i-end i = i-end ≡ length list
+
+abbrev μ-loop : tie.MeasureT-loop
+μ-loop x list i₀ i-end i = i-end - i
+
+pub all-are-spec : {M : Type 1} → statement M
+all-are-spec =
+    tie.close
+    (tie.spec
+    Inv-loop
+    μ-loop
+    (λ c. search needs)  -- loop-holds
+    (λ c. search needs)  -- mul-if1
+    (λ c. search needs)  -- shared-slice-read-if1
+    (λ c. search needs)  -- returns
+    (λ c. search needs)  -- add-i
+    (λ c. search needs)  -- loop-less
+    (λ c. search needs)  -- loop-again
+    (λ c. search needs))  -- returns-2

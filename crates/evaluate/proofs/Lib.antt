@@ -1,0 +1,10 @@
+pub mod Answers
+pub mod Built
+pub mod Given
+pub mod Held
+pub mod KindOrder
+pub mod Over
+pub mod CertainPairs
+pub mod Places
+mod Readied
+mod Searching

@@ -1,0 +1,30 @@
+-- What the functions of a query's evaluation ask, from what a call has ready. Assumes nothing.
+use lib.ListN.{getD, length, getD-replicate}
+use mathlib.Core.List.{List}
+use mathlib.Core.Path.{_≡_}
+use native.Mathlib.Omega.{arith}
+use Prim.Native.Nat.{ℕ, _≤_, _<_}
+use Rattle.access.specs.Places.{IsWellFormed}
+use Rattle.evaluate.specs.Answered.{Ready}
+use Rattle.index.specs.Index.{ChainReady}
+use Rattle.meaning.specs.Pack.{Text}
+use Rattle.resolve.specs.Listed.{Roomy}
+use Rattle.sets.specs.Buffers.{zeros}
+use Rattle.walk.specs.Threading.{Threadable}
+
+module _ {pack query : Text} {tree : List ℕ} {parts : ℕ} {nodes : List ℕ} {count : ℕ} {triples : List ℕ} {edges : ℕ}
+    (ready : Ready pack query tree parts nodes count triples edges) where
+  pub parts-few : parts ≤ 256
+  parts-few = let a = ready .held .few in let b = ready .held .query .fits in omega arith
+
+  pub threadable : {next : List ℕ} → 256 ≤ length next → Threadable tree next parts
+  threadable l = record { text = query; held = ready .held; parts = ready .room; room = let a = parts-few in omega arith }
+
+  pub pack-formed : IsWellFormed pack
+  pack-formed = record { pack = ready .graph .of; is = ready .graph .graph .is }
+
+  pub roomy : Roomy nodes count
+  roomy = record { room = ready .graph .graph .node-room; few = let h = ready .graph .graph .few-nodes in omega arith }
+
+  pub chain-ready : ChainReady edges (zeros 1024) (zeros 10228)
+  chain-ready = record { heads = omega arith; links = ready .graph .graph .few-triples; none = λ o h. getD-replicate 1024 o 0 0 h }

@@ -1,0 +1,45 @@
+-- What is answered of a query in the graph of a pack: of every finite graph that obeys the pack. Assumes nothing.
+use lib.Dec.{T}
+use lib.ListN.{length, take}
+use mathlib.Core.Bool.{Bool}
+use mathlib.Core.List.{List, map}
+use mathlib.Core.Logic.{_↔_}
+use Prim.Native.Nat.{ℕ, _≤_, _<_}
+use Rattle.answers.specs.declared.pairs.Pairs.{Pairs}
+use Rattle.answers.specs.declared.pairs.Pairs.the-variants.{Listed, TooMany}
+use Rattle.evaluate.specs.GraphIn.{GraphIn, SomeGraph}
+use Rattle.evaluate.specs.Named.{pairOf}
+use Rattle.grammar.specs.Grammar.{IsQuery}
+use Rattle.meaning.specs.Built.{BuiltNode}
+use Rattle.meaning.specs.Certain.{CertainYes, PairList, TooManyPairs}
+use Rattle.meaning.specs.Limits.{maxPairs}
+use Rattle.meaning.specs.Member.{_∈_}
+use Rattle.meaning.specs.Pack.{Pack, Text}
+use Rattle.meaning.specs.Query.{Expr}
+use Rattle.query.specs.Answer.{Held}
+use Rattle.spelling.specs.Iri.{plain}
+
+-- The numbers are those of pairs of two nodes, each below 1,024.
+abbrev pub AllPairs : List ℕ → Type 0
+AllPairs xs = (x : ℕ) → x ∈ xs → x < 1048576
+
+-- The lists hold a pack's graph, and the tree the query's parts.
+pub record Ready (pack query : Text) (tree : List ℕ) (parts : ℕ) (nodes : List ℕ) (count : ℕ) (triples : List ℕ) (edges : ℕ) : Type 0 where
+  pub graph : SomeGraph pack nodes count triples edges
+  pub held : Held query tree parts
+  pub room : parts ≤ length tree
+
+module _ (pack query : Text) (nodes : List ℕ) (count : ℕ) (triples : List ℕ) (edges : ℕ) where
+  -- What holds of the pack that the lists are the graph of, and of the query's expression.
+  abbrev pub OfQuery : ((P : Pack) → GraphIn pack P nodes count triples edges → Expr → Type 0) → Type 0
+  OfQuery Q = (P : Pack) (g : GraphIn pack P nodes count triples edges) (e : Expr) → IsQuery query e → Q P g e
+
+  -- "yes means satisfied in every obeying graph"
+  abbrev pub YesIn : Bool → Type 0
+  YesIn r = OfQuery (λ P g e. T r ↔ CertainYes (plain P) P e)
+
+  -- "exactly the pairs of named nodes that the query joins in every such graph"; 12 exactly when they are over 4,096
+  abbrev pub PairsIn : Pairs → List ℕ → Type 0
+  PairsIn (Listed k) found =
+      (k ≤ maxPairs) × AllPairs (take k found) × OfQuery (λ P g e. PairList (plain P) P e (g .lists .inOrder) (map pairOf (take k found)) × (¬ TooManyPairs (plain P) P e))
+  PairsIn TooMany found = OfQuery (λ P g e. TooManyPairs (plain P) P e)

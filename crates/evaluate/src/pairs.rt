@@ -1,0 +1,62 @@
+// The pairs of named nodes that a query joins in every finite graph that obeys a pack.
+ghost use lib.ListN.{length};
+ghost use Prim.Native.Nat.{_≤_};
+ghost use Rattle.alive.specs.Worklist.{Unmarked, states};
+ghost use Rattle.evaluate.specs.Answered.{PairsIn, Ready};
+ghost use Rattle.meaning.specs.Limits.{maxPairs};
+use crate::named::named;
+use crate::yes::MAX_NODES;
+use crate::yes::MAX_TRIPLES;
+use alive::Sizes;
+use answers::joined_pairs;
+use answers::pairs::Pairs;
+use meaning::MAX_QUERY_BYTES;
+use resolve::resolve;
+use walk::thread;
+
+// The pairs as numbers, start * 1,024 + end, ascending at the front of `found`; or that they are over 4,096.
+pub fn pairs(
+    pack: &[u8],
+    query: &[u8],
+    tree: &[u32],
+    parts: usize,
+    nodes: &[u16],
+    count: usize,
+    triples: &[u16],
+    edges: usize,
+    alive: &mut [u8],
+    queue: &mut [u32],
+    seen: &mut [u16],
+    found: &mut [u32],
+) -> Pairs
+    requires { ⌜ Ready (now pack) (now query) (now tree) parts (now nodes) count (now triples) edges × Unmarked 1 states (now alive) (now queue) × Unmarked 1 states (now seen) (now queue) × (maxPairs ≤ length (now found)) ⌝ }
+    ensures { λ r. ⌜ PairsIn (now (pack .entry)) (now (query .entry)) (now (nodes .entry)) count (now (triples .entry)) edges r (now (found .exit)) ⌝ }
+{
+    let mut next = [0u16; MAX_QUERY_BYTES];
+    let mut wanted = [0u16; MAX_QUERY_BYTES];
+    thread(tree, parts, &mut next);
+    resolve(pack, query, tree, parts, nodes, count, &mut wanted);
+    let mut last = [0u16; MAX_NODES];
+    let mut earlier = [0u16; MAX_TRIPLES];
+    let mut first = [0u16; 1025];
+    let sizes = Sizes {
+        nodes: count,
+        edges,
+        parts,
+    };
+    joined_pairs(
+        sizes,
+        named(nodes, count),
+        triples,
+        tree,
+        &next[..],
+        &wanted[..],
+        &mut last,
+        &mut earlier,
+        &mut first,
+        alive,
+        queue,
+        seen,
+        found,
+    )
+}

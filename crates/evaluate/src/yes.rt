@@ -1,0 +1,53 @@
+// Whether a query is satisfied in every finite graph that obeys a pack.
+ghost use Rattle.alive.specs.Worklist.{Unmarked, states};
+ghost use Rattle.evaluate.specs.Answered.{Ready, YesIn};
+use alive::Sizes;
+use answers::some_joined;
+use meaning::MAX_QUERY_BYTES;
+use resolve::resolve;
+use walk::thread;
+
+// The most nodes and the most triples of a graph.
+pub const MAX_NODES: usize = 1024;
+
+pub const MAX_TRIPLES: usize = 10228;
+
+// The answer for a query in its tree of parts, over the graph in its two lists.
+pub fn yes(
+    pack: &[u8],
+    query: &[u8],
+    tree: &[u32],
+    parts: usize,
+    nodes: &[u16],
+    count: usize,
+    triples: &[u16],
+    edges: usize,
+    alive: &mut [u8],
+    queue: &mut [u32],
+) -> bool
+    requires { ⌜ Ready (now pack) (now query) (now tree) parts (now nodes) count (now triples) edges × Unmarked 1 states (now alive) (now queue) ⌝ }
+    ensures { λ r. ⌜ YesIn (now (pack .entry)) (now (query .entry)) (now (nodes .entry)) count (now (triples .entry)) edges r ⌝ }
+{
+    let mut next = [0u16; MAX_QUERY_BYTES];
+    let mut wanted = [0u16; MAX_QUERY_BYTES];
+    thread(tree, parts, &mut next);
+    resolve(pack, query, tree, parts, nodes, count, &mut wanted);
+    let mut last = [0u16; MAX_NODES];
+    let mut earlier = [0u16; MAX_TRIPLES];
+    let sizes = Sizes {
+        nodes: count,
+        edges,
+        parts,
+    };
+    some_joined(
+        sizes,
+        triples,
+        tree,
+        &next[..],
+        &wanted[..],
+        &mut last,
+        &mut earlier,
+        alive,
+        queue,
+    )
+}

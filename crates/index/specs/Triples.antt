@@ -1,0 +1,38 @@
+-- The triples of a graph as numbers, and their bounds. Assumes nothing.
+use lib.ListN.{getD, length}
+use mathlib.Core.List.{List}
+use mathlib.Core.Path.{_≡_}
+use Prim.Native.Nat.{ℕ, _*_, _+_, _-_, _<_, _≤_}
+
+-- ---- "A triple is three 16-bit numbers: subject, predicate, object"
+
+abbrev pub subjectOf : List ℕ → ℕ → ℕ
+subjectOf triples k = getD triples (k * 3) 0
+
+abbrev pub predicateOf : List ℕ → ℕ → ℕ
+predicateOf triples k = getD triples (k * 3 + 1) 0
+
+abbrev pub objectOf : List ℕ → ℕ → ℕ
+objectOf triples k = getD triples (k * 3 + 2) 0
+
+-- One of the first `edges` triples.
+pub record TripleIn (triples : List ℕ) (edges s p o : ℕ) : Type 0 where
+  pub at : ℕ
+  pub inside : at < edges
+  pub subject : subjectOf triples at ≡ s
+  pub predicate : predicateOf triples at ≡ p
+  pub object : objectOf triples at ≡ o
+
+-- ---- their bounds
+
+-- At most 1,024 nodes and 10,228 triples, which join nodes.
+pub record GraphFits (nodes edges : ℕ) (triples : List ℕ) : Type 0 where
+  pub few-nodes : nodes ≤ 1024
+  pub few-edges : edges ≤ 10228
+  pub whole : edges * 3 ≤ length triples
+  pub subjects : (k : ℕ) → k < edges → subjectOf triples k < nodes
+  pub objects : (k : ℕ) → k < edges → objectOf triples k < nodes
+
+-- The subjects of the triples do not fall: a part of their ascending order.
+abbrev pub SubjectsRise : List ℕ → ℕ → Type 0
+SubjectsRise triples edges = (k : ℕ) → k + 1 < edges → subjectOf triples k ≤ subjectOf triples (k + 1)
