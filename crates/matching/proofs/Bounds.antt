@@ -2,7 +2,7 @@
 use lib.ListN.{length, getD, drop, drop-of-length-le}
 use mathlib.Core.List.{List, [], _∷_, map}
 use mathlib.Core.Logic.{_≢_}
-use mathlib.Core.Path.{_≡_, refl, sym, _∙_, subst}
+use mathlib.Core.Path.{_≡_, refl, sym, ap, _∙_, subst}
 use native.Mathlib.Decide.{decLt}
 use native.Mathlib.Nat.{le-refl, not-suc-le-zero, le-of-suc-le-suc}
 use native.Mathlib.Omega.{arith}
@@ -97,8 +97,8 @@ rank-not-above x xs i a h l = go (decLt (rankOf x xs) i)
         let q = rank-above x xs (rankOf x xs) (omega (arith, m, l)) a (omega (arith, k, h)) in
         omega (arith, q))
 
-module _ {vs env : List ℕ} {low high : ℕ} {c : ℕ} (b : Bounds vs env c low high) (z : c ≤ 0) (keys : List ℕ) (a : InOrder _<_ keys) (from last : ℕ)
-    (f : from ≡ rankOf low keys) (t : last ≡ rankOf high keys) where
+module _ {vs env : List ℕ} {low high : ℕ} {c : ℕ} (b : Bounds vs env c low high) (z : c ≤ 0) (keys : List ℕ) (a : InOrder _<_ keys) (from : ℕ)
+    (f : from ≡ rankOf low keys) where
   whole : drop c vs ≡ vs
   whole = let e : c ≡ 0 = omega arith in rw e
 
@@ -106,11 +106,30 @@ module _ {vs env : List ℕ} {low high : ℕ} {c : ℕ} (b : Bounds vs env c low
     from-le : from ≤ i
     from-le = rw f (rank-below low keys i (rw e (rw whole at (b .above σ s x))))
 
-    le-last : i ≤ last
-    le-last = rw t (rank-not-above high keys i a l (rw e (rw whole at (b .below σ s x))))
+    not-above : getD keys i 0 ≤ high
+    not-above = rw e (rw whole at (b .below σ s x))
 
-  pub span-within : last < length keys → SpanOf (record { from = from; to = last + 1 }) vs env keys
-  span-within h = record { within = omega arith; holds = λ σ s x i l e. (from-le σ s x i l e, omega (arith, le-last σ s x i l e)) }
+    le-last : (last : ℕ) → last ≡ rankOf high keys → i ≤ last
+    le-last last t = rw t (rank-not-above high keys i a l not-above)
 
-  pub span-end : length keys ≤ last → SpanOf (record { from = from; to = last }) vs env keys
-  span-end h = record { within = rw t (rank-le high keys); holds = λ σ s x i l e. (from-le σ s x i l e, omega (arith, l, h)) }
+    -- a key above the highest stands behind
+    before-above : (to : ℕ) → to < length keys → high < getD keys to 0 → i < to
+    before-above to k g = go (decLt to i) (decLt i to)
+      where
+        go : Dec (to < i) → Dec (i < to) → i < to
+        go d (yes m) = m
+        go (yes m) (no n) = absurd (omega (arith, ascending-lt keys to i a m l, not-above, g))
+        go (no m) (no n) = absurd (omega (arith, ap (λ j. getD keys j 0) same, not-above, g))
+          where
+            same : to ≡ i
+            same = omega (arith, m, n)
+
+  pub span-before : (to : ℕ) → from ≤ to → to < length keys → high < getD keys to 0 → SpanOf (record { from = from; to = to }) vs env keys
+  span-before to h k g = record { within = omega (arith, k); holds = λ σ s x i l e. (from-le σ s x i l e, before-above σ s x i l e to k g) }
+
+  module _ (last : ℕ) (t : last ≡ rankOf high keys) where
+    pub span-within : last < length keys → SpanOf (record { from = from; to = last + 1 }) vs env keys
+    span-within h = record { within = omega arith; holds = λ σ s x i l e. (from-le σ s x i l e, omega (arith, le-last σ s x i l e last t)) }
+
+    pub span-end : length keys ≤ last → SpanOf (record { from = from; to = last }) vs env keys
+    span-end h = record { within = rw t (rank-le high keys); holds = λ σ s x i l e. (from-le σ s x i l e, omega (arith, l, h)) }

@@ -2,7 +2,7 @@
 use lib.ListN.{length, getD, take, drop}
 use lib.Seq.{drop-cons}
 use mathlib.Core.List.{List, [], _∷_, map}
-use mathlib.Core.Path.{_≡_, refl, sym, ap₂, _∙_}
+use mathlib.Core.Path.{_≡_, refl, sym, ap₂, _∙_, subst}
 use native.Mathlib.Nat.{pow-suc, add-zero, add-suc, not-suc-le-zero, le-of-suc-le-suc}
 use native.Mathlib.Omega.{arith}
 use Prim.Native.Nat.{ℕ, zero, suc, _+_, _*_, _-_, _^_, _≤_, _<_, zero-le, suc-le-suc}
@@ -46,3 +46,13 @@ pub ∈-index : {x : ℕ} {xs : List ℕ} → x ∈ xs → (i : ℕ) × (i < len
 pub map-same : (ρ σ : Assignment) (vs : List ℕ) → ((v : ℕ) → v ∈ vs → ρ v ≡ σ v) → map ρ vs ≡ map σ vs
 map-same ρ σ [] h = refl
 map-same ρ σ (v ∷ vs) h = ap₂ {C = List ℕ} (λ x l. x ∷ l) (h v (here refl)) (map-same ρ σ vs (λ w i. h w (there i)))
+
+-- what equal numbers say of each variable
+pub stacked-same : (ρ σ : Assignment) (vs : List ℕ) → ((v : ℕ) → v ∈ vs → ρ v < 256) → ((v : ℕ) → v ∈ vs → σ v < 256)
+    → stacked (map ρ vs) ≡ stacked (map σ vs) → (v : ℕ) → v ∈ vs → ρ v ≡ σ v
+unfolding stacked
+stacked-same ρ σ (w ∷ vs) s t e v (here q) = let a = s w (here refl) in let b = t w (here refl) in subst (λ x. ρ x ≡ σ x) (sym q) (omega (arith, e, a, b))
+stacked-same ρ σ (w ∷ vs) s t e v (there m) =
+    let a = s w (here refl) in
+    let b = t w (here refl) in
+    stacked-same ρ σ vs (λ x n. s x (there n)) (λ x n. t x (there n)) (omega (arith, e, a, b)) v m

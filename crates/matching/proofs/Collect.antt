@@ -1,17 +1,22 @@
 -- Laws of collecting an atom's candidates, row by row. Assumes nothing.
-use lib.ListN.{length, getD, take, drop, length-take, length-drop}
-use lib.Seq.{getD-take, getD-drop}
-use mathlib.Core.List.{List, [], _∷_}
-use mathlib.Core.Logic.{_⊎_, _↔_, inl, inr}
+use lib.Dec.{eqb}
+use lib.ListN.{length, getD, take}
+use mathlib.Core.Bool.{cond}
+use mathlib.Core.List.{List, map}
+use mathlib.Core.Logic.{_⊎_, inl, inr}
 use mathlib.Core.Path.{_≡_, refl, sym, ap, _∙_, subst}
 use native.Mathlib.Decide.{ℕ-discrete}
 use native.Mathlib.Omega.{arith}
-use Prim.Native.Nat.{ℕ, suc, _+_, _*_, _-_, _/_, _≤_, _<_, zero-le}
+use Prim.Native.Nat.{ℕ, _+_, _*_, _/_, _≤_, _<_, zero-le}
 use Rattle.meaning.specs.Member.{_∈_}
 use Rattle.meaning.specs.Ordered.{InOrder, ListOf, empty}
 use Rattle.sets.proofs.Insertion.{added-list, present-list}
 use Rattle.sets.specs.Ordered.{WasAdded, WasPresent, WasFull}
-use Rattle.matching.specs.Plan.{stacked, projected, cellsAt, Variables8, RowBytes, RowsBytes, Candidate}
+use Rattle.meaning.specs.Core.{Assignment}
+use Rattle.meaning.specs.Limits.{unused}
+use Rattle.matching.specs.Plan.{stacked, masked, bindingOf, Among, CellsAre, RowsBytes, Candidate}
+use Rattle.matching.proofs.Bytes.{map-same}
+use Rattle.matching.proofs.Cells.{Cells, cells-done, cells-same}
 use Rattle.matching.proofs.Grown.{list-iff}
 
 -- ---- one key
@@ -31,10 +36,18 @@ module _ (key n : ℕ) (out out′ : List ℕ) (a : InOrder _<_ (take n out)) wh
 
 -- ---- the rows
 
-module _ (rows : List ℕ) (relation : ℕ) (vs start : List ℕ) where
+-- a row's cells are bytes
+pub row-bytes : {rows : List ℕ} {relation arity : ℕ} → RowsBytes rows relation arity → {r : ℕ} → r < length rows / 9 → getD rows (r * 9) 0 ≡ relation
+    → (d : ℕ) → d < arity → getD rows (r * 9 + 1 + d) 0 < 256
+row-bytes b {r} h e d k = b .small r (omega (arith, h)) e d k
+
+module _ (rows : List ℕ) (relation : ℕ) (own order start : List ℕ) where
+  abbrev Candidate′ : Type 0
+  Candidate′ = (k : ℕ) × Candidate rows relation own order start k
+
   -- the key of one of the first r rows
   pub record Early (r k : ℕ) : Type 0 where
-    pub candidate : Candidate rows relation vs start k
+    pub candidate : Candidate rows relation own order start k
     pub before : candidate .index < r
 
   pub record Collected (out₀ : List ℕ) (r n : ℕ) (out : List ℕ) : Type 0 where
@@ -51,17 +64,6 @@ module _ (rows : List ℕ) (relation : ℕ) (vs start : List ℕ) where
     list = record { ascending = empty; members = λ k. (λ m. elim m [ ], λ e. absurd (omega (arith, e .before))) };
   }
 
-  part-is : (r : ℕ) → take (r * 9 + 9 - (r * 9 + 1)) (drop (r * 9 + 1) rows) ≡ cellsAt rows r
-  part-is r = let e : r * 9 + 9 - (r * 9 + 1) ≡ 8 = omega arith in rw e
-
-  -- the row's cells are bytes
-  pub row-bytes : RowsBytes rows relation (length vs) → Variables8 vs → (r : ℕ) → r < length rows / 9 → getD rows (r * 9) 0 ≡ relation
-      → RowBytes vs (take (r * 9 + 9 - (r * 9 + 1)) (drop (r * 9 + 1) rows))
-  row-bytes b v r h e = rw part-is (record {
-    long = omega (arith, v .short, h, length-take 8 (drop (r * 9 + 1) rows), length-drop (r * 9 + 1) rows);
-    small = λ c k. rw (getD-take 8 (drop (r * 9 + 1) rows) c 0 (omega (arith, k, v .short)), getD-drop (r * 9 + 1) rows c 0) (b .small r (omega (arith, h)) e c k);
-  })
-
   module _ {out₀ : List ℕ} {r n : ℕ} {out : List ℕ} (i : Collected out₀ r n out) (h : r < length rows / 9) where
     later : {k : ℕ} → Early r k → Early (r + 1) k
     later e = record { candidate = e .candidate; before = omega (arith, e .before) }
@@ -69,18 +71,26 @@ module _ (rows : List ℕ) (relation : ℕ) (vs start : List ℕ) where
     sooner : {k : ℕ} (e : Early (r + 1) k) → (e .candidate .index ≡ r → ⊥) → Early r k
     sooner e n = record { candidate = e .candidate; before = omega (arith, e .before, n) }
 
-    pub collect-skip : (getD rows (r * 9) 0 ≡ relation → ⊥) → Collected out₀ (r + 1) n out
-    collect-skip d = record {
+    skip : ((x : Candidate′) → x .1 .index ≡ r → ⊥) → Collected out₀ (r + 1) n out
+    skip d = record {
       within = omega arith;
       few = omega (arith, i .few);
       long = i .long;
-      list = list-iff (λ k. (later, λ e. sooner e (λ q. d (subst (λ x. getD rows (x * 9) 0 ≡ relation) q (e .candidate .relation-is))))) (i .list);
+      list = list-iff (λ k. (later, λ e. sooner e (d (k, e .candidate)))) (i .list);
     }
 
-    pub collect-more : (key : ℕ) → key ≡ stacked (projected start vs (take (r * 9 + 9 - (r * 9 + 1)) (drop (r * 9 + 1) rows))) → getD rows (r * 9) 0 ≡ relation
+    pub collect-other : (getD rows (r * 9) 0 ≡ relation → ⊥) → Collected out₀ (r + 1) n out
+    collect-other d = skip (λ x q. d (subst (λ x. getD rows (x * 9) 0 ≡ relation) q (x .1 .relation-is)))
+
+    -- no assignment makes the atom this row
+    pub collect-differ : {r′ : ℕ} → r′ ≡ r → ((σ : Assignment) → CellsAre rows (r′ * 9 + 1) own σ → ⊥) → Collected out₀ (r′ + 1) n out
+    collect-differ e d = rw e (skip (λ x q. (rw e at d) (x .1 .values) (subst (λ y. CellsAre rows (y * 9 + 1) own (x .1 .values)) q (x .1 .cells))))
+
+    more : Among order own → {c : ℕ} {env : List ℕ} → Cells rows (r * 9 + 1) own c env → length own ≤ c
+        → (key : ℕ) → key ≡ stacked (map (masked start (bindingOf env)) order) → getD rows (r * 9) 0 ≡ relation
         → (m : ℕ) (out′ : List ℕ) → (m ≤ n + 1) × ListOf _<_ (λ k. (k ≡ key) ⊎ (k ∈ take n out)) (take m out′) → length out′ ≡ length out
         → Collected out₀ (r + 1) m out′
-    collect-more key e q m out′ w l = record {
+    more among {c} {env} f z key e q m out′ w l = record {
       within = omega arith;
       few = omega (arith, i .few, w .0);
       long = l ∙ i .long;
@@ -88,23 +98,32 @@ module _ (rows : List ℕ) (relation : ℕ) (vs start : List ℕ) where
     }
       where
         forth : (k : ℕ) → (k ≡ key) ⊎ (k ∈ take n out) → Early (r + 1) k
-        forth k (inl f) = record {
-          candidate = record { index = r; within = omega (arith, h); relation-is = q; is = f ∙ e ∙ ap (λ (x : List ℕ). stacked (projected start vs x)) (part-is r) };
+        forth k (inl x) = record {
+          candidate = record { index = r; within = omega (arith, h); relation-is = q; values = bindingOf env; cells = cells-done f z; is = x ∙ e };
           before = omega arith;
         }
         forth k (inr m) = later (i .list .members k .0 m)
+
+        same : (σ : Assignment) → CellsAre rows (r * 9 + 1) own σ → map (masked start σ) order ≡ map (masked start (bindingOf env)) order
+        same σ g = map-same (masked start σ) (masked start (bindingOf env)) order (λ v o. ap (λ x. cond (eqb (getD start v 0) unused) x (getD start v 0)) (cells-same f z σ g v (among v o)))
 
         back : (k : ℕ) → Early (r + 1) k → (k ≡ key) ⊎ (k ∈ take n out)
         back k x = go (ℕ-discrete (x .candidate .index) r)
           where
             go : Dec (x .candidate .index ≡ r) → (k ≡ key) ⊎ (k ∈ take n out)
-            go (yes f) =
-                inl (x .candidate .is ∙ ap (λ (j : ℕ). stacked (projected start vs (cellsAt rows j))) f
-                ∙ sym (ap (λ (y : List ℕ). stacked (projected start vs y)) (part-is r)) ∙ sym e)
+            go (yes y) =
+                inl (x .candidate .is
+                ∙ ap stacked (same (x .candidate .values) (subst (λ j. CellsAre rows (j * 9 + 1) own (x .candidate .values)) y (x .candidate .cells))) ∙ sym e)
             go (no d) = inr (i .list .members k .1 (sooner x d))
 
+    pub collect-more : {r′ : ℕ} → r′ ≡ r → Among order own → {c : ℕ} {env : List ℕ} → Cells rows (r′ * 9 + 1) own c env → length own ≤ c
+        → (key : ℕ) → key ≡ stacked (map (masked start (bindingOf env)) order) → getD rows (r′ * 9) 0 ≡ relation
+        → (m : ℕ) (out′ : List ℕ) → (m ≤ n + 1) × ListOf _<_ (λ k. (k ≡ key) ⊎ (k ∈ take n out)) (take m out′) → length out′ ≡ length out
+        → Collected out₀ (r′ + 1) m out′
+    collect-more e among f z key k q m out′ w l = rw e (more among (rw e at f) z key k (rw e at q) m out′ w l)
+
   pub collect-done : {out₀ : List ℕ} {r n : ℕ} {out : List ℕ} → Collected out₀ r n out → length rows / 9 ≤ r → length rows ≤ length out₀ * 9
-      → (n ≤ length out₀) × ListOf _<_ (Candidate rows relation vs start) (take n out)
+      → (n ≤ length out₀) × ListOf _<_ (Candidate rows relation own order start) (take n out)
   collect-done i h l = (
     omega (arith, i .few, i .within, l),
     list-iff (λ k. (λ e. e .candidate, λ c. record { candidate = c; before = omega (arith, c .within, h) })) (i .list),

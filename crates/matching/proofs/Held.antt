@@ -9,7 +9,7 @@ use Prim.Native.Nat.{ℕ, zero, suc, _+_, _*_, _≤_, _<_}
 use Rattle.meaning.specs.Core.{Assignment}
 use Rattle.meaning.specs.Pack.{Row, Atom}
 use Rattle.meaning.specs.Tables.{rowNumbers}
-use Rattle.matching.specs.Plan.{variablesAt, cellsAt}
+use Rattle.matching.specs.Plan.{variablesAt}
 use Rattle.matching.specs.Rule.{atomNumbers}
 use Rattle.matching.proofs.Blocks.{BlockAt}
 
@@ -61,24 +61,12 @@ module _ {numbers : List ℕ} {j : ℕ} {r : Row} (b : BlockAt 9 rowNumbers row-
   pub row-relation : getD numbers (j * 9) 0 ≡ r .relation
   row-relation = rw add-zero at (block-get 9 (j * 9) 0 numbers (rowNumbers r) (b .is) (omega arith))
 
-  pub row-cell : length (r .cells) ≤ 8 → (c : ℕ) → c < length (r .cells) → getD (cellsAt numbers j) c 0 ≡ getD (r .cells) c 0
+  pub row-cell : length (r .cells) ≤ 8 → (c : ℕ) → c < length (r .cells) → getD numbers (j * 9 + 1 + c) 0 ≡ getD (r .cells) c 0
   row-cell short c h =
       let e : j * 9 + 1 + c ≡ j * 9 + suc c = omega arith in
-      getD-take 8 (drop (j * 9 + 1) numbers) c 0 (omega (arith, h, short)) ∙ getD-drop (j * 9 + 1) numbers c 0
-      ∙ ap (λ n. getD numbers n 0) e
+      ap (λ n. getD numbers n 0) e
       ∙ block-get 9 (j * 9) (suc c) numbers (rowNumbers r) (b .is) (omega (arith, h, short))
       ∙ padded (r .cells) 65535 c h short
-
-  pub row-long : length (cellsAt numbers j) ≡ 8
-  row-long = omega (
-    arith,
-    ap length (b .is),
-    row-wide r,
-    length-take 9 (drop (j * 9) numbers),
-    length-drop (j * 9) numbers,
-    length-take 8 (drop (j * 9 + 1) numbers),
-    length-drop (j * 9 + 1) numbers,
-  )
 
   pub row-within : suc j * 9 ≤ length numbers
   row-within = omega (arith, ap length (b .is), row-wide r, length-take 9 (drop (j * 9) numbers), length-drop (j * 9) numbers)
@@ -87,3 +75,7 @@ pub map-at : (σ : Assignment) (vs : List ℕ) (c : ℕ) → c < length vs → g
 map-at σ [] c h = absurd (not-suc-le-zero h)
 map-at σ (v ∷ vs) zero h = refl
 map-at σ (v ∷ vs) (suc c) h = map-at σ vs c (le-of-suc-le-suc h)
+
+pub map-long : (σ : Assignment) (vs : List ℕ) → length (map σ vs) ≡ length vs
+map-long σ [] = refl
+map-long σ (v ∷ vs) = ap suc (map-long σ vs)

@@ -5,11 +5,13 @@ pub mod Columns
 pub mod Bounds
 pub mod Rows
 pub mod RowKey
+pub mod Cells
 pub mod Marked
 pub mod Collect
 pub mod Prepare
+pub mod Order
 pub mod Blocks
 pub mod Held
-pub mod Projection
+pub mod Occurrences
 pub mod Matched
 pub mod Answer

@@ -23,15 +23,15 @@ put-there : (n j : ℕ) (xs ys zs : List ℕ) → j ≤ length xs → n ≤ leng
 put-there n j xs ys zs h l = rw (drop-at (take j xs) (ys ++ zs) j (omega (arith, h, length-take j xs))) (take-append-le n ys zs l)
 
 -- the candidates of the first j atoms are listed
-pub record Preparing (rows atoms start : List ℕ) (count : ℕ) (out₀ : List ℕ) (j : ℕ) (out counts : List ℕ) : Type 0 where
+pub record Preparing (rows atoms orders start : List ℕ) (count : ℕ) (out₀ : List ℕ) (j : ℕ) (out counts : List ℕ) : Type 0 where
   pub within : j ≤ count
   pub long : length out ≡ length out₀
   pub three : length counts ≡ 3
   pub counted : (i : ℕ) → i < j → getD counts i 0 ≤ 1024
-  pub list : (i : ℕ) → i < j → ListOf _<_ (Candidate rows (getD atoms (i * 10) 0) (variablesAt atoms i) start) (candidatesAt out counts i)
+  pub list : (i : ℕ) → i < j → ListOf _<_ (Candidate rows (getD atoms (i * 10) 0) (variablesAt atoms i) (variablesAt orders i) start) (candidatesAt out counts i)
 
-pub prepare-start : (rows atoms start : List ℕ) (count : ℕ) (out counts : List ℕ) → length counts ≡ 3 → Preparing rows atoms start count out 0 out counts
-prepare-start rows atoms start count out counts e = record {
+pub prepare-start : (rows atoms orders start : List ℕ) (count : ℕ) (out counts : List ℕ) → length counts ≡ 3 → Preparing rows atoms orders start count out 0 out counts
+prepare-start rows atoms orders start count out counts e = record {
   within = zero-le;
   long = refl;
   three = e;
@@ -39,17 +39,20 @@ prepare-start rows atoms start count out counts e = record {
   list = λ i h. absurd (omega (arith, h));
 }
 
-module _ {rows atoms start : List ℕ} {count : ℕ} {out₀ : List ℕ} {j : ℕ} {out counts : List ℕ} (p : Preparing rows atoms start count out₀ j out counts)
+module _ {rows atoms orders start : List ℕ} {count : ℕ} {out₀ : List ℕ} {j : ℕ} {out counts : List ℕ} (p : Preparing rows atoms orders start count out₀ j out counts)
     (h : j < count) (few : count ≤ 3) (room : 3072 ≤ length out₀) where
-  module _ (n arity : ℕ) (ys : List ℕ) (q : arity ≡ getD atoms (j * 10 + 1) 0)
+  module _ (n arity kept : ℕ) (ys : List ℕ) (q : arity ≡ getD atoms (j * 10 + 1) 0) (q′ : kept ≡ getD orders (j * 10 + 1) 0)
       (w : (n ≤ length (take (j * 1024 + 1024 - j * 1024) (drop (j * 1024) out)))
-      × ListOf _<_ (Candidate rows (getD atoms (j * 10) 0) (take (j * 10 + 2 + arity - (j * 10 + 2)) (drop (j * 10 + 2) atoms)) start) (take n ys))
+      × ListOf _<_ (Candidate rows (getD atoms (j * 10) 0) (take (j * 10 + 2 + arity - (j * 10 + 2)) (drop (j * 10 + 2) atoms)) (take (j * 10 + 2 + kept - (j * 10 + 2)) (drop (j * 10 + 2) orders)) start) (take n ys))
       (l : length ys ≡ length (take (j * 1024 + 1024 - j * 1024) (drop (j * 1024) out))) where
     k-is : j * 1024 + 1024 - j * 1024 ≡ 1024
     k-is = omega arith
 
     a-is : j * 10 + 2 + arity - (j * 10 + 2) ≡ arity
     a-is = omega arith
+
+    o-is : j * 10 + 2 + kept - (j * 10 + 2) ≡ kept
+    o-is = omega arith
 
     pub part-length : length (take (j * 1024 + 1024 - j * 1024) (drop (j * 1024) out)) ≡ 1024
     part-length = rw k-is (omega (arith, h, few, room, p .long, length-take 1024 (drop (j * 1024) out), length-drop (j * 1024) out))
@@ -73,7 +76,7 @@ module _ {rows atoms start : List ℕ} {count : ℕ} {out₀ : List ℕ} {j : �
       length-drop (j * 1024) out,
     )
 
-    pub prepare-again : Preparing rows atoms start count out₀ (j + 1) (take (j * 1024) out ++ (ys ++ drop (j * 1024 + 1024 - j * 1024) (drop (j * 1024) out))) (set counts j n)
+    pub prepare-again : Preparing rows atoms orders start count out₀ (j + 1) (take (j * 1024) out ++ (ys ++ drop (j * 1024 + 1024 - j * 1024) (drop (j * 1024) out))) (set counts j n)
     prepare-again = record {
       within = omega arith;
       long = long-is ∙ p .long;
@@ -90,11 +93,11 @@ module _ {rows atoms start : List ℕ} {count : ℕ} {out₀ : List ℕ} {j : �
         counts-at i m (no d) = rw (getD-set-other counts j i n 0 d) (p .counted i (omega (arith, m, d)))
 
         list-at : (i : ℕ) → i < j + 1 → Dec (i ≡ j)
-            → ListOf _<_ (Candidate rows (getD atoms (i * 10) 0) (variablesAt atoms i) start)
+            → ListOf _<_ (Candidate rows (getD atoms (i * 10) 0) (variablesAt atoms i) (variablesAt orders i) start)
             (candidatesAt (take (j * 1024) out ++ (ys ++ drop (j * 1024 + 1024 - j * 1024) (drop (j * 1024) out))) (set counts j n) i)
         list-at i m (yes f) =
             rw (f, same, put-there n (j * 1024) out ys (drop (j * 1024 + 1024 - j * 1024) (drop (j * 1024) out)) (omega (arith, h, few, room, p .long)) (omega (arith, w .0, l)))
-            (rw (a-is, q) at (w .1))
+            (rw (a-is, q, o-is, q′) at (w .1))
         list-at i m (no d) =
             rw (
               getD-set-other counts j i n 0 d,
@@ -102,6 +105,6 @@ module _ {rows atoms start : List ℕ} {count : ℕ} {out₀ : List ℕ} {j : �
             )
             (p .list i (omega (arith, m, d)))
 
-pub prepare-done : {rows atoms start : List ℕ} {count : ℕ} {out₀ : List ℕ} {j : ℕ} {out counts : List ℕ} → Preparing rows atoms start count out₀ j out counts → count ≤ j
-    → Prepared rows atoms start count out counts
+pub prepare-done : {rows atoms orders start : List ℕ} {count : ℕ} {out₀ : List ℕ} {j : ℕ} {out counts : List ℕ} → Preparing rows atoms orders start count out₀ j out counts → count ≤ j
+    → Prepared rows atoms orders start count out counts
 prepare-done p h = record { counted = λ i l. p .counted i (omega (arith, l, h)); list = λ i l. p .list i (omega (arith, l, h)) }

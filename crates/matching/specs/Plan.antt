@@ -4,9 +4,9 @@ use lib.Dec.{eqb}
 use lib.ListN.{length, getD, set, take, drop}
 use mathlib.Core.Bool.{Bool, true, false, cond}
 use mathlib.Core.List.{List, [], _∷_, _++_, map, foldl}
-use mathlib.Core.Logic.{_≢_, _⊎_}
+use mathlib.Core.Logic.{_≢_, _⊎_, _↔_}
 use mathlib.Core.Path.{_≡_}
-use Prim.Native.Nat.{ℕ, zero, suc, _+_, _*_, _^_, _≤_, _<_}
+use Prim.Native.Nat.{ℕ, zero, suc, _+_, _*_, _%_, _^_, _≤_, _<_}
 use Rattle.meaning.specs.Core.{Assignment}
 use Rattle.meaning.specs.Limits.{maxRows, unused}
 use Rattle.meaning.specs.Member.{_∈_}
@@ -54,7 +54,7 @@ AllBound vars env = (v : ℕ) → v ∈ vars → Bound env v
 abbrev pub bindingOf : List ℕ → Assignment
 bindingOf env v = getD env v 0
 
--- ---- the variables that occur once do not matter: they are bound to 1 from the start
+-- ---- the variables that occur once, over the orders of the atoms and the head, do not matter: they are bound to 1 from the start
 
 unfoldable pub markOf : ℕ → ℕ
 markOf x = cond (eqb x 0) 1 unused
@@ -67,28 +67,50 @@ unfoldable pub variablesFrom : List ℕ → ℕ → ℕ → List ℕ
 variablesFrom atoms j zero = []
 variablesFrom atoms j (suc n) = variablesAt atoms j ++ variablesFrom atoms (suc j) n
 
--- ---- the candidates of an atom: the keys of its relation's rows, with what start binds in place of such columns
+-- what start binds has its value there, other variables that of the assignment
+abbrev pub masked : List ℕ → Assignment → Assignment
+masked start σ v = cond (eqb (getD start v 0) unused) (σ v) (getD start v 0)
 
-unfoldable pub projected : List ℕ → List ℕ → List ℕ → List ℕ
-projected start [] row = []
-projected start (v ∷ vs) [] = []
-projected start (v ∷ vs) (x ∷ row) = cond (eqb (getD start v 0) unused) x (getD start v 0) ∷ projected start vs row
+-- ---- the order of an atom's variables: each once, those that earlier atoms have (and have marked) last
 
-abbrev pub cellsAt : List ℕ → ℕ → List ℕ
-cellsAt rows r = take 8 (drop (r * 9 + 1) rows)
+unfoldable pub rankBy : ℕ → ℕ → ℕ
+rankBy mark v = cond (eqb mark 0) v (v + 16)
 
-pub record Candidate (rows : List ℕ) (relation : ℕ) (vs start : List ℕ) (key : ℕ) : Type 0 where
+-- the rank of one of the variables
+pub record Ranked (own seen : List ℕ) (k : ℕ) : Type 0 where
+  pub variable : ℕ
+  pub member : variable ∈ own
+  pub is : k ≡ rankBy (getD seen variable 0) variable
+
+-- the variables of these ranks are written for atom j, and those of earlier atoms stay
+pub record Written (orders : List ℕ) (j : ℕ) (ranks orders′ : List ℕ) : Type 0 where
+  pub count : getD orders′ (j * 10 + 1) 0 ≡ length ranks
+  pub variables : (i : ℕ) → i < length ranks → getD orders′ (j * 10 + 2 + i) 0 ≡ getD ranks i 0 % 16
+  pub earlier : (i : ℕ) → i < j * 10 → getD orders′ i 0 ≡ getD orders i 0
+
+-- each atom has the same variables in both
+pub record SameVariables (atoms orders : List ℕ) (count : ℕ) : Type 0 where
+  pub same : (j : ℕ) → j < count → (v : ℕ) → (v ∈ variablesAt orders j) ↔ (v ∈ variablesAt atoms j)
+
+abbrev pub Among : List ℕ → List ℕ → Type 0
+Among xs ys = (x : ℕ) → x ∈ xs → x ∈ ys
+
+-- ---- the candidates of an atom: the keys of its relation's rows, in that order, with what start binds in place
+
+-- the cells from a place on are those of the atom under the assignment
+abbrev pub CellsAre : List ℕ → ℕ → List ℕ → Assignment → Type 0
+CellsAre rows place own σ = (c : ℕ) → c < length own → getD rows (place + c) 0 ≡ σ (getD own c 0)
+
+-- a row of the relation that is the atom's under an assignment, by the key of its values
+pub record Candidate (rows : List ℕ) (relation : ℕ) (own order start : List ℕ) (key : ℕ) : Type 0 where
   pub index : ℕ
   pub within : suc index * 9 ≤ length rows
   pub relation-is : getD rows (index * 9) 0 ≡ relation
-  pub is : key ≡ stacked (projected start vs (cellsAt rows index))
+  pub values : Assignment
+  pub cells : CellsAre rows (index * 9 + 1) own values
+  pub is : key ≡ stacked (map (masked start values) order)
 
--- a row has a byte in each of the atom's columns
-pub record RowBytes (vs row : List ℕ) : Type 0 where
-  pub long : length vs ≤ length row
-  pub small : (c : ℕ) → c < length vs → getD row c 0 < 256
-
--- so has each row of the relation
+-- each row of the relation has a byte in each of the atom's columns
 pub record RowsBytes (rows : List ℕ) (relation arity : ℕ) : Type 0 where
   pub small : (r : ℕ) → suc r * 9 ≤ length rows → getD rows (r * 9) 0 ≡ relation → (c : ℕ) → c < arity → getD rows (r * 9 + 1 + c) 0 < 256
 
@@ -107,9 +129,9 @@ abbrev pub AtomsBytes : List ℕ → List ℕ → ℕ → Type 0
 AtomsBytes rows atoms count = (j : ℕ) → j < count → RowsBytes rows (getD atoms (j * 10) 0) (length (variablesAt atoms j))
 
 -- each atom's candidates are listed
-pub record Prepared (rows atoms start : List ℕ) (count : ℕ) (cands counts : List ℕ) : Type 0 where
+pub record Prepared (rows atoms orders start : List ℕ) (count : ℕ) (cands counts : List ℕ) : Type 0 where
   pub counted : (j : ℕ) → j < count → getD counts j 0 ≤ maxRows
-  pub list : (j : ℕ) → j < count → ListOf _<_ (Candidate rows (getD atoms (j * 10) 0) (variablesAt atoms j) start) (candidatesAt cands counts j)
+  pub list : (j : ℕ) → j < count → ListOf _<_ (Candidate rows (getD atoms (j * 10) 0) (variablesAt atoms j) (variablesAt orders j) start) (candidatesAt cands counts j)
 
 -- ---- what is found
 

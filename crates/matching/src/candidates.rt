@@ -1,27 +1,30 @@
-// An atom's candidate rows, each by the key of its columns that matter; rows that agree on these are one.
+// An atom's candidate rows, each by the key of its columns that matter; rows that agree on these are one, and rows that
+// give a variable two values are none.
 use crate::UNBOUND;
 use sets::ordered;
 use sets::ordered::Inserted;
 ghost use lib.ListN.{length, take};
+ghost use mathlib.Core.List.{map};
 ghost use mathlib.Core.Path.{_≡_};
 ghost use Prim.Native.Nat.{_≤_, _<_, _+_, _*_};
 ghost use mathlib.Core.Logic.{_⊎_};
 ghost use Rattle.meaning.specs.Member.{_∈_};
 ghost use Rattle.meaning.specs.Ordered.{InOrder, ListOf};
-ghost use Rattle.matching.specs.Plan.{stacked, Variables8, Bindings, projected, RowBytes, RowsBytes, Candidate, AtomsBelow, AtomsBytes, Prepared};
+ghost use Rattle.matching.specs.Plan.{stacked, masked, bindingOf, AllBound, Among, Variables8, Bindings, RowsBytes, Candidate, AtomsBelow, AtomsBytes, SameVariables, Prepared};
 
-// The key of a row: the first column has the lowest weight, and bound variables have their values.
-fn row_key(row: &[u16], own: &[u8], start: [u16; 16]) -> u64
-    requires { ⌜ Variables8 (now own) × Bindings start × RowBytes (now own) (now row) ⌝ }
-    ensures { λ r. ⌜ r ≡ stacked (projected start (now (own .entry)) (now (row .entry))) ⌝ }
+// The key of a row's bindings: the first variable has the lowest weight, and those bound from the start have their values.
+fn row_key(order: &[u8], start: [u16; 16], env: [u16; 16]) -> u64
+    requires { ⌜ Variables8 (now order) × Bindings start × Bindings env × AllBound (now order) env ⌝ }
+    ensures { λ r. ⌜ r ≡ stacked (map (masked start (bindingOf env)) (now (order .entry))) ⌝ }
 {
     let mut key: u64 = 0;
-    let mut c = own.len();
+    let mut c = order.len();
     while c > 0 {
         c -= 1;
-        let x = start[own[c] as usize];
+        let v = order[c] as usize;
+        let x = start[v];
         if x == UNBOUND {
-            key = key * 256 + row[c] as u64;
+            key = key * 256 + env[v] as u64;
         } else {
             key = key * 256 + x as u64;
         }
@@ -30,7 +33,7 @@ fn row_key(row: &[u16], own: &[u8], start: [u16; 16]) -> u64
 }
 
 // Adds a key to the set in the first n of the slice, which has room.
-fn store(out: &mut [u64], n: usize, key: u64) -> usize
+pub fn store(out: &mut [u64], n: usize, key: u64) -> usize
     requires { ⌜ (n < length (now out)) × InOrder _<_ (take n (now out)) ⌝ }
     ensures { λ m. ⌜ (m ≤ n + 1) × ListOf _<_ (λ k. (k ≡ key) ⊎ (k ∈ take n (now (out .entry)))) (take m (now (out .exit))) ⌝ }
 {
@@ -42,16 +45,34 @@ fn store(out: &mut [u64], n: usize, key: u64) -> usize
 }
 
 // The set of the keys of a relation's rows.
-fn candidates(rows: &[u16], relation: u16, own: &[u8], start: [u16; 16], out: &mut [u64]) -> usize
-    requires { ⌜ Variables8 (now own) × Bindings start × RowsBytes (now rows) relation (length (now own)) × (length (now rows) ≤ length (now out) * 9) ⌝ }
-    ensures { λ n. ⌜ (n ≤ length (now (out .entry))) × ListOf _<_ (Candidate (now (rows .entry)) relation (now (own .entry)) start) (take n (now (out .exit))) ⌝ }
+fn candidates(
+    rows: &[u16],
+    relation: u16,
+    own: &[u8],
+    order: &[u8],
+    start: [u16; 16],
+    out: &mut [u64],
+) -> usize
+    requires { ⌜ Variables8 (now own) × Variables8 (now order) × Among (now order) (now own) × Bindings start × RowsBytes (now rows) relation (length (now own)) × (length (now rows) ≤ length (now out) * 9) ⌝ }
+    ensures { λ n. ⌜ (n ≤ length (now (out .entry))) × ListOf _<_ (Candidate (now (rows .entry)) relation (now (own .entry)) (now (order .entry)) start) (take n (now (out .exit))) ⌝ }
 {
     let mut n = 0;
     'rows: for r in 0..rows.len() / 9 {
         if rows[r * 9] != relation {
             continue 'rows;
         }
-        let key = row_key(&rows[r * 9 + 1..r * 9 + 9], own, start);
+        let mut env = [UNBOUND; 16];
+        for c in 0..own.len() {
+            let v = own[c] as usize;
+            let x = rows[r * 9 + 1 + c];
+            if env[v] != UNBOUND {
+                if env[v] != x {
+                    continue 'rows;
+                }
+            }
+            env[v] = x;
+        }
+        let key = row_key(order, start, env);
         n = store(out, n, key);
     }
     n
@@ -61,23 +82,26 @@ fn candidates(rows: &[u16], relation: u16, own: &[u8], start: [u16; 16], out: &m
 pub fn all_candidates(
     rows: &[u16],
     atoms: &[u8],
+    orders: &[u8],
     count: usize,
     start: [u16; 16],
     out: &mut [u64],
 ) -> [u16; 3]
-    requires { ⌜ AtomsBelow (now atoms) count × Bindings start × AtomsBytes (now rows) (now atoms) count × (length (now rows) ≤ 9216) × (3072 ≤ length (now out)) ⌝ }
-    ensures { λ counts. ⌜ Prepared (now (rows .entry)) (now (atoms .entry)) start count (now (out .exit)) counts ⌝ }
+    requires { ⌜ AtomsBelow (now atoms) count × AtomsBelow (now orders) count × SameVariables (now atoms) (now orders) count × Bindings start × AtomsBytes (now rows) (now atoms) count × (length (now rows) ≤ 9216) × (3072 ≤ length (now out)) ⌝ }
+    ensures { λ counts. ⌜ Prepared (now (rows .entry)) (now (atoms .entry)) (now (orders .entry)) start count (now (out .exit)) counts ⌝ }
 {
     let mut counts = [0u16; 3];
     for j in 0..count {
         let own = j * 10 + 2;
         let arity = atoms[j * 10 + 1] as usize;
+        let kept = orders[j * 10 + 1] as usize;
         let relation = atoms[j * 10] as u16;
         let first = j * 1024;
         let n = candidates(
             rows,
             relation,
             &atoms[own..own + arity],
+            &orders[own..own + kept],
             start,
             &mut out[first..first + 1024],
         );

@@ -4,9 +4,11 @@ mod spans; // the candidate rows that bindings leave
 mod search; // every way to match the atoms
 mod marks; // the variables that matter
 mod candidates; // an atom's candidate rows
+mod orders; // the order of an atom's variables
 
 use crate::candidates::all_candidates;
 use crate::marks::fresh;
+use crate::orders::all_orders;
 use crate::search::add_heads;
 ghost use lib.ListN.{length};
 ghost use Prim.Native.Nat.{_≤_};
@@ -34,10 +36,11 @@ pub fn rule_heads(
     requires { ⌜ RuleGiven (now rows) atoms «atom_count» vars «var_count» × (3072 ≤ length (now work)) ⌝ }
     ensures { λ r. ⌜ RuleHeads r (now (rows .entry)) atoms «atom_count» vars «var_count» (now (keys .exit)) ⌝ }
 {
-    let start = fresh(&atoms[..], atom_count, &vars[..var_count]);
-    let counts = all_candidates(rows, &atoms[..], atom_count, start, work);
+    let orders = all_orders(&atoms[..], atom_count, work);
+    let start = fresh(&orders[..], atom_count, &vars[..var_count]);
+    let counts = all_candidates(rows, &atoms[..], &orders[..], atom_count, start, work);
     add_heads(
-        &atoms[..],
+        &orders[..],
         atom_count,
         &vars[..var_count],
         &work[..],

@@ -1,4 +1,5 @@
-// The variables that matter: a variable that occurs once is bound from the start, and its column counts for nothing.
+// The variables that matter: one that occurs once, over the atoms' orders and the head, is bound from the start, and its
+// column counts for nothing.
 use crate::UNBOUND;
 ghost use lib.ListN.{length, replicate};
 ghost use mathlib.Core.List.{foldl, _++_};
@@ -17,7 +18,7 @@ fn noted(x: u16) -> u16
 }
 
 // Marks each variable.
-fn mark(seen: [u16; 16], own: &[u8]) -> [u16; 16]
+pub fn mark(seen: [u16; 16], own: &[u8]) -> [u16; 16]
     requires { ⌜ Below16 (now own) ⌝ }
     ensures { λ r. ⌜ r ≡ foldl marked seen (now (own .entry)) ⌝ }
 {

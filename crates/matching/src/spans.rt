@@ -12,7 +12,7 @@ pub struct Span {
     pub to: usize,
 }
 
-// The lowest and the highest key that an atom's row can have under the bindings have these ranks; no other row fits.
+// The rows between the lowest and the highest key that the atom's row can have under the bindings: most often none or one.
 pub fn rows_left(own: &[u8], env: [u16; 16], keys: &[u64]) -> Span
     requires { ⌜ Variables8 (now own) × Bindings env × InOrder _<_ (now keys) ⌝ }
     ensures { λ r. ⌜ SpanOf r (now (own .entry)) env (now (keys .entry)) ⌝ }
@@ -32,6 +32,16 @@ pub fn rows_left(own: &[u8], env: [u16; 16], keys: &[u64]) -> Span
         }
     }
     let from = ordered::rank(keys, low);
+    if from < keys.len() {
+        if keys[from] > high {
+            return Span { from, to: from };
+        }
+    }
+    if from + 1 < keys.len() {
+        if keys[from + 1] > high {
+            return Span { from, to: from + 1 };
+        }
+    }
     let last = ordered::rank(keys, high);
     if last < keys.len() {
         return Span { from, to: last + 1 };

@@ -1,0 +1,35 @@
+-- `matching::orders::ranks` meets its contract: the ranks of the first c variables. Assumes nothing.
+use borrow.Author.Needs.{needs}
+use lib.ListN.{length}
+use mir.Facts.{fits-widen}
+use native.Mathlib.Omega.{arith}
+use Prim.Native.Nat.{_-_}
+use Rattle.sets.proofs.Ascending.{∈-at}
+use Rattle.matching.proofs.Order.{Ranking, ranking-start, ranking-again, ranking-done}
+use Rattle.matching.proofs.orders.ranks.Statement.{statement}
+use Rattle.matching.proofs.orders.ranks.Tie as tie
+
+abbrev Inv-loop : tie.InvT-loop
+Inv-loop own out₀ seen n₀ c₀ c-end out n c = Ranking own seen out₀ c n out
+
+abbrev μ-loop : tie.MeasureT-loop
+μ-loop own out₀ seen n₀ c₀ c-end out n c = length own - c
+
+pub ranks-spec : {M : Type 1} → statement M
+ranks-spec =
+    tie.close
+    (tie.spec
+    Inv-loop
+    μ-loop
+    (λ c. ranking-start _ _ _)  -- loop-holds
+    (λ c. search needs)  -- shared-slice-read-v
+    (λ c. fits-widen tt (c .shared-slice-known2 .given _))  -- cast-rank
+    (λ c. omega (arith, c .before .before .before .before .before .pre .0 .below _ (∈-at (c .before .before .before .before .before .args .own .now) (c .before .before .loop .c) (c .before .loop-test .taken))))  -- mul-rank
+    (λ c. omega (arith, c .before .before .before .before .before .pre .0 .below _ (∈-at (c .before .before .before .before .before .args .own .now) (c .before .before .loop .c) (c .before .loop-test .taken))))  -- array-read-rank
+    (λ c κs. search needs)  -- rank-requires
+    (λ c κs. (omega (arith, c .before .before .before .before .loop .inv .few, c .before .before .before .before .loop .inv .long, c .before .before .before .loop-test .taken, c .before .before .before .before .before .before .before .pre .0 .short, c .before .before .before .before .before .before .before .pre .1), c .before .before .before .before .loop .inv .list .ascending))  -- store-requires
+    (λ c. search needs)  -- add-c
+    (λ c. search needs)  -- loop-less
+    (λ c. ranking-again _ _ (c .before .before .before .before .before .before .before .loop .inv) (c .before .before .before .before .before .before .loop-test .taken) _ (c .before .before .before .before .rank .ensures) _ _ (c .before .before .store .ensures) (c .before .before .store .kept .0))  -- loop-again
+    (λ c. search needs)  -- same-length
+    (λ c. ranking-done _ _ (c .before .loop .inv) (c .loop-test .left)))  -- returns
