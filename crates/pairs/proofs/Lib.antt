@@ -1,0 +1,3 @@
+pub mod Graph
+pub mod Publishing
+pub mod Shell
