@@ -1,0 +1,80 @@
+// The program certain: reads the pack from catalogue.pack and the query from standard input, and prints whether the query is
+// certain, how many certain pairs it has, and the pairs, spelled.
+mod input; // the pack and the query
+mod spelled; // nodes, spelled
+
+use crate::input::query_length;
+use crate::input::read_pack;
+use crate::spelled::say_pairs;
+use pairs::pairs;
+use yes_no::yes_no;
+
+// A refusal's number.
+fn say_refused(k: u8) {
+    io::write_all(1, b"refused ");
+    io::print_decimal(1, k as u64);
+    io::write_all(1, b"\n");
+}
+
+// The answer and the pair count.
+fn say_answer(yes: bool, count: usize) {
+    if yes {
+        io::write_all(1, b"certain yes\npairs ");
+    } else {
+        io::write_all(1, b"certain no\npairs ");
+    }
+    io::print_decimal(1, count as u64);
+    io::write_all(1, b"\n");
+}
+
+// Asks both calls; a refusal by either is printed alone.
+fn answer(pack: &[u8], query: &[u8]) {
+    let mut nodes = [0u16; 7168];
+    let mut triples = [0u16; 30684];
+    let mut rows = [0u16; 9216];
+    let mut heads = [0u64; 32768];
+    let mut alive = [0u8; 263168];
+    let mut queue = [0u32; 263168];
+    let first = yes_no(
+        pack,
+        query,
+        &mut nodes,
+        &mut triples,
+        &mut rows,
+        &mut heads,
+        &mut alive,
+        &mut queue,
+    );
+    if first.refusal != 0 {
+        say_refused(first.refusal);
+        return;
+    }
+    let mut list = [0u16; 8192];
+    let mut seen = [0u16; 263168];
+    let second = pairs(
+        pack,
+        query,
+        &mut nodes,
+        &mut triples,
+        &mut list,
+        &mut rows,
+        &mut heads,
+        &mut alive,
+        &mut queue,
+        &mut seen,
+    );
+    if second.refusal != 0 {
+        say_refused(second.refusal);
+        return;
+    }
+    say_answer(first.yes, second.pairs);
+    say_pairs(pack, &nodes[..], &list[..], second.pairs);
+}
+
+fn main() {
+    let mut pack = [0u8; 65537];
+    let mut query = [0u8; 258];
+    let n = read_pack(&mut pack);
+    let m = query_length(&mut query);
+    answer(&pack[..n], &query[..m]);
+}
