@@ -4,3 +4,4 @@ pub mod Arity
 pub mod Decide
 pub mod FromCore
 pub mod FromHeads
+pub mod Once
