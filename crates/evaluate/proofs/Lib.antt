@@ -8,3 +8,4 @@ pub mod CertainPairs
 pub mod Places
 mod Readied
 mod Searching
+pub mod Started

@@ -1,63 +1,15 @@
--- The graph that a construction gives, read from the front of its lists and copied to the front of others. Assumes nothing.
-use lib.ListN.{drop, length, length-append, take}
-use lib.Seq.{take-at}
-use mathlib.Core.List.{List, [], _∷_, _++_, Forall₂, Forall₂·nil, Forall₂·cons, flatten}
-use mathlib.Core.Path.{_≡_, refl, sym, ap, _∙_}
-use native.Mathlib.Omega.{arith}
-use Prim.Native.Nat.{ℕ, _*_, _≤_}
+-- The graph that a construction gives, copied to the front of other lists. Assumes nothing.
+use lib.ListN.{drop}
+use mathlib.Core.List.{List, _++_, flatten}
+use mathlib.Core.Path.{_≡_, ap, _∙_}
+use Prim.Native.Nat.{ℕ, _*_}
 use Rattle.construct.specs.Outcome.{Gives}
 use Rattle.construct.specs.declared.Constructed.{Constructed}
-use Rattle.evaluate.proofs.Given.{graph-in}
-use Rattle.evaluate.proofs.KindOrder.{record-length}
-use Rattle.evaluate.specs.GraphIn.{GraphIn}
-use Rattle.meaning.specs.Built.{BuiltNode}
-use Rattle.meaning.specs.Limits.{nodeListLength, tripleListLength}
-use Rattle.meaning.specs.Listing.{NodeRecord, TripleRecord}
-use Rattle.meaning.specs.Member.{_∈_, here, there}
+use Rattle.evaluate.proofs.Given.{node-count, node-front, triple-count, triple-front}
 use Rattle.meaning.specs.Pack.{Pack, Text}
 use Rattle.sets.specs.Buffers.{overlaid}
 
-node-flat : {P : Pack} (bs : List BuiltNode) (rs : List (List ℕ)) → Forall₂ (NodeRecord P) bs rs → length (flatten rs) ≡ length rs * 7
-unfolding flatten
-node-flat [] [] Forall₂·nil = refl
-node-flat (b ∷ bs) (r ∷ rs) (Forall₂·cons h t) = let l = length-append r (flatten rs) in let m = node-flat bs rs t in omega (arith, ap length (h .are), record-length b)
-
-triple-flat : {P : Pack} {bs : List BuiltNode} (rs : List (List ℕ)) → ((r : List ℕ) → r ∈ rs → TripleRecord P bs r) → length (flatten rs) ≡ length rs * 3
-unfolding flatten
-triple-flat [] h = refl
-triple-flat (r ∷ rs) h = let l = length-append r (flatten rs) in let m = triple-flat rs (λ q i. h q (there i)) in omega (arith, ap length (h r (here refl) .are))
-
 module _ {pack : Text} {P : Pack} {r : Constructed} {nodes nodes′ triples triples′ : List ℕ} (G : Gives pack P r nodes nodes′ triples triples′) where
-  pub node-count : r .nodes ≡ length (G .node-records)
-  node-count = ap (λ (x : Constructed). x .nodes) (G .counts)
-
-  pub triple-count : r .triples ≡ length (G .triple-records)
-  triple-count = ap (λ (x : Constructed). x .triples) (G .counts)
-
-  pub node-front : take (r .nodes * 7) nodes′ ≡ flatten (G .node-records)
-  node-front = ap (λ l. take (r .nodes * 7) l) (G .nodes-are) ∙ take-at (flatten (G .node-records)) _ (r .nodes * 7) (omega (arith, node-flat _ _ (G .lists .records), node-count))
-
-  pub triple-front : take (r .triples * 3) triples′ ≡ flatten (G .triple-records)
-  triple-front = ap (λ l. take (r .triples * 3) l) (G .triples-are) ∙ take-at (flatten (G .triple-records)) _ (r .triples * 3) (omega (arith, triple-flat (G .triple-records) (λ q i. G .lists .edges .members q .0 i), triple-count))
-
-  -- as the evaluation reads it, with the same records and the same order of nodes
-  abbrev pub read-graph : nodeListLength ≤ length nodes′ → tripleListLength ≤ length triples′ → GraphIn pack P nodes′ (r .nodes) triples′ (r .triples)
-  read-graph a b = record {
-    is = graph-in G a b .is;
-    has = graph-in G a b .has;
-    node-records = G .node-records;
-    triple-records = G .triple-records;
-    lists = G .lists;
-    node-count = node-count;
-    triple-count = triple-count;
-    nodes-are = node-front;
-    triples-are = triple-front;
-    few-nodes = graph-in G a b .few-nodes;
-    few-triples = graph-in G a b .few-triples;
-    node-room = a;
-    triple-room = b;
-  }
-
   -- copied over the front of other lists
   abbrev pub copied-graph : {to to′ others others′ : List ℕ} → to′ ≡ overlaid (r .nodes * 7) nodes′ to → others′ ≡ overlaid (r .triples * 3) triples′ others → Gives pack P r to to′ others others′
   copied-graph {to} {to′} {others} {others′} e f = record {
@@ -70,6 +22,6 @@ module _ {pack : Text} {P : Pack} {r : Constructed} {nodes nodes′ triples trip
     counts = G .counts;
     few-nodes = G .few-nodes;
     few-triples = G .few-triples;
-    nodes-are = e ∙ ap (λ z. z ++ drop (r .nodes * 7) to) node-front ∙ ap (λ n. flatten (G .node-records) ++ drop (n * 7) to) node-count;
-    triples-are = f ∙ ap (λ z. z ++ drop (r .triples * 3) others) triple-front ∙ ap (λ n. flatten (G .triple-records) ++ drop (n * 3) others) triple-count;
+    nodes-are = e ∙ ap (λ z. z ++ drop (r .nodes * 7) to) (node-front G) ∙ ap (λ n. flatten (G .node-records) ++ drop (n * 7) to) (node-count G);
+    triples-are = f ∙ ap (λ z. z ++ drop (r .triples * 3) others) (triple-front G) ∙ ap (λ n. flatten (G .triple-records) ++ drop (n * 3) others) (triple-count G);
   }

@@ -11,11 +11,13 @@ use Rattle.answers.specs.declared.pairs.Pairs.the-variants.{Listed, TooMany}
 use Rattle.construct.proofs.Decide.{as-graph, as-refusal}
 use Rattle.construct.specs.Outcome.{Constructs, refusal}
 use Rattle.construct.specs.declared.Constructed.{Constructed}
+use Rattle.evaluate.proofs.Given.{graph-in}
+use Rattle.evaluate.proofs.Started.{length-zeros}
 use Rattle.evaluate.specs.Answered.{PairsIn, Ready}
 use Rattle.evaluate.specs.Named.{pairOf}
 use Rattle.meaning.specs.Limits.{maxPairs, nodeListLength, pairListLength, tripleListLength}
 use Rattle.meaning.specs.Pack.{Text}
-use Rattle.pairs.proofs.Graph.{copied-graph, read-graph}
+use Rattle.pairs.proofs.Graph.{copied-graph}
 use Rattle.pairs.specs.Answer.{Answers, Kept, LongEnough, Outcome, answered, lists, no-graph, no-query, too-many}
 use Rattle.pairs.specs.Given.{Given}
 use Rattle.pairs.specs.Written.{Publishable, withPairs}
@@ -27,22 +29,11 @@ use Rattle.sets.specs.Buffers.{overlaid, zeros}
 
 -- ---- lists of zeros
 
-pub length-zeros : (n : ℕ) → length (zeros n) ≡ n
-length-zeros n = length-replicate n 0
-
 pub zeros-long : (n : ℕ) → n ≤ length (zeros n)
 zeros-long n = let h = length-zeros n in omega arith
 
 pub still-long : (n : ℕ) (xs : List ℕ) → length xs ≡ length (zeros n) → n ≤ length xs
 still-long n xs e = let h = length-zeros n in omega arith
-
--- a cleared table has no mark
-pub cleared : (table before queue : List ℕ) → table ≡ zeros (length before) → states ≤ length before → states ≤ length queue → Unmarked 1 states table queue
-cleared table before queue e a b = record {
-  long = omega (arith, ap length e, length-zeros (length before));
-  room = b;
-  below = λ x l. let h = ap (λ t. getD t x 0) e ∙ getD-replicate (length before) x 0 0 (omega arith) in omega arith;
-}
 
 -- a refusal's number, said
 pub said-refusal : {g : Constructed} {r : PairAnswer} {k : ℕ} → g ≡ refusal k → r ≡ answered g 0 → r ≡ answered (refusal k) 0
@@ -55,7 +46,7 @@ all-kept = record { node-list = refl; triple-list = refl; pair-list = refl }
 
 module _ {pack query : Text} {tree : List ℕ} {parts : ℕ} {g : Constructed} {builtNodes builtTriples : List ℕ} (given : Given pack query tree parts g builtNodes builtTriples) where
   pub given-ready : Ready pack query tree parts builtNodes (g .nodes) builtTriples (g .triples)
-  given-ready = record { graph = record { of = given .of; graph = read-graph (given .gives) (given .node-room) (given .triple-room) }; held = given .held; room = given .room }
+  given-ready = record { graph = record { of = given .of; graph = graph-in (given .gives) (given .node-room) (given .triple-room) }; held = given .held; room = given .room }
 
   module _ (x : Pairs) (found : List ℕ) (p : PairsIn pack query builtNodes (g .nodes) builtTriples (g .triples) x found) where
     pub over-pairs : {nodes triples pairs : List ℕ} {h : Constructed} {r : PairAnswer} → x ≡ TooMany → h ≡ refusal 12 → r ≡ answered h 0 → Outcome pack query r nodes nodes triples triples pairs pairs
@@ -67,7 +58,7 @@ module _ {pack query : Text} {tree : List ℕ} {parts : ℕ} {g : Constructed} {
         (given .gives .is)
         (given .gives .small)
         (given .gives .obeyed)
-        (subst (λ y. PairsIn pack query builtNodes (g .nodes) builtTriples (g .triples) y found) e p (given .of) (read-graph (given .gives) (given .node-room) (given .triple-room)) (given .held .expression) (given .held .query))
+        (subst (λ y. PairsIn pack query builtNodes (g .nodes) builtTriples (g .triples) y found) e p (given .of) (graph-in (given .gives) (given .node-room) (given .triple-room)) (given .held .expression) (given .held .query))
         (said-refusal h q)
         all-kept
 
@@ -93,7 +84,7 @@ module _ {pack query : Text} {tree : List ℕ} {parts : ℕ} {g : Constructed} {
       pub listed-pairs : {nodes nodes′ triples triples′ pairs pairs′ : List ℕ} {r : PairAnswer} → maxPairs ≤ length found → nodes′ ≡ overlaid (g .nodes * 7) builtNodes nodes
           → triples′ ≡ overlaid (g .triples * 3) builtTriples triples → pairs′ ≡ withPairs k found pairs → r ≡ answered g k → Outcome pack query r nodes nodes′ triples triples′ pairs pairs′
       listed-pairs {pairs = pairs} l a b c q =
-          let f = listed-in .2 (given .of) (read-graph (given .gives) (given .node-room) (given .triple-room)) (given .held .expression) (given .held .query) in
+          let f = listed-in .2 (given .of) (graph-in (given .gives) (given .node-room) (given .triple-room)) (given .held .expression) (given .held .query) in
           lists
           (given .held .expression)
           (given .held .query)
@@ -132,9 +123,6 @@ module _ {pack query : Text} {tree : List ℕ} {parts : ℕ} {before builtNodes 
   }
 
 -- ---- the query
-
-pub as-held : (q : Query) (query : Text) (tree : List ℕ) {n : ℕ} → Answered q query tree → q ≡ Parts n → Held query tree n
-as-held q query tree a e = subst (λ x. Answered x query tree) e a
 
 pub not-read : (q : Query) {pack : Text} (query : Text) (tree : List ℕ) {nodes triples pairs : List ℕ} {g : Constructed} {r : PairAnswer} → Answered q query tree → q ≡ NoExpression → g ≡ refusal 2
     → r ≡ answered g 0 → Outcome pack query r nodes nodes triples triples pairs pairs

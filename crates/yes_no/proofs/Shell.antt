@@ -1,12 +1,10 @@
 -- Yes/no's answer, step by step. Assumes nothing.
 use lib.Dec.{T}
-use lib.ListN.{getD, getD-replicate, length, length-replicate}
+use lib.ListN.{length}
 use mathlib.Core.Bool.{Bool, false}
 use mathlib.Core.List.{List}
 use mathlib.Core.Path.{_≡_, refl, sym, ap, subst, _∙_}
-use native.Mathlib.Omega.{arith}
-use Prim.Native.Nat.{ℕ, _≤_, _<_}
-use Rattle.alive.specs.Worklist.{Unmarked, states}
+use Prim.Native.Nat.{ℕ, _≤_}
 use Rattle.construct.proofs.Decide.{as-graph, as-refusal}
 use Rattle.construct.specs.Outcome.{Constructs, refusal}
 use Rattle.construct.specs.declared.Constructed.{Constructed}
@@ -15,22 +13,11 @@ use Rattle.evaluate.specs.Answered.{Ready, YesIn}
 use Rattle.meaning.specs.Limits.{nodeListLength, tripleListLength}
 use Rattle.meaning.specs.Pack.{Text}
 use Rattle.query.specs.Answer.{Answered, Held}
-use Rattle.query.specs.declared.Query.the-variants.{NoExpression, Parts}
+use Rattle.query.specs.declared.Query.the-variants.{NoExpression}
 use Rattle.query.specs.declared.Query.{Query}
 use Rattle.sets.specs.Buffers.{zeros}
 use Rattle.yes_no.specs.Answer.{Answers, LongEnough, Outcome, answered, answers, no-graph, no-query}
 use Rattle.yes_no.specs.declared.YesNo.{YesNo}
-
--- a cleared table has no mark
-pub cleared : (table before queue : List ℕ) → table ≡ zeros (length before) → states ≤ length before → states ≤ length queue → Unmarked 1 states table queue
-cleared table before queue e a b = record {
-  long = omega (arith, ap length e, length-zeros (length before));
-  room = b;
-  below = λ x l. let h = ap (λ t. getD t x 0) e ∙ getD-replicate (length before) x 0 0 (omega arith) in omega arith;
-}
-  where
-    length-zeros : (n : ℕ) → length (zeros n) ≡ n
-    length-zeros n = length-replicate n 0
 
 module _ {pack query : Text} {tree : List ℕ} {parts : ℕ} {nodes nodes′ triples triples′ : List ℕ} {g : Constructed}
     (held : Held query tree parts) (c : Constructs pack g nodes nodes′ triples triples′) where
@@ -72,11 +59,7 @@ module _ {pack query : Text} {r : YesNo} {nodes triples rows heads alive queue :
 pub said-1 : {g : Constructed} {r : YesNo} {k : ℕ} → g ≡ refusal k → r ≡ answered g false → r ≡ answered (refusal k) false
 said-1 e q = q ∙ ap (λ x. answered x false) e
 
--- ---- the query
-
-pub as-held : (q : Query) (query : Text) (tree : List ℕ) {n : ℕ} → Answered q query tree → q ≡ Parts n → Held query tree n
-as-held q query tree a e = subst (λ x. Answered x query tree) e a
-
+-- 2
 pub not-read : (q : Query) {pack : Text} (query : Text) (tree : List ℕ) {nodes triples : List ℕ} {g : Constructed} {r : YesNo} → Answered q query tree → q ≡ NoExpression → g ≡ refusal 2 → r ≡ answered g false
     → Outcome pack query r nodes nodes triples triples
 not-read x query tree a e h q = no-query (subst (λ y. Answered y query tree) e a) (said-1 h q) refl refl

@@ -9,6 +9,7 @@ pub mod generate;
 pub mod graph;
 pub mod pack;
 pub mod query;
+pub mod records;
 pub mod spelling;
 
 pub use graph::{Graph, NodeRecord, TripleRecord};

@@ -3,7 +3,8 @@
 use crate::encode::{bodies, encode, join};
 use crate::generate::{pairs_pack, product_pack, sample};
 use crate::graph::UNUSED;
-use crate::pack::{Head, Pack, Row, Shape, Term, LITERAL};
+use crate::pack::{Head, Pack, Term, LITERAL};
+use crate::records::{row, shape};
 use crate::{build, certain, less_line_feed, pairs, read_back, yes_no, Graph};
 
 fn graph(pack: &Pack) -> Graph {
@@ -29,22 +30,6 @@ fn is_read(query: &str) -> bool {
             assert_eq!(refusal.number, 2);
             false
         }
-    }
-}
-
-fn row(relation: u8, values: &[u8]) -> Row {
-    Row {
-        relation,
-        values: values.to_vec(),
-    }
-}
-
-fn shape(type_number: u8, predicate: u8, target: u8, multiplicity: u8) -> Shape {
-    Shape {
-        type_number,
-        predicate,
-        target,
-        multiplicity,
     }
 }
 

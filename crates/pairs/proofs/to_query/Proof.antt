@@ -1,7 +1,8 @@
 -- `pairs::to_query` meets its contract. Assumes nothing.
 use borrow.Author.Needs.{needs}
 use native.Mathlib.Omega.{arith}
-use Rattle.pairs.proofs.Shell.{as-held, not-read}
+use Rattle.evaluate.proofs.Started.{as-held}
+use Rattle.pairs.proofs.Shell.{not-read}
 use Rattle.pairs.proofs.to_query.Statement.{statement}
 use Rattle.pairs.proofs.to_query.Tie as tie
 

@@ -1,7 +1,8 @@
 -- `yes_no::in_graph` meets its contract. Assumes nothing.
 use borrow.Author.Needs.{needs}
 use native.Mathlib.Omega.{arith}
-use Rattle.yes_no.proofs.Shell.{answered-graph, cleared, ready-graph, refused-graph}
+use Rattle.evaluate.proofs.Started.{cleared}
+use Rattle.yes_no.proofs.Shell.{answered-graph, ready-graph, refused-graph}
 use Rattle.yes_no.proofs.in_graph.Statement.{statement}
 use Rattle.yes_no.proofs.in_graph.Tie as tie
 

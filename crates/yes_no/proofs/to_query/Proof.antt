@@ -2,7 +2,8 @@
 use borrow.Author.Needs.{needs}
 use mathlib.Core.Path.{refl, subst}
 use native.Mathlib.Omega.{arith}
-use Rattle.yes_no.proofs.Shell.{as-held, not-read}
+use Rattle.evaluate.proofs.Started.{as-held}
+use Rattle.yes_no.proofs.Shell.{not-read}
 use Rattle.yes_no.proofs.to_query.Statement.{statement}
 use Rattle.yes_no.proofs.to_query.Tie as tie
 

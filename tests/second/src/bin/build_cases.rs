@@ -5,9 +5,8 @@
 
 use second::encode::{bodies, encode, join};
 use second::generate::{case, product_pack, sample};
-use second::pack::{
-    Atom, Constructor, Dependency, Head, Pack, Row, Rule, Shape, Term, LITERAL, MAX_BYTES,
-};
+use second::pack::{Atom, Dependency, Head, Pack, Rule, Term, LITERAL, MAX_BYTES};
+use second::records::{atom, constructor, numbered, row, shape, term};
 use second::{build, Graph, Refusal};
 use std::process::ExitCode;
 
@@ -300,56 +299,14 @@ fn most_nodes() -> Pack {
 
 // ------------------------------------------------------- records
 
-fn numbered(count: usize) -> Vec<Vec<u8>> {
-    let value = |number| format!("v{number}").into_bytes();
-    (0..count).map(value).collect()
-}
-
 fn named(first: u8, count: u8) -> Vec<Vec<u8>> {
     (0..count).map(|name| vec![first, b'a' + name]).collect()
-}
-
-fn shape(type_number: u8, predicate: u8, target: u8, multiplicity: u8) -> Shape {
-    Shape {
-        type_number,
-        predicate,
-        target,
-        multiplicity,
-    }
-}
-
-fn constructor(arity: u8, prefix: &[u8]) -> Constructor {
-    Constructor {
-        arity,
-        prefix: prefix.to_vec(),
-    }
-}
-
-fn row(relation: u8, values: &[u8]) -> Row {
-    Row {
-        relation,
-        values: values.to_vec(),
-    }
 }
 
 fn rule(atoms: &[Atom], head: Head) -> Rule {
     Rule {
         atoms: atoms.to_vec(),
         head,
-    }
-}
-
-fn atom(relation: u8, variables: &[u8]) -> Atom {
-    Atom {
-        relation,
-        variables: variables.to_vec(),
-    }
-}
-
-fn term(constructor: u8, variables: &[u8]) -> Term {
-    Term {
-        constructor,
-        variables: variables.to_vec(),
     }
 }
 

@@ -2,9 +2,8 @@
 
 use super::valid::{random_row, random_rule};
 use super::Random;
-use crate::pack::{
-    Atom, Constructor, Dependency, Head, Pack, Row, Rule, Shape, Term, LITERAL, MAX_RECORDS,
-};
+use crate::pack::{Dependency, Head, Pack, Row, Rule, Shape, Term, LITERAL, MAX_RECORDS};
+use crate::records::{atom, constructor, numbered, term};
 
 /// A pack close to 512 IRI nodes, 1,024 triples, 4,096 pairs or the most
 /// records.
@@ -191,31 +190,4 @@ pub fn full_pack(random: &mut Random) -> Pack {
         _ => {}
     }
     pack
-}
-
-fn numbered(count: usize) -> Vec<Vec<u8>> {
-    (0..count)
-        .map(|number| format!("v{number}").into_bytes())
-        .collect()
-}
-
-fn constructor(arity: u8, prefix: &[u8]) -> Constructor {
-    Constructor {
-        arity,
-        prefix: prefix.to_vec(),
-    }
-}
-
-fn atom(relation: u8, variables: &[u8]) -> Atom {
-    Atom {
-        relation,
-        variables: variables.to_vec(),
-    }
-}
-
-fn term(constructor: u8, variables: &[u8]) -> Term {
-    Term {
-        constructor,
-        variables: variables.to_vec(),
-    }
 }

@@ -2,7 +2,7 @@
 use borrow.Author.Needs.{needs}
 use Rattle.pairs.proofs.find.find_pairs.Statement.{statement}
 use Rattle.pairs.proofs.find.find_pairs.Tie as tie
-use Rattle.pairs.proofs.Shell.{cleared}
+use Rattle.evaluate.proofs.Started.{cleared}
 
 pub find-pairs-spec : {M : Type 1} → statement M
 find-pairs-spec =
