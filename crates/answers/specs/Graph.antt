@@ -1,6 +1,5 @@
 -- A graph whose nodes are numbers, and when the code's lists hold it and know the names of a query. Assumes nothing.
-use lib.ListN.{drop, getD, take}
-use mathlib.Core.List.{List}
+use lib.ListN.{getD}
 use mathlib.Core.Logic.{_↔_}
 use mathlib.Core.Path.{_≡_}
 use Prim.Native.Nat.{ℕ, _*_, _+_, _<_}
@@ -9,7 +8,7 @@ use Rattle.index.specs.Triples.{TripleIn}
 use Rattle.meaning.specs.Limits.{maxPredicates}
 use Rattle.meaning.specs.Pack.{Text}
 use Rattle.meaning.specs.Query.{Expr, Joins, View}
-use Rattle.walk.specs.Parts.{firstOf, kindOf, secondOf}
+use Rattle.walk.specs.Parts.{kindOf, partText}
 
 -- The nodes are the numbers below count.
 pub record Numbered : Type 1 where
@@ -29,10 +28,6 @@ view G = record {
   LiteralLabel = G .LiteralLabel;
 }
 
--- The name or label of the part i, in the query q.
-abbrev pub textAt : Text → List ℕ → ℕ → Text
-textAt q t i = take (secondOf t i) (drop (firstOf t i) q)
-
 -- The lists hold the graph: its edges are exactly the triples; they join nodes, and are by predicates of the pack.
 pub record HeldIn (G : Numbered) (L : Lists) : Type 0 where
   pub nodes : G .count ≡ L .nodes
@@ -42,9 +37,9 @@ pub record HeldIn (G : Numbered) (L : Lists) : Type 0 where
 
 -- Each part that has a name or a label asks for the predicate or the node that this belongs to.
 pub record Resolved (G : Numbered) (q : Text) (L : Lists) : Type 0 where
-  pub steps : (i : ℕ) → i < L .parts → kindOf (L .tree) i ≡ 2 → (p : ℕ) → p < maxPredicates → G .Names (textAt q (L .tree) i) p ↔ (p ≡ getD (L .wanted) i 0)
-  pub iris : (i : ℕ) → i < L .parts → kindOf (L .tree) i ≡ 3 → (n : ℕ) → n < G .count → G .IriLabel (textAt q (L .tree) i) n ↔ (n ≡ getD (L .wanted) i 0)
-  pub literals : (i : ℕ) → i < L .parts → kindOf (L .tree) i ≡ 4 → (n : ℕ) → n < G .count → G .LiteralLabel (textAt q (L .tree) i) n ↔ (n ≡ getD (L .wanted) i 0)
+  pub steps : (i : ℕ) → i < L .parts → kindOf (L .tree) i ≡ 2 → (p : ℕ) → p < maxPredicates → G .Names (partText q (L .tree) i) p ↔ (p ≡ getD (L .wanted) i 0)
+  pub iris : (i : ℕ) → i < L .parts → kindOf (L .tree) i ≡ 3 → (n : ℕ) → n < G .count → G .IriLabel (partText q (L .tree) i) n ↔ (n ≡ getD (L .wanted) i 0)
+  pub literals : (i : ℕ) → i < L .parts → kindOf (L .tree) i ≡ 4 → (n : ℕ) → n < G .count → G .LiteralLabel (partText q (L .tree) i) n ↔ (n ≡ getD (L .wanted) i 0)
 
 -- x is the number of a pair that the expression joins, of two of the first `named` nodes.
 pub record JoinedPair (G : Numbered) (e : Expr) (named x : ℕ) : Type 0 where

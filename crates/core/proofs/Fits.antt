@@ -6,12 +6,12 @@ use mathlib.Core.Path.{_≡_, refl, ap, _∙_, subst}
 use native.Mathlib.Omega.{arith}
 use Prim.Native.Nat.{ℕ, _+_, _*_, _^_, _≤_, _<_}
 use Rattle.core.proofs.Declared.{head-predicate}
-use Rattle.core.proofs.NodeSources.{Fine, bytes-of, fine, getElem-lt}
+use Rattle.core.proofs.NodeSources.{Fine, bytes-of, fine}
 use Rattle.core.proofs.Packed.{packed-lt}
-use Rattle.core.proofs.Sources.{there-is}
 use Rattle.core.specs.Bounds.{Bounded, HeadFits, HeadsFit, KeyFits}
 use Rattle.core.specs.Heads.{HeadsHeld, headArguments, headNumbers, keysOf, keysPerRule}
 use Rattle.meaning.proofs.Lists.Members.{element, ∈-append}
+use Rattle.meaning.proofs.Lists.Places.{inside, there-is}
 use Rattle.meaning.proofs.Model.Resolved.{headTerms, headVariables, resolved}
 use Rattle.meaning.specs.Core.{Assignment, headFact}
 use Rattle.meaning.specs.Limits.{maxArguments, maxConstructors, maxRules}
@@ -27,7 +27,7 @@ module _ {P : Pack} (b : Bounded P) {rule : Rule} (listed : rule ∈ P .setting 
   term-fits t m =
       let d = resolved P (b .resolved) .terms rule listed t m in
       let a = b .arities (d .0) (element (P .setting .constructors) (t .constructor) (d .0) (d .1)) in (
-        omega (arith, getElem-lt (P .setting .constructors) (t .constructor) (d .0) (d .1), b .constructors),
+        omega (arith, inside (P .setting .constructors) (t .constructor) (d .0) (d .1), b .constructors),
         omega (arith, a .0, d .2),
         omega (arith, a .1, d .2),
       )

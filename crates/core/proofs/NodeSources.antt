@@ -1,11 +1,10 @@
 -- The node keys of all heads are the keys of the core's nodes. Assumes nothing.
-use lib.ListN.{length, getElem?}
+use lib.ListN.{length}
 use mathlib.Core.List.{List, [], _∷_, map, Memᴰ·map as ∈-map}
 use mathlib.Core.Logic.{_↔_, inr}
-use mathlib.Core.Option.{some, Option·none-ne-some}
 use mathlib.Core.Path.{_≡_, refl, sym, ap, ap₂, _∙_, subst}
 use native.Mathlib.Omega.{arith}
-use Prim.Native.Nat.{ℕ, zero, suc, _≤_, _<_, zero-le, suc-le-suc}
+use Prim.Native.Nat.{ℕ, _≤_, _<_}
 use Rattle.core.proofs.NodeKeys.{keys-of-link, keys-of-type}
 use Rattle.core.proofs.Packed.{Bytes}
 use Rattle.core.proofs.Sources.{Source, link-object, link-subject, type-subject, value-object, value-subject}
@@ -21,11 +20,6 @@ use Rattle.meaning.specs.Core.{Assignment, CoreNode, Fact, Given, Matches, Node
 use Rattle.meaning.specs.Member.{_∈_, here, there}
 use Rattle.meaning.specs.Pack.{Head, Pack, Rule, Term, hasType, linksTo, linksToValue}
 use Rattle.meaning.specs.Tables.{packed}
-
-pub getElem-lt : {A : Type 0} (xs : List A) (i : ℕ) (x : A) → getElem? xs i ≡ some x → i < length xs
-getElem-lt [] i x e = absurd (Option·none-ne-some x e)
-getElem-lt (y ∷ xs) zero x e = suc-le-suc zero-le
-getElem-lt (y ∷ xs) (suc i) x e = suc-le-suc (getElem-lt xs i x e)
 
 -- ---- what the bounds say of a match
 

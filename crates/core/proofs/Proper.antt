@@ -7,12 +7,13 @@ use mathlib.Core.Option.{some, Option·some-injective}
 use mathlib.Core.Path.{_≡_, refl, sym, ap, ap₂, _∙_, subst}
 use native.Mathlib.Omega.{arith}
 use Prim.Native.Nat.{ℕ, _+_, _*_, _-_, _^_, _≤_, _<_}
-use Rattle.core.proofs.NodeSources.{Fine, bytes-of, core-in, fine, getElem-lt}
+use Rattle.core.proofs.NodeSources.{Fine, bytes-of, core-in, fine}
 use Rattle.core.proofs.Packed.{Bytes, packed-injective, packed-lt, packed-padded}
 use Rattle.core.proofs.Powers.{padded-lt, up-to-four}
 use Rattle.core.specs.Bounds.{Bounded}
 use Rattle.core.specs.Keys.{keyOf}
 use Rattle.meaning.proofs.Lists.Members.{∈-append}
+use Rattle.meaning.proofs.Lists.Places.{inside}
 use Rattle.meaning.proofs.Model.Core.{nodesIn}
 use Rattle.meaning.proofs.Model.Resolved.{headTerms, headVariables, resolved}
 use Rattle.meaning.specs.Core.{Assignment, CoreNode, Node, headFact, iriNode, literalNode, nodeOf}
@@ -77,7 +78,7 @@ module _ {P : Pack} (b : Bounded P) {rule : Rule} (listed : rule ∈ P .setting 
       record {
         constructor = d .0;
         is = d .1;
-        low = omega (arith, getElem-lt (P .setting .constructors) (t .constructor) (d .0) (d .1), b .constructors);
+        low = omega (arith, inside (P .setting .constructors) (t .constructor) (d .0) (d .1), b .constructors);
         arity = e ∙ d .2;
         few = omega arith;
         bytes = s;

@@ -1,32 +1,21 @@
 -- What the heads' numbers give is what the pack's rules give. Assumes nothing.
-use lib.ListN.{length, getElem?, length-map}
+use lib.ListN.{length, length-map}
 use mathlib.Core.List.{List, [], _∷_, _++_, map, map-append}
 use mathlib.Core.Logic.{_↔_}
-use mathlib.Core.Option.{some}
-use mathlib.Core.Path.{_≡_, refl, sym, ap, _∙_}
-use native.Mathlib.Nat.{div-one, not-suc-le-zero, le-of-suc-le-suc}
+use mathlib.Core.Path.{_≡_, refl, ap, _∙_}
+use native.Mathlib.Nat.{div-one}
 use native.Mathlib.Omega.{arith}
-use Prim.Native.Nat.{ℕ, zero, suc, _*_, _+_, _-_, _/_, _%_, _^_, _≤_, _<_, zero-le, suc-le-suc}
+use Prim.Native.Nat.{ℕ, _*_, _+_, _-_, _/_, _%_, _^_, _≤_, _<_}
 use Rattle.core.proofs.Packed.{Bytes, one-packed, packed-back, packed-front, packed-padded, single}
 use Rattle.core.specs.Collected.{FromRules, objectKey, subjectKey}
 use Rattle.core.specs.Heads.{HeadsHeld, headArguments, headNumbers}
 use Rattle.core.specs.Keys.{keyOf}
 use Rattle.meaning.proofs.Lists.Members.{element}
+use Rattle.meaning.proofs.Lists.Places.{inside, placed, there-is}
 use Rattle.meaning.specs.Core.{Assignment, Matches, literalNode, nodeOf}
-use Rattle.meaning.specs.Member.{_∈_, here, there}
+use Rattle.meaning.specs.Member.{_∈_}
 use Rattle.meaning.specs.Pack.{Pack, Rule, Term, hasType, linksTo, linksToValue}
 use Rattle.meaning.specs.Tables.{packed}
-
--- ---- elements at places
-
-pub there-is : {A : Type 0} (xs : List A) (i : ℕ) → i < length xs → (x : A) × (getElem? xs i ≡ some x)
-there-is [] i h = absurd (not-suc-le-zero h)
-there-is (x ∷ xs) zero h = (x, refl)
-there-is (x ∷ xs) (suc i) h = there-is xs i (le-of-suc-le-suc h)
-
-pub placed : {A : Type 0} {x : A} {xs : List A} → x ∈ xs → (i : ℕ) × (i < length xs) × (getElem? xs i ≡ some x)
-placed (here e) = (0, suc-le-suc zero-le, ap some (sym e))
-placed (there m) = let r = placed m in (suc (r .0), suc-le-suc (r .1), r .2)
 
 -- ---- rule by rule
 
@@ -60,11 +49,11 @@ module _ {P : Pack} {rules : List (List ℕ)} {count : ℕ} {heads counts : List
           let k = packed (map (s .values) (headArguments (s .rule .head))) in
           record {
             rule = r .0;
-            below = omega (arith, r .1, h .many);
+            below = omega (arith, inside (P .setting .rules) (r .0) (s .rule) (r .1), h .many);
             gives = record {
               key = k;
-              listed = h .keys (r .0) (s .rule) (r .2) .members k .1 (record { values = s .values; matches = s .matches; is = refl });
-              gives = rw (h .numbers (r .0) (s .rule) (r .2)) (s .gives);
+              listed = h .keys (r .0) (s .rule) (r .1) .members k .1 (record { values = s .values; matches = s .matches; is = refl });
+              gives = rw (h .numbers (r .0) (s .rule) (r .1)) (s .gives);
             };
           }
 

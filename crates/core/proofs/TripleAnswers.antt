@@ -9,7 +9,7 @@ use Prim.Native.Nat.{ℕ, _≤_, _<_}
 use Rattle.core.proofs.Counting.{choose, over-of, pigeonhole}
 use Rattle.core.proofs.Lists.{list-as, only-new}
 use Rattle.core.proofs.Proper.{core-proper, key-injective}
-use Rattle.core.proofs.Sources.{placed, sources}
+use Rattle.core.proofs.Sources.{sources}
 use Rattle.core.proofs.TripleSources.{at-rank, rank-at, triple-sources}
 use Rattle.core.specs.Bounds.{Bounded, HeadFits, HeadsFit, maxNodes}
 use Rattle.core.specs.Collected.{Adding, Beyond, FromRules, Grown, tripleKeys}
@@ -19,6 +19,7 @@ use Rattle.core.specs.Keys.{keyOf, tripleKey}
 use Rattle.core.specs.Outcomes.{TriplesAnswer, TriplesListed}
 use Rattle.core.specs.declared.counted.Counted.{Counted}
 use Rattle.core.specs.declared.counted.Counted.the-variants.{Count, TooLarge}
+use Rattle.meaning.proofs.Lists.Places.{inside, placed}
 use Rattle.meaning.specs.Core.{CoreEdge, CoreNode, Node, asObject, asSubject, headFact, triple}
 use Rattle.meaning.specs.Limits.{maxCoreTriples, maxPredicates}
 use Rattle.meaning.specs.Member.{_∈_}
@@ -73,7 +74,7 @@ module _ {rules : List (List ℕ)} {count : ℕ} {heads counts : List ℕ} (fit 
     unfolding headFact headNumbers
     predicate-small {n} {m} {p} g =
         let r = placed (g .listed) in
-        let f : HeadFits (headNumbers (g .rule .head)) = rw (← h .numbers (r .0) (g .rule) (r .2)) (fit .fits (r .0) (omega (arith, r .1, h .many))) in
+        let f : HeadFits (headNumbers (g .rule .head)) = rw (← h .numbers (r .0) (g .rule) (r .1)) (fit .fits (r .0) (omega (arith, inside (P .setting .rules) (r .0) (g .rule) (r .1), h .many))) in
         go (g .rule .head) f (g .says)
       where
         go : (k : Head) → HeadFits (headNumbers k) → headFact (g .values) k ≡ triple n p m → p < maxPredicates

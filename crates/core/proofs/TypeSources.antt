@@ -6,7 +6,7 @@ use mathlib.Core.Option.{some}
 use mathlib.Core.Path.{_≡_, refl, sym, ap, _∙_, subst}
 use native.Mathlib.Omega.{arith}
 use Prim.Native.Nat.{ℕ, _≤_, _<_}
-use Rattle.core.proofs.NodeSources.{Fine, fine, getElem-lt}
+use Rattle.core.proofs.NodeSources.{Fine, fine}
 use Rattle.core.proofs.Sources.{sources, type-subject}
 use Rattle.core.proofs.TripleAnswers.{node-in, predicate-small, rank-one}
 use Rattle.core.proofs.TripleSources.{at-rank, rank-at}
@@ -16,6 +16,7 @@ use Rattle.core.specs.Heads.{HeadsHeld, headArguments, headNumbers}
 use Rattle.core.specs.Held.{NodeKey, TripleKey}
 use Rattle.core.specs.Keys.{keyOf, tripleKey}
 use Rattle.core.specs.Spread.{Passed, SpreadFrom, along, held, objectOf, predicateOf, subjectOf}
+use Rattle.meaning.proofs.Lists.Places.{inside}
 use Rattle.meaning.proofs.Model.Resolved.{headTerms}
 use Rattle.meaning.specs.Core.{Assignment, CoreNode, CoreType, Given, Node, asObject, asSubject, asTyped, given, headFact, nodeOf, passed, typed}
 use Rattle.meaning.specs.Member.{_∈_, here}
@@ -96,7 +97,7 @@ module _ {rules : List (List ℕ)} {count : ℕ} {heads counts : List ℕ} (fit 
       let s = rank-at (keyOf (x .from)) nodes (x .subject) (l .ascending) (x .from-at) in
       let o = rank-at (keyOf (x .to)) nodes (x .object) (l .ascending) (x .to-at) in
       let y = decoded (x .subject) (x .predicate) (x .object) (omega (arith, predicate-small fit nodes few P h b l (x .edge)))
-      (omega (arith, getElem-lt nodes (x .object) (keyOf (x .to)) (x .to-at), few)) in
+      (omega (arith, inside nodes (x .object) (keyOf (x .to)) (x .to-at), few)) in
       let ys : subjectOf k ≡ x .subject = ap subjectOf (x .is) ∙ y .0 in
       let yp : predicateOf k ≡ x .predicate = ap predicateOf (x .is) ∙ y .1 in
       let yo : objectOf k ≡ x .object = ap objectOf (x .is) ∙ y .2 in

@@ -4,16 +4,15 @@ use lib.Dec.{ltb}
 use lib.ListN.{getElem?, length}
 use mathlib.Core.Bool.{false}
 use mathlib.Core.List.{List, [], _∷_, map, Memᴰ·map, Memᴰ·of-map}
-use mathlib.Core.Logic.{_↔_}
 use mathlib.Core.Option.{some}
-use mathlib.Core.Path.{_≡_, refl, sym, ap, subst, _∙_}
+use mathlib.Core.Path.{_≡_, refl, sym, subst, _∙_}
 use native.Mathlib.Omega.{arith}
 use Prim.Native.Nat.{ℕ, _+_, _*_, _/_, _%_, _≤_, _<_}
 use Rattle.answers.specs.Graph.{JoinedPair}
 use Rattle.evaluate.proofs.Built.{built-listed, built-whole}
 use Rattle.evaluate.proofs.Over.{listed-few, over-carried}
-use Rattle.evaluate.proofs.Places.{joined, joined-back, placed, same-at}
-use Rattle.evaluate.specs.Listed.{Between}
+use Rattle.evaluate.proofs.Places.{joined, joined-back}
+use Rattle.meaning.proofs.Lists.Places.{placed, same-at}
 use Rattle.evaluate.specs.Named.{NamedFirst, byPlace, pairOf}
 use Rattle.meaning.proofs.Theory.Simulated.{is-core}
 use Rattle.meaning.proofs.Theory.Theorem.{certain-pair}
@@ -24,7 +23,7 @@ use Rattle.meaning.specs.Core.{CoreNode, Node}
 use Rattle.meaning.specs.Graph.{Spelling, nameOf}
 use Rattle.meaning.specs.Limits.{maxPairs}
 use Rattle.meaning.specs.Listing.{NodesInOrder}
-use Rattle.meaning.specs.Member.{_∈_, here, there}
+use Rattle.meaning.specs.Member.{_∈_}
 use Rattle.meaning.specs.NoGraph.{NoGraph}
 use Rattle.meaning.specs.Ordered.{InOrder, ListOf, Over, _≺_, before, empty, equal, less}
 use Rattle.meaning.specs.Pack.{Pack}

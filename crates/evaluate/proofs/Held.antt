@@ -1,10 +1,9 @@
 -- The two lists hold the graph by the places of its nodes, and the numbers wanted are those of its names and labels. Assumes
 -- nothing.
-use lib.ListN.{length, take, getD, getElem?, List·getD-append}
+use lib.ListN.{length, getD, getElem?, List·getD-append}
 use lib.Seq.{getD-take, getD-append-add}
 use mathlib.Core.Bool.{false}
 use mathlib.Core.List.{List, [], _∷_, _++_, Forall₂, Forall₂·nil, Forall₂·cons, flatten}
-use mathlib.Core.Logic.{_↔_}
 use mathlib.Core.Option.{some, Option·none-ne-some, Option·some-injective}
 use mathlib.Core.Path.{_≡_, refl, sym, ap, subst, _∙_}
 use native.Mathlib.Omega.{arith}
@@ -14,9 +13,8 @@ use Rattle.alive.specs.Lists.{Lists}
 use Rattle.answers.specs.Graph.{HeldIn, Numbered, Resolved}
 use Rattle.core.proofs.Declared.{edge-predicate}
 use Rattle.evaluate.proofs.Built.{in-order-at}
-use Rattle.evaluate.proofs.Places.{inside, placed, same-at, there-is}
+use Rattle.meaning.proofs.Lists.Places.{inside, placed, same-at, there-is}
 use Rattle.evaluate.specs.GraphIn.{GraphIn}
-use Rattle.evaluate.specs.Listed.{Between}
 use Rattle.evaluate.specs.Named.{byPlace}
 use Rattle.index.specs.Triples.{GraphFits, SubjectsRise, TripleIn, objectOf, predicateOf, subjectOf}
 use Rattle.meaning.proofs.Lists.Members.{element}

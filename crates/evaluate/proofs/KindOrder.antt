@@ -1,7 +1,7 @@
 -- The nodes before the first invented one are the named nodes. Assumes nothing.
 use borrow.Author.Tests.{ltb-true, ltb-false}
 use lib.Dec.{ltb}
-use lib.ListN.{getD, getElem?, length, List·getD-append}
+use lib.ListN.{getD, getElem?, length}
 use lib.Seq.{getD-take, getD-append-add}
 use mathlib.Core.Bool.{Bool, true, false}
 use mathlib.Core.List.{List, [], _∷_, _++_, Forall₂, Forall₂·nil, Forall₂·cons, flatten}
@@ -11,7 +11,7 @@ use native.Mathlib.Omega.{arith}
 use Prim.Native.Nat.{ℕ, zero, suc, _+_, _*_, _≤_, _<_}
 use Rattle.evaluate.proofs.Built.{in-order-at}
 use Rattle.evaluate.proofs.Held.{count-is, inOrder}
-use Rattle.evaluate.proofs.Places.{inside, there-is}
+use Rattle.meaning.proofs.Lists.Places.{inside, there-is}
 use Rattle.evaluate.specs.GraphIn.{GraphIn}
 use Rattle.evaluate.specs.Kinds.{FirstInvented, kindAt}
 use Rattle.evaluate.specs.Named.{NamedFirst}

@@ -1,38 +1,17 @@
 -- An expression joins two places exactly if it joins the nodes there. Assumes nothing.
-use lib.ListN.{getElem?, length}
-use mathlib.Core.List.{List, [], _∷_}
+use lib.ListN.{getElem?}
+use mathlib.Core.List.{List}
 use mathlib.Core.Logic.{_↔_, inl, inr}
-use mathlib.Core.Option.{some, Option·none-ne-some, Option·some-injective}
-use mathlib.Core.Path.{_≡_, refl, sym, ap, subst, _∙_}
-use native.Mathlib.Nat.{le-of-suc-le-suc, not-suc-le-zero}
-use native.Mathlib.Omega.{arith}
-use Prim.Native.Nat.{ℕ, zero, suc, _<_, suc-le-suc, zero-le}
+use mathlib.Core.Option.{some}
+use mathlib.Core.Path.{_≡_, refl, sym, subst}
+use Prim.Native.Nat.{ℕ}
 use Rattle.meaning.proofs.Lists.Members.{element}
-use Rattle.meaning.specs.Member.{_∈_, here, there}
+use Rattle.meaning.proofs.Lists.Places.{inside, placed, same-at, there-is}
+use Rattle.meaning.specs.Member.{there}
 use Rattle.meaning.specs.Query.{Expr, stay, step, anyStep, atIri, atLiteral, nested, sequence, union, star, View, Repeated, none, more, Joins, Satisfied}
 use Rattle.walk.proofs.Meanings.{joins-from, joins-to}
 use Rattle.walk.specs.Walk.{EdgesJoinNodes}
-use Rattle.evaluate.specs.Listed.{At, Between, ListsNodes, places}
-
--- ---- elements at places
-
-module _ {A : Type 0} where
-  pub inside : (xs : List A) (i : ℕ) (x : A) → getElem? xs i ≡ some x → i < length xs
-  inside [] i x e = absurd (Option·none-ne-some x e)
-  inside (y ∷ ys) zero x e = suc-le-suc zero-le
-  inside (y ∷ ys) (suc i) x e = suc-le-suc (inside ys i x e)
-
-  pub there-is : (xs : List A) (i : ℕ) → i < length xs → (x : A) × (getElem? xs i ≡ some x)
-  there-is [] i h = absurd (not-suc-le-zero h)
-  there-is (x ∷ xs) zero h = (x, refl)
-  there-is (x ∷ xs) (suc i) h = there-is xs i (le-of-suc-le-suc h)
-
-  pub placed : {x : A} {xs : List A} → x ∈ xs → (i : ℕ) × (getElem? xs i ≡ some x)
-  placed (here e) = (0, ap some (sym e))
-  placed (there m) = let r = placed m in (suc (r .0), r .1)
-
-  pub same-at : (xs : List A) (i : ℕ) {x y : A} → getElem? xs i ≡ some x → getElem? xs i ≡ some y → x ≡ y
-  same-at xs i {x} {y} p q = Option·some-injective x y (sym p ∙ q)
+use Rattle.evaluate.specs.Listed.{Between, ListsNodes, places}
 
 -- ---- what is joined
 

@@ -12,9 +12,10 @@ use Prim.Native.Nat.{ℕ, zero, suc, _+_, _-_, _%_, _<_, _≤_}
 use Rattle.core.specs.Keys.{keyOf, tripleKey}
 use Rattle.graph.specs.Clash.{ClashAt}
 use Rattle.graph.specs.Input.{Input, objectOf, originOf, predicateOf, subjectOf}
-use Rattle.graph.proofs.Places.{EdgeAt, at, at-is, edge-at, edge-key, limits-masked, masked, place, place-of, place-small, predicate-small, same-node-at, same-place, shaped}
+use Rattle.graph.proofs.Places.{EdgeAt, at, at-is, edge-at, edge-key, limits-masked, masked, place-of, place-small, predicate-small, same-node-at, same-place, shaped}
 use Rattle.graph.proofs.Shaped.{Limits, limits-shape}
 use Rattle.meaning.proofs.Lists.Members.{element}
+use Rattle.meaning.proofs.Lists.Places.{placed}
 use Rattle.meaning.specs.Built.{core}
 use Rattle.meaning.specs.Core.{CoreEdge, asObject, asSubject}
 use Rattle.meaning.specs.Member.{_∈_, here, there}
@@ -149,7 +150,7 @@ module _ {P : Pack} {table : List (List ℕ)} {nodes triples masks : List ℕ} (
           let x = tripleKey i p o in
           let y = tripleKey i p o′ in
           let hp = predicate-small I (c .edge₁) in
-          let r = place m in
+          let r = placed m in
           let n = next-le triples (I .held .triple-keys .ascending) (r .0) x y (r .1) m′ (omega arith) in
           let b = getD triples (suc (r .0)) 0 in
           let ia = at-is triples (r .0) x (r .1) in

@@ -11,12 +11,12 @@ use Rattle.graph.specs.Clash.{ClashAt, ClashWritten}
 use Rattle.graph.specs.Input.{Input, Placed, objectOf, predicateOf, subjectOf}
 use Rattle.graph.specs.Records.{Arities, KeysSmall, coreNumbers, overwritten}
 use Rattle.graph.proofs.CoreList.{numbers-long}
-use Rattle.graph.proofs.Keys.{place-lt}
 use Rattle.graph.proofs.ListedLaws.{parts-written}
 use Rattle.graph.proofs.Places.{at-is, masked, place-small, predicate-small, well}
 use Rattle.graph.proofs.Proper.{proper}
 use Rattle.graph.proofs.Records.{core-record}
 use Rattle.graph.proofs.Written.{written-long}
+use Rattle.meaning.proofs.Lists.Places.{inside}
 use Rattle.meaning.specs.Built.{core}
 use Rattle.meaning.specs.Core.{CoreNode, Node, asObject, asSubject}
 use Rattle.meaning.specs.Listing.{NodeRecord}
@@ -56,7 +56,7 @@ pub key-small : {nodes : List ℕ} → KeysSmall nodes → (j : ℕ) → j < len
 key-small {nodes} k j h = k .small (getD nodes j 0) (∈-at nodes j h)
 
 pub clash-place : {P : Pack} {nodes triples : List ℕ} {i : ℕ} → ClashAt P nodes triples i → suc i < length triples
-clash-place {triples = triples} {i} x = place-lt triples (suc i) _ (x .second-key)
+clash-place {triples = triples} {i} x = inside triples (suc i) _ (x .second-key)
 
 key-parts : (s p o : ℕ) → p < 12 → o < 1024 → (subjectOf (tripleKey s p o) ≡ s) × (predicateOf (tripleKey s p o) ≡ p) × (objectOf (tripleKey s p o) ≡ o)
 unfolding tripleKey

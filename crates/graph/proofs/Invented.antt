@@ -14,9 +14,9 @@ use Prim.Native.Nat.{ℕ, _+_, _*_, _%_, _<_}
 use Rattle.core.specs.Keys.{keyOf, tripleKey}
 use Rattle.graph.specs.Input.{Input, subjectOf, predicateOf}
 use Rattle.graph.specs.Invent.{Follows, HasOrigin, InventedSets, Lacks, Leads, Marked, Upto, follows, marked, maxSets, setAt}
-use Rattle.graph.proofs.Keys.{place-lt}
 use Rattle.graph.proofs.Places.{edge-at, edge-key, masked, node-at, place-of, place-small, requires-masked, same-node-at, targets-masked, masked-targets, well}
 use Rattle.graph.proofs.SetNumbers.{number-one}
+use Rattle.meaning.proofs.Lists.Places.{inside}
 use Rattle.meaning.proofs.Theory.Invented.{mask-small}
 use Rattle.meaning.specs.Built.{BuiltNode, Gets, HasCoreEdge, IsBuilt, PTargets, arises, core, inCore, invented}
 use Rattle.meaning.specs.Core.{CoreEdge, CoreNode, Node, asObject, asSubject}
@@ -116,7 +116,7 @@ module _ {P : Pack} {table : List (List ℕ)} {nodes triples masks : List ℕ} (
     built-follows : {X : TypeSet} → IsBuilt P (invented X) → Follows P flags (setNumber X)
     built-follows {X} (arises {b = core n} {p} (inCore c) g) =
         let s = place-of I c in
-        let h = place-lt nodes (s .0) (keyOf n) (s .1) in
+        let h = inside nodes (s .0) (keyOf n) (s .1) in
         let k = masked I n (s .0) c (s .1) in
         let l = leads-to g (arises (inCore c) g) in
         let hp = known-predicate g in

@@ -2,7 +2,7 @@
 use lib.Dec.{lit<}
 use lib.ListN.{getElem?, length, length-append, length-take, replicate, take}
 use mathlib.Core.List.{List, [], _∷_, _++_, foldl}
-use mathlib.Core.Option.{some, Option·none-ne-some, Option·some-injective}
+use mathlib.Core.Option.{some, Option·some-injective}
 use mathlib.Core.Path.{_≡_, refl, sym, ap, subst, _∙_}
 use native.Mathlib.Nat.{not-suc-le-zero, le-of-suc-le-suc}
 use native.Mathlib.Omega.{arith}
@@ -11,6 +11,7 @@ use Rattle.core.specs.Bounds.{Bounded}
 use Rattle.core.specs.Keys.{keyOf}
 use Rattle.graph.proofs.Proper.{Proper}
 use Rattle.meaning.proofs.Lists.Members.{element}
+use Rattle.meaning.proofs.Lists.Places.{inside}
 use Rattle.meaning.proofs.Lists.Sorted.{Compared, alike, compare, higher, lower}
 use Rattle.meaning.proofs.Model.Listing.{nodeKey-one}
 use Rattle.meaning.specs.Built.{core}
@@ -77,11 +78,6 @@ packed-lt vs s = head-less 0 1 (four vs) (replicate 4 0) (lit< tt) (four-long vs
 core-one : {n m : Node} → core n ≡ core m → n ≡ m
 core-one e = cc
 
-pub place-lt : {A : Type 0} (xs : List A) (i : ℕ) (x : A) → getElem? xs i ≡ some x → i < length xs
-place-lt [] i x e = absurd (Option·none-ne-some x e)
-place-lt (y ∷ ys) zero x e = omega arith
-place-lt (y ∷ ys) (suc i) x e = let h = place-lt ys i x e in omega arith
-
 module _ (P : Pack) (b : Bounded P) where
   -- a constructor's place and a node's arguments within their bounds
   pub key-less : (n m : Node) → Proper P n → Proper P m → core n ◃ core m → keyOf n < keyOf m
@@ -101,7 +97,7 @@ module _ (P : Pack) (b : Bounded P) where
       omega arith
   key-less (iriNode c vs) (literalNode w) x y h =
       let s = packed-lt vs (all-small (length (P .setting .values)) (b .values) vs (x .3)) in
-      let l = place-lt (P .setting .constructors) c (x .0) (x .1) in
+      let l = inside (P .setting .constructors) c (x .0) (x .1) in
       let k = b .constructors in
       omega arith
   key-less (literalNode v) (iriNode d ws) x y (less h) = absurd (let z : ⊥ = omega arith in z)
@@ -132,6 +128,6 @@ pub iri-key-lt : (P : Pack) → Bounded P → (c : ℕ) (vs : List ℕ) → Prop
 unfolding keyOf
 iri-key-lt P b c vs x =
     let s = packed-lt vs (all-small (length (P .setting .values)) (b .values) vs (x .3)) in
-    let l = place-lt (P .setting .constructors) c (x .0) (x .1) in
+    let l = inside (P .setting .constructors) c (x .0) (x .1) in
     let k = b .constructors in
     omega arith

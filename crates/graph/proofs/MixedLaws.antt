@@ -17,10 +17,11 @@ use Rattle.graph.specs.Invent.{InventedSets, setAt}
 use Rattle.graph.specs.Mixed.{MixedCore, MixedFlags, Somewhere, mixedNode}
 use Rattle.graph.specs.Records.{KeysSmall}
 use Rattle.graph.proofs.Invented.{lifted, number-back, setNumber, small-set}
-use Rattle.graph.proofs.Keys.{iri-key-lt, place-lt}
+use Rattle.graph.proofs.Keys.{iri-key-lt}
 use Rattle.graph.proofs.Places.{NodeAt, at-is, masked, node-at, place-of, typed-node, well}
 use Rattle.graph.proofs.Proper.{Proper, proper}
 use Rattle.meaning.proofs.Lists.Bits.{bit-bound, zero-bits}
+use Rattle.meaning.proofs.Lists.Places.{inside}
 use Rattle.meaning.specs.Built.{IsBuilt, invented}
 use Rattle.meaning.specs.Core.{CoreNode, CoreType, Node, iriNode, literalNode}
 use Rattle.meaning.specs.NoGraph.{MixedKinds, iriLiteral, literalTyped, mixedSet}
@@ -106,7 +107,7 @@ module _ {P : Pack} {table : List (List ℕ)} {nodes triples masks : List ℕ} (
       let h = masked I (literalNode v) i (typed-node P c) e .types (type t) .1 c in
       record {
         at = i;
-        below = place-lt nodes i (keyOf (literalNode v)) e;
+        below = inside nodes i (keyOf (literalNode v)) e;
         holds = subst (λ k. T (mixedNode k (getD masks i 0))) (sym (at-is nodes i (keyOf (literalNode v)) e))
             (subst T (mixed-literal (keyOf (literalNode v)) (getD masks i 0) (literal-key v)) (not-eq-T (getD masks i 0 % 2 ^ 15) (has-some t (getD masks i 0 % 2 ^ 15) h)));
       }
@@ -120,7 +121,7 @@ module _ {P : Pack} {table : List (List ℕ)} {nodes triples masks : List ℕ} (
       let e = p .1 in
       record {
         at = i;
-        below = place-lt nodes i (keyOf (iriNode c vs)) e;
+        below = inside nodes i (keyOf (iriNode c vs)) e;
         holds = subst (λ x. T (mixedNode x (getD masks i 0))) (sym (at-is nodes i (keyOf (iriNode c vs)) e))
             (subst T (mixed-iri (keyOf (iriNode c vs)) (getD masks i 0) (iri-key-lt P (I .bounded) c vs (proper P (well I) n))) (masked I (iriNode c vs) i n e .types Literal .1 k));
       }

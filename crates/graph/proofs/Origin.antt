@@ -13,8 +13,8 @@ use native.Mathlib.Omega.{arith}
 use Prim.Native.Nat.{ℕ, zero, suc, _*_, _/_, _<_, _≤_}
 use Rattle.graph.specs.Input.{originOf}
 use Rattle.graph.specs.Invent.{HasOrigin}
-use Rattle.graph.proofs.Keys.{place-lt}
-use Rattle.graph.proofs.Places.{at-is, place}
+use Rattle.graph.proofs.Places.{at-is}
+use Rattle.meaning.proofs.Lists.Places.{inside, placed}
 use Rattle.meaning.specs.Ordered.{InOrder, before}
 use Rattle.sets.proofs.Ascending.{∈-at}
 use Rattle.sets.proofs.Rank.{rank-above, rank-below}
@@ -40,9 +40,9 @@ module _ (xs : List ℕ) (a : InOrder _<_ xs) (q : ℕ) where
   -- and so a triple of this origin stands there, if there is one
   pub origin-first : (r : ℕ) → r ≡ rankOf (q * 1024) xs → HasOrigin xs q → (r < length xs) × (originOf (getD xs r 0) ≡ q)
   origin-first r e o =
-      let p = place (o .listed) in
+      let p = placed (o .listed) in
       let k = at-is xs (p .0) (o .key) (p .1) in
-      let l = place-lt xs (p .0) (o .key) (p .1) in
+      let l = inside xs (p .0) (o .key) (p .1) in
       let i = o .is in
       let b = rank-below (q * 1024) xs (p .0) (omega arith) in
       let h : r < length xs = omega arith in

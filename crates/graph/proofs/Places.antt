@@ -7,18 +7,21 @@ use mathlib.Core.Path.{_≡_, refl, sym, ap, subst, _∙_}
 use native.Mathlib.Nat.{le-of-suc-le-suc, not-suc-le-zero}
 use native.Mathlib.Omega.{arith}
 use Prim.Native.Nat.{ℕ, zero, suc, _%_, _^_, _<_}
+use Rattle.core.proofs.Declared.{edge-predicate}
+use Rattle.core.proofs.Shapes.{codes-fit, tabled}
 use Rattle.core.specs.Keys.{keyOf, tripleKey}
 use Rattle.graph.specs.Input.{Input, Placed, objectOf, predicateOf, subjectOf}
-use Rattle.graph.proofs.Keys.{key-one, place-lt}
-use Rattle.graph.proofs.Proper.{edge-predicate, proper}
-use Rattle.graph.proofs.Shaped.{Limits, codes-fit, tabled}
+use Rattle.graph.proofs.Keys.{key-one}
+use Rattle.graph.proofs.Proper.{proper}
+use Rattle.graph.proofs.Shaped.{Limits}
 use Rattle.meaning.proofs.Lists.Bits.{mask-lt}
 use Rattle.meaning.proofs.Lists.Members.{element}
+use Rattle.meaning.proofs.Lists.Places.{inside, placed}
 use Rattle.meaning.proofs.Model.Resolved.{Resolved, resolved}
 use Rattle.meaning.specs.Built.{BuiltNode, HasType, PTarget, PTargets, Requires, core, invented}
 use Rattle.meaning.specs.Core.{CoreEdge, CoreNode, CoreType, Given, Node, asObject, asTyped, given, headFact, passed, typed}
 use Rattle.meaning.specs.Limits.{maxPredicates}
-use Rattle.meaning.specs.Member.{_∈_, here, there}
+use Rattle.meaning.specs.Member.{_∈_}
 use Rattle.meaning.specs.Ordered.{InOrder, before}
 use Rattle.meaning.specs.Pack.{Head, Pack, Target, hasType, linksTo, linksToValue, type}
 use Rattle.meaning.specs.Tables.{setOfMask}
@@ -37,10 +40,6 @@ pub at-is : (xs : List ℕ) (i x : ℕ) → getElem? xs i ≡ some x → getD xs
 at-is [] i x e = absurd (Option·none-ne-some x e)
 at-is (y ∷ ys) zero x e = Option·some-injective y x e
 at-is (y ∷ ys) (suc i) x e = at-is ys i x e
-
-pub place : {A : Type 0} {x : A} {xs : List A} → x ∈ xs → (i : ℕ) × (getElem? xs i ≡ some x)
-place {A} {x} (here e) = (0, ap {B = Option A} some (sym e))
-place (there m) = let r = place m in (suc (r .0), r .1)
 
 -- an ascending list has each number once
 pub place-once : (xs : List ℕ) → InOrder _<_ xs → (i j x : ℕ) → getElem? xs i ≡ some x → getElem? xs j ≡ some x → i ≡ j
@@ -123,10 +122,10 @@ module _ {P : Pack} {table : List (List ℕ)} {nodes triples masks : List ℕ} (
   well = resolved P (I .bounded .resolved)
 
   pub shaped : Tabled (P .setting) table
-  shaped = tabled P (I .bounded) table (I .shapes)
+  shaped = tabled (I .shapes) (I .bounded)
 
   pub input-codes : CodesFit table
-  input-codes = codes-fit (P .setting) table shaped
+  input-codes = codes-fit (I .shapes) (I .bounded)
 
   -- the node at a place
   pub record NodeAt (i : ℕ) : Type 0 where
@@ -140,7 +139,7 @@ module _ {P : Pack} {table : List (List ℕ)} {nodes triples masks : List ℕ} (
       record { node = k .node; inCore = k .inCore; is = at nodes i h ∙ ap {B = Option ℕ} some (k .is) }
 
   pub place-of : {n : Node} → CoreNode P n → (i : ℕ) × (getElem? nodes i ≡ some (keyOf n))
-  place-of {n} c = place (I .held .node-keys .members (keyOf n) .1 (record { node = n; inCore = c; is = refl }))
+  place-of {n} c = placed (I .held .node-keys .members (keyOf n) .1 (record { node = n; inCore = c; is = refl }))
 
   pub same-node-at : {n m : Node} (i : ℕ) → CoreNode P n → CoreNode P m → getElem? nodes i ≡ some (keyOf n) → getElem? nodes i ≡ some (keyOf m) → n ≡ m
   same-node-at {n} {m} i c d e f = key-one P (I .bounded) n m (proper P well c) (proper P well d) (Option·some-injective (keyOf n) (keyOf m) (sym e ∙ f))
@@ -174,8 +173,8 @@ module _ {P : Pack} {table : List (List ℕ)} {nodes triples masks : List ℕ} (
   edge-at k m =
       let t = I .held .triple-keys .members k .0 m in
       let hp = edge-predicate P (I .bounded .resolved) (t .edge) in
-      let ho = place-lt nodes (t .object) (keyOf (t .to)) (t .to-at) in
-      let hs = place-lt nodes (t .subject) (keyOf (t .from)) (t .from-at) in
+      let ho = inside nodes (t .object) (keyOf (t .to)) (t .to-at) in
+      let hs = inside nodes (t .subject) (keyOf (t .from)) (t .from-at) in
       let bp = I .bounded .predicates in
       let few = I .few in
       let q = parts (t .subject) (t .predicate) (t .object) (omega arith) (omega arith) in
@@ -200,7 +199,7 @@ module _ {P : Pack} {table : List (List ℕ)} {nodes triples masks : List ℕ} (
       (record { subject = s; predicate = p; object = o; from = n; to = m; from-at = e; to-at = f; edge = g; is = refl })
 
   pub place-small : (n : Node) (i : ℕ) → getElem? nodes i ≡ some (keyOf n) → i < 1024
-  place-small n i e = let h = place-lt nodes i (keyOf n) e in let f = I .few in omega arith
+  place-small n i e = let h = inside nodes i (keyOf n) e in let f = I .few in omega arith
 
   pub predicate-small : {n m : Node} {p : ℕ} → CoreEdge P n p m → p < maxPredicates
   predicate-small e = let h = edge-predicate P (I .bounded .resolved) e in let b = I .bounded .predicates in omega arith

@@ -1,21 +1,18 @@
 -- What the nodes and edges of the core are made of, in a pack that 7 does not refuse: declared constructors over as many
 -- values as their arity, values of the pack, predicates of the pack. Assumes nothing.
-use lib.Dec.{T, ltb→lt}
 use lib.ListN.{getElem?, length, length-map}
-use mathlib.Core.Bool.{Bool, true, false, not, _&&_}
-use mathlib.Core.List.{[], _∷_, Memᴰ·map as ∈-map}
+use mathlib.Core.Bool.{not}
+use mathlib.Core.List.{Memᴰ·map as ∈-map}
 use mathlib.Core.Option.{some}
-use mathlib.Core.Path.{_≡_, refl, sym, subst, _∙_}
+use mathlib.Core.Path.{_≡_, refl, subst, _∙_}
 use mathlib.Core.Logic.{inl, inr}
 use native.Mathlib.Omega.{arith}
 use Prim.Native.Nat.{ℕ, _<_}
-use Rattle.meaning.proofs.Lists.Members.{both, every-at, ∈-append, ∈-map⁻¹}
-use Rattle.meaning.proofs.Model.Resolved.{Bound, Declared, Resolved, headTerms, headVariables, shapeIn-only}
+use Rattle.meaning.proofs.Lists.Members.{∈-append, ∈-map⁻¹}
+use Rattle.meaning.proofs.Model.Resolved.{Bound, Declared, Resolved, headTerms, headVariables}
 use Rattle.meaning.specs.Core.{Assignment, CoreEdge, CoreNode, Given, Matches, Node, Fact, asObject, asSubject, asTyped, headFact, iriNode, literalNode, nodeOf, triple, typed}
 use Rattle.meaning.specs.Member.{_∈_, here, there}
-use Rattle.meaning.specs.Pack.{Constructor, HasShape, Head, Pack, Rule, Shape, ShapeRecord, Target, Term, hasType, linksTo, linksToValue, shapeOf}
-use Rattle.meaning.specs.Tests.{every}
-use Rattle.meaning.specs.WellFormed.{dangling, goodAtom, goodDependency, goodHead, goodPredicate, goodRow, goodRule, goodShape, goodTarget, goodTerm, goodType, inAtoms}
+use Rattle.meaning.specs.Pack.{Constructor, Head, Pack, Target, Term, hasType, linksTo, linksToValue}
 
 -- a constructor over as many values as its arity, or a value
 abbrev pub Proper : Pack → Node → Type 0
@@ -71,64 +68,6 @@ module _ (P : Pack) (wf : Resolved P) where
   proper {n} (asTyped {S} g) = typed-proper P (g .values) (g .rule .head) (known g) n S (g .says)
   proper {n} (asSubject {p} {m} e) = subject-proper P (e .values) (e .rule .head) (known e) n m p (e .says)
   proper {n} (asObject {p} {m} e) = object-proper P (e .values) (e .rule .head) (known e) m n p (e .says)
-
--- ---- predicates of edges
-
-passed : (b : Bool) → not b ≡ false → T b
-passed true e = tt
-passed false e = subst T e tt
-
-module _ (P : Pack) (not-7 : dangling P ≡ false) where
-  abbrev dependencies-good : Bool
-  dependencies-good = every (goodDependency P) (P .setting .dependencies)
-
-  abbrev shapes-good : Bool
-  shapes-good = every (goodShape P) (P .setting .shapes)
-
-  abbrev rules-good : Bool
-  rules-good = every (goodRule P) (P .setting .rules)
-
-  abbrev rows-good : Bool
-  rows-good = every (goodRow P) (P .rows)
-
-  good-head : (r : Rule) → r ∈ P .setting .rules → T (goodHead P (r .atoms) (r .head))
-  unfolding dangling
-  good-head r i =
-      let all = both ((dependencies-good && shapes-good) && rules-good) rows-good .0 (passed (((dependencies-good && shapes-good) && rules-good) && rows-good) not-7) .0 in
-      both (every (goodAtom P) (r .atoms)) (goodHead P (r .atoms) (r .head)) .0
-      (every-at (goodRule P) (P .setting .rules) (both (dependencies-good && shapes-good) rules-good .0 all .1) i) .1
-
-  good-shape : (r : ShapeRecord) → r ∈ P .setting .shapes → T (goodShape P r)
-  unfolding dangling
-  good-shape r i =
-      let all = both ((dependencies-good && shapes-good) && rules-good) rows-good .0 (passed (((dependencies-good && shapes-good) && rules-good) && rows-good) not-7) .0 in
-      every-at (goodShape P) (P .setting .shapes) (both dependencies-good shapes-good .0 (both (dependencies-good && shapes-good) rules-good .0 all .0) .1) i
-
-  pub shape-owner : {t p : ℕ} {s : Shape} → HasShape (P .setting) t p s → t < length (P .setting .types)
-  unfolding shapeOf
-  shape-owner {t} {p} {s} d =
-      let r = shapeIn-only (P .setting .shapes) t p s (d .is) in
-      let g = good-shape (r .0) (r .1) in
-      let o = both (goodType P (r .0 .owner)) (goodPredicate P (r .0 .predicate)) .0
-      (both (goodType P (r .0 .owner) && goodPredicate P (r .0 .predicate)) (goodTarget P (r .0 .shape .target)) .0 g .0) .0 in
-      subst (λ x. x < length (P .setting .types)) (sym (r .2)) (ltb→lt (r .0 .owner) (length (P .setting .types)) o)
-
-  pub edge-predicate : {n m : Node} {p : ℕ} → CoreEdge P n p m → p < length (P .setting .predicates)
-  unfolding headFact
-  edge-predicate {n} {m} {p} g = go (g .rule .head) (good-head (g .rule) (g .listed)) (g .says)
-    where
-      go : (h : Head) → T (goodHead P (g .rule .atoms) h) → headFact (g .values) h ≡ triple n p m → p < length (P .setting .predicates)
-      go (hasType s t) k e = absurd (let z : _≡_ {A = ℕ} 0 1 = cc in let y : ⊥ = omega arith in y)
-      go (linksTo s q o) k e =
-          let r : q ≡ p = cc in
-          subst (λ x. x < length (P .setting .predicates)) r
-          (ltb→lt q (length (P .setting .predicates))
-          (both (goodTerm P (g .rule .atoms) s) (goodPredicate P q) .0 (both (goodTerm P (g .rule .atoms) s && goodPredicate P q) (goodTerm P (g .rule .atoms) o) .0 k .0) .1))
-      go (linksToValue s q v) k e =
-          let r : q ≡ p = cc in
-          subst (λ x. x < length (P .setting .predicates)) r
-          (ltb→lt q (length (P .setting .predicates))
-          (both (goodTerm P (g .rule .atoms) s) (goodPredicate P q) .0 (both (goodTerm P (g .rule .atoms) s && goodPredicate P q) (inAtoms (g .rule .atoms) (v ∷ [])) .0 k .0) .1))
 
 -- the subject of an edge is an IRI
 pub subject-iri : (P : Pack) {n m : Node} {p : ℕ} → CoreEdge P n p m → (v : ℕ) → n ≡ literalNode v → ⊥

@@ -14,17 +14,18 @@ use Rattle.graph.specs.Invent.{HasOrigin, InventedSets, Upto, maskOf, ma
 use Rattle.graph.specs.Records.{SetPlaces, setList}
 use Rattle.graph.specs.Triples.{EdgeFrom, IriEdge, Listed, Numbered, maxTriples, SetEdge, TriplesListed, gotten, present}
 use Rattle.graph.proofs.Invented.{known-predicate, leads-to, lifted, no-core-edge, no-origin, number-back, setNumber, small-set}
-use Rattle.graph.proofs.Keys.{iri-key-lt, key-one, place-lt}
+use Rattle.graph.proofs.Keys.{iri-key-lt, key-one}
 use Rattle.graph.proofs.EdgeLaws.{by-subject}
 use Rattle.graph.proofs.ListedLaws.{listed-join}
 use Rattle.graph.proofs.Order.{all-nodes, inOrder, nodes-in-order, setNode}
-use Rattle.graph.proofs.Places.{at-is, edge-at, edge-key, masked, masked-targets, node-at, place, place-of, place-small, predicate-small, requires-masked, shaped, targets-masked, well}
+use Rattle.graph.proofs.Places.{at-is, edge-at, edge-key, masked, masked-targets, node-at, place-of, place-small, predicate-small, requires-masked, shaped, targets-masked, well}
 use Rattle.graph.proofs.Proper.{proper, subject-iri}
 use Rattle.graph.proofs.SetNumbers.{mask-set}
 use Rattle.graph.proofs.SetOrder.{set-above}
 use Rattle.meaning.proofs.Lists.Bits.{bit-bound}
 use Rattle.meaning.proofs.Lists.Members.{element}
 use Rattle.meaning.proofs.Lists.Ordered.{by-key, list-unique}
+use Rattle.meaning.proofs.Lists.Places.{inside, placed}
 use Rattle.meaning.proofs.Model.Listing.{placed-only}
 use Rattle.meaning.specs.Built.{BuiltEdge, BuiltNode, Gets, IsBuilt, PTargets, Requires, arises, core, fromCore, inCore, invented, made}
 use Rattle.meaning.specs.Core.{CoreEdge, CoreNode, Node, asObject, asSubject, iriNode, literalNode}
@@ -97,7 +98,7 @@ module _ {P : Pack} {table : List (List ℕ)} {nodes triples masks flags : List 
   built-at b i e = ordered .members b .0 (element bs i b e)
 
   at-built : (b : BuiltNode) → IsBuilt P b → (i : ℕ) × (getElem? bs i ≡ some b)
-  at-built b h = place (ordered .members b .1 h)
+  at-built b h = placed (ordered .members b .1 h)
 
   key-at : (n : Node) (i : ℕ) → CoreNode P n → getElem? bs i ≡ some (core n) → getElem? nodes i ≡ some (keyOf n)
   key-at n i c e =
@@ -109,7 +110,7 @@ module _ {P : Pack} {table : List (List ℕ)} {nodes triples masks flags : List 
   iri-below : (c : ℕ) (vs : List ℕ) (i : ℕ) → CoreNode P (iriNode c vs) → getElem? nodes i ≡ some (keyOf (iriNode c vs)) → i < rankOf firstLiteral nodes
   iri-below c vs i k e =
       rank-above firstLiteral nodes i (subst (λ x. x < firstLiteral) (sym (at-is nodes i (keyOf (iriNode c vs)) e)) (iri-key-lt P (I .bounded) c vs (proper P (well I) k)))
-      (I .held .node-keys .ascending) (place-lt nodes i (keyOf (iriNode c vs)) e)
+      (I .held .node-keys .ascending) (inside nodes i (keyOf (iriNode c vs)) e)
 
   module _ (places : List ℕ) (numbered : Numbered bs places) where
     set-at : (j : ℕ) → j < maxSets → IsBuilt P (invented (setAt j)) → getElem? bs (getD places j 0) ≡ some (invented (setAt j))

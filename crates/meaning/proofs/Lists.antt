@@ -1,5 +1,6 @@
 pub mod Bits
 pub mod Members
 pub mod Ordered
+pub mod Places
 pub mod Reach
 pub mod Sorted

@@ -9,3 +9,4 @@ pub mod Texts
 pub mod Naming
 pub mod Atoms
 pub mod Order
+pub mod Bounds

@@ -14,7 +14,7 @@ use Rattle.meaning.specs.Member.{_∈_}
 use Rattle.meaning.specs.Pack.{Pack, Text, Constructor}
 use Rattle.pack.proofs.Unpacking.{unpacked}
 use Rattle.pack.specs.Checked.{Checked, refused, accepted, wellFormed, numberOf}
-use Rattle.readback.proofs.Bounds.{constructor-bounded}
+use Rattle.pack.proofs.Bounds.{constructor-bounded}
 use Rattle.readback.specs.Answer.{Answers, not-well-formed, no-iri, iri, refusal, term, read}
 use Rattle.readback.specs.declared.ReadBack.{ReadBack}
 use Rattle.readback.specs.Held.{OfPack, TextsHeld, ConstructorsHeld}

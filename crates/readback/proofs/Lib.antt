@@ -1,4 +1,3 @@
 pub mod Answered
-pub mod Bounds
 pub mod Filling
 pub mod Places

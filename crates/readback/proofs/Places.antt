@@ -22,7 +22,7 @@ use Rattle.pack.proofs.Unpacking.{unpacked}
 use Rattle.pack.specs.Checked.{wellFormed, accepted}
 use Rattle.pack.specs.Contents.{badSize}
 use Rattle.pack.specs.Unpack.{Decoded}
-use Rattle.readback.proofs.Bounds.{value-short, Bounded, constructor-bounded}
+use Rattle.pack.proofs.Bounds.{value-short, Bounded, constructor-bounded}
 use Rattle.readback.proofs.Filling.{at-longer, at-shorter, take-more, texts-on, constructors-on}
 use Rattle.readback.specs.Held.{OfPack, TextsHeld, ConstructorsHeld, SamePlace}
 

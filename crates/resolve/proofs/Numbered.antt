@@ -14,7 +14,7 @@ use Rattle.meaning.specs.Listing.{inventedKind, kind, number, padded, arguments
 use Rattle.meaning.specs.Member.{_∈_}
 use Rattle.meaning.specs.Pack.{Pack, Text, Constructor}
 use Rattle.pack.proofs.Unpacking.{unpacked}
-use Rattle.readback.proofs.Bounds.{Bounded, constructor-bounded}
+use Rattle.pack.proofs.Bounds.{Bounded, constructor-bounded}
 use Rattle.resolve.proofs.Records.{padded-inj}
 use Rattle.spelling.proofs.CoreTerms.{core-in-pack}
 use Rattle.spelling.proofs.Reading.{SomeArguments}

@@ -1,6 +1,6 @@
 -- The names and labels of a query as numbers (document 01, "The query"): of a predicate, or of a node by its place in the
 -- node list. Assumes nothing.
-use lib.ListN.{take, drop, getD, getElem?}
+use lib.ListN.{getD, getElem?}
 use mathlib.Core.List.{List}
 use mathlib.Core.Logic.{_↔_}
 use mathlib.Core.Option.{some}
@@ -14,11 +14,7 @@ use Rattle.meaning.specs.Pack.{Pack, Text}
 use Rattle.readback.specs.Held.{OfPack}
 use Rattle.resolve.specs.Listed.{Listed}
 use Rattle.spelling.specs.Iri.{plain}
-use Rattle.walk.specs.Parts.{kindOf, firstOf, secondOf}
-
--- The name or label of part i of the tree t.
-abbrev pub labelOf : Text → List ℕ → ℕ → Text
-labelOf q t i = take (secondOf t i) (drop (firstOf t i) q)
+use Rattle.walk.specs.Parts.{kindOf, partText}
 
 -- The number w is that of the predicate of this name. "An unknown name .. matches nothing": it has a number that is none's.
 abbrev pub PredicateIs : Pack → Text → ℕ → Type 0
@@ -44,7 +40,7 @@ pub record Wants (P : Pack) (inOrder : List BuiltNode) (kind : ℕ) (text : Text
 
 -- What the parts below n of the tree t want, whose names and labels are texts of the query q.
 pub record Wanted (P : Pack) (inOrder : List BuiltNode) (q : Text) (t : List ℕ) (n : ℕ) (wanted : List ℕ) : Type 0 where
-  pub parts : (i : ℕ) → i < n → Wants P inOrder (kindOf t i) (labelOf q t i) (getD wanted i 0)
+  pub parts : (i : ℕ) → i < n → Wants P inOrder (kindOf t i) (partText q t i) (getD wanted i 0)
 
 -- What holds of the pack that the bytes are, and of its node list.
 abbrev pub OfGraph : Text → List ℕ → ℕ → (Pack → List BuiltNode → Type 0) → Type 0

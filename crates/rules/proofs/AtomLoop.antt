@@ -16,7 +16,7 @@ use Rattle.pack.specs.declared.cursor.Cursor.{Cursor}
 use Rattle.pack.specs.declared.cursor.Tuple.{Tuple}
 use Rattle.pack.proofs.Reading.{length-at}
 use Rattle.rules.proofs.Places.{length-atom}
-use Rattle.rules.proofs.Read.{atom-fine}
+use Rattle.pack.proofs.Bounds.{atom-fine}
 
 -- ---- atoms one after another
 

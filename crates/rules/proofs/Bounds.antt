@@ -5,10 +5,10 @@ use Prim.Native.Nat.{ℕ}
 use Rattle.access.proofs.Accepted.{WellFormed, well-formed}
 use Rattle.core.specs.Bounds.{Bounded}
 use Rattle.meaning.specs.Pack.{Pack}
+use Rattle.pack.proofs.Bounds.{constructor-bounded}
 use Rattle.pack.proofs.Unpacking.{unpacked}
 use Rattle.pack.specs.Checked.{wellFormed, accepted}
 use Rattle.pack.specs.Contents.{bodyOf}
-use Rattle.rules.proofs.Read.{constructor-arity}
 
 pub bounded-of : {s : List ℕ} {P : Pack} → WellFormed s P → Bounded P
 bounded-of {s} {P} w =
@@ -18,7 +18,7 @@ bounded-of {s} {P} w =
       types = u .types .1;
       predicates = u .predicates .1;
       constructors = u .constructors .1;
-      arities = constructor-arity (bodyOf s 6) (P .setting .constructors) (u .constructors .0);
+      arities = λ k m. let a = constructor-bounded (bodyOf s 6) (P .setting .constructors) (u .constructors .0) k m in (a .some-arguments, a .few-arguments);
       resolved = w .named;
     }
 

@@ -10,18 +10,18 @@ use native.Mathlib.Omega.{arith}
 use Prim.Native.Nat.{ℕ, _+_, _*_, _-_, _≤_, _<_, zero-le}
 use Rattle.access.proofs.Accepted.{well-formed}
 use Rattle.access.specs.Places.{IsWellFormed}
-use Rattle.core.proofs.NodeSources.{getElem-lt}
 use Rattle.core.specs.Heads.{headArguments, keysOf}
 use Rattle.matching.specs.Rule.{HeadKey}
 use Rattle.matching.specs.declared.Heads.the-variants.{Listed, Over}
 use Rattle.meaning.proofs.Lists.Members.{element}
+use Rattle.meaning.proofs.Lists.Places.{inside, there-is}
 use Rattle.meaning.specs.NoGraph.{TooLarge}
 use Rattle.meaning.specs.Ordered.{ListOf, Over as OverSet}
 use Rattle.meaning.specs.Pack.{Pack, Rule}
 use Rattle.pack.specs.Checked.{wellFormed, accepted}
 use Rattle.rules.proofs.Over.{too-large}
 use Rattle.rules.specs.Answer.{HeadsAnswer, OfPack, RuleAnswer}
-use Rattle.rules.proofs.OneRule.{CountFrom, is-rule, there-is}
+use Rattle.rules.proofs.OneRule.{CountFrom, is-rule}
 
 -- what stands before place j stays
 kept-front : (a n j : ℕ) (xs zs : List ℕ) → a + n ≤ j → j ≤ length xs → take n (drop a (take j xs ++ zs)) ≡ take n (drop a xs)
@@ -138,6 +138,6 @@ module _ {s : List ℕ} {count : ℕ} {heads₀ : List ℕ} {r : ℕ} {heads cou
         held = λ rules t. record {
           many = k P (f .read);
           numbers = t .numbers;
-          keys = λ i rule e. p .keys P w i (omega (arith, h, k P (f .read), getElem-lt (P .setting .rules) i rule e)) rule e;
+          keys = λ i rule e. p .keys P w i (omega (arith, h, k P (f .read), inside (P .setting .rules) i rule e)) rule e;
         };
       }

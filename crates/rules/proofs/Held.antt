@@ -23,7 +23,7 @@ use Rattle.meaning.specs.WellFormed.{dangling, goodAtom, goodDependency, goodHe
 use Rattle.pack.proofs.Unpacking.{unpacked}
 use Rattle.pack.specs.Contents.{bodyOf}
 use Rattle.rules.proofs.Bounds.{bounded-of}
-use Rattle.rules.proofs.Read.{rule-fine}
+use Rattle.pack.proofs.Bounds.{rule-fine}
 use Rattle.rules.specs.Numbers.{Numbered, padded}
 use Rattle.rules.specs.declared.numbers.RuleNumbers.{RuleNumbers}
 

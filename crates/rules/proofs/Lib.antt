@@ -1,4 +1,3 @@
-pub mod Read
 pub mod Filling
 pub mod Places
 pub mod Putting

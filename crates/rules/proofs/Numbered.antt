@@ -19,7 +19,7 @@ use Rattle.pack.specs.declared.cursor.RuleRead.{RuleRead}
 use Rattle.pack.specs.declared.cursor.RuleRead.the-variants.{Rule as ARule, Bad as NoRule}
 use Rattle.pack.specs.declared.cursor.Tuple.{Tuple}
 use Rattle.rules.proofs.Places.{arguments-are}
-use Rattle.rules.proofs.Read.{atoms-fine}
+use Rattle.pack.proofs.Bounds.{atoms-fine}
 use Rattle.rules.specs.Numbers.{Numbered, NumberedFrom, argumentPlaces, argumentsAt, padded}
 use Rattle.rules.specs.declared.numbers.RuleNumbers.{RuleNumbers}
 

@@ -1,16 +1,16 @@
 -- One rule of the pack by its number: its numbers are held, and its number is below the count. Assumes nothing.
 use lib.ListN.{length, getElem?}
-use mathlib.Core.List.{List, [], _∷_}
+use mathlib.Core.List.{List}
 use mathlib.Core.Option.{some}
-use mathlib.Core.Path.{_≡_, refl}
-use native.Mathlib.Nat.{not-suc-le-zero, le-of-suc-le-suc}
+use mathlib.Core.Path.{_≡_}
 use native.Mathlib.Omega.{arith}
-use Prim.Native.Nat.{ℕ, zero, suc, _-_, _≤_, _<_}
+use Prim.Native.Nat.{ℕ, _-_, _≤_, _<_}
 use Rattle.access.proofs.Accepted.{well-formed}
 use Rattle.access.specs.Places.{IsWellFormed}
 use Rattle.core.specs.Heads.{headArguments}
 use Rattle.matching.specs.Rule.{RuleGiven, RuleHeld}
 use Rattle.meaning.proofs.Lists.Members.{element}
+use Rattle.meaning.proofs.Lists.Places.{there-is}
 use Rattle.meaning.specs.Pack.{Pack, Rule}
 use Rattle.pack.proofs.Unpacking.{unpacked}
 use Rattle.pack.specs.Checked.{wellFormed, accepted}
@@ -19,11 +19,6 @@ use Rattle.rules.proofs.Held.{rule-held}
 use Rattle.rules.specs.Answer.{IsRule, RowsFrom}
 use Rattle.rules.specs.Numbers.{NumberedFrom}
 use Rattle.rules.specs.declared.numbers.RuleNumbers.{RuleNumbers}
-
-pub there-is : {A : Type 0} (xs : List A) (i : ℕ) → i < length xs → (x : A) × (getElem? xs i ≡ some x)
-there-is [] i h = absurd (not-suc-le-zero h)
-there-is (x ∷ xs) zero h = (x, refl)
-there-is (x ∷ xs) (suc i) h = there-is xs i (le-of-suc-le-suc h)
 
 -- ---- one rule
 

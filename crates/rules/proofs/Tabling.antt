@@ -8,8 +8,8 @@ use native.Mathlib.Decide.{ℕ-discrete}
 use native.Mathlib.Omega.{arith}
 use Prim.Native.Nat.{ℕ, _+_, _-_, _≤_, _<_, zero-le}
 use Rattle.access.proofs.Accepted.{well-formed}
-use Rattle.core.proofs.NodeSources.{getElem-lt}
 use Rattle.core.specs.Heads.{headNumbers}
+use Rattle.meaning.proofs.Lists.Places.{inside}
 use Rattle.meaning.specs.Pack.{Pack, Rule}
 use Rattle.pack.specs.Checked.{wellFormed, accepted}
 use Rattle.rules.specs.Answer.{OfPack, TableFrom}
@@ -43,5 +43,5 @@ module _ {s : List ℕ} {count r : ℕ} {rules : List (List ℕ)} (t : Tabling s
 
   pub tabling-done : CountFrom s count → count ≤ r → TableFrom s rules
   tabling-done k h P w = record {
-    numbers = λ i rule e. t .numbers P w i (omega (arith, h, k P (well-formed s P w .read), getElem-lt (P .setting .rules) i rule e)) rule e;
+    numbers = λ i rule e. t .numbers P w i (omega (arith, h, k P (well-formed s P w .read), inside (P .setting .rules) i rule e)) rule e;
   }

@@ -1,12 +1,11 @@
 -- Which part it is, by the number of its kind. Assumes nothing.
 use borrow.Author.Tests.{ne-eqb}
-use lib.ListN.{take, drop}
 use mathlib.Core.List.{List}
 use mathlib.Core.Path.{_≡_}
 use Prim.Native.Nat.{ℕ, _-_}
 use Rattle.meaning.specs.Pack.{Text}
 use Rattle.meaning.specs.Query.{stay, step, anyStep, atIri, atLiteral}
-use Rattle.walk.specs.Parts.{leaf, test, repeat, chain, either, kindOf, firstOf, secondOf, partBy, partOf, leafBy, leafOf}
+use Rattle.walk.specs.Parts.{leaf, test, repeat, chain, either, kindOf, firstOf, partBy, partOf, partText, leafBy, leafOf}
 
 module _ (t : List ℕ) (i : ℕ) where
   pub kind-test : kindOf t i ≡ 5 → partOf t i ≡ test (i - 1)
@@ -31,9 +30,6 @@ module _ (t : List ℕ) (i : ℕ) where
 
 -- The expression of a part that has no parts.
 module _ (q : Text) (t : List ℕ) (i : ℕ) where
-  abbrev pub textOf : Text
-  textOf = take (secondOf t i) (drop (firstOf t i) q)
-
   pub kind-stay : kindOf t i ≡ 0 → leafOf q t i ≡ stay
   unfolding leafOf leafBy
   kind-stay e = rw e
@@ -42,14 +38,14 @@ module _ (q : Text) (t : List ℕ) (i : ℕ) where
   unfolding leafOf leafBy
   kind-any e = rw e
 
-  pub kind-step : kindOf t i ≡ 2 → leafOf q t i ≡ step textOf
+  pub kind-step : kindOf t i ≡ 2 → leafOf q t i ≡ step (partText q t i)
   unfolding leafOf leafBy
   kind-step e = rw e
 
-  pub kind-iri : kindOf t i ≡ 3 → leafOf q t i ≡ atIri textOf
+  pub kind-iri : kindOf t i ≡ 3 → leafOf q t i ≡ atIri (partText q t i)
   unfolding leafOf leafBy
   kind-iri e = rw e
 
-  pub kind-literal : kindOf t i ≡ 4 → leafOf q t i ≡ atLiteral textOf
+  pub kind-literal : kindOf t i ≡ 4 → leafOf q t i ≡ atLiteral (partText q t i)
   unfolding leafOf leafBy
   kind-literal e = rw e

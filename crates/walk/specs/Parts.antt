@@ -64,9 +64,13 @@ leafBy kind s =
     (cond (eqb kind 4) (atLiteral s)
     stay)))
 
--- The expression of a part that has no parts; its name or label is a text of the query q.
+-- The name or label of the part i, a text of the query q.
+abbrev pub partText : Text → List ℕ → ℕ → Text
+partText q t i = take (secondOf t i) (drop (firstOf t i) q)
+
+-- The expression of a part that has no parts.
 unfoldable pub leafOf : Text → List ℕ → ℕ → Expr
-leafOf q t i = leafBy (kindOf t i) (take (secondOf t i) (drop (firstOf t i) q))
+leafOf q t i = leafBy (kindOf t i) (partText q t i)
 
 -- ---- what is to be done after a part
 

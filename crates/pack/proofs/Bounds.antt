@@ -1,5 +1,5 @@
--- What refusal 4 leaves of a constructor and of a rule: arities from 1 to 4; at most three atoms, each of at most eight
--- variables of the 16. Assumes nothing.
+-- What refusal 4 leaves of a value, a constructor and a rule: lengths, arities and counts in bounds, variables of the 16. Assumes
+-- nothing.
 use borrow.Author.Tests.{leb-true, ltb-true}
 use lib.Dec.{leb}
 use lib.ListN.{length}
@@ -10,11 +10,11 @@ use mathlib.Core.Path.{_≡_, refl, sym, ap, subst, _∙_}
 use native.Mathlib.Omega.{arith}
 use Prim.Native.Nat.{ℕ, zero, suc, _≤_, _<_}
 use Rattle.meaning.specs.Member.{_∈_, here, there}
-use Rattle.meaning.specs.Pack.{Atom, Constructor, Rule}
+use Rattle.meaning.specs.Pack.{Atom, Constructor, Rule, Text}
 use Rattle.meaning.specs.Tests.{within}
 use Rattle.pack.specs.Readers.{Read, Reader, only, next, byte, byteIn, bytes, sized}
-use Rattle.pack.specs.Records.{atom, atoms, constructor, headOf, rule, tuple, variable}
+use Rattle.pack.specs.Records.{atom, atoms, constructor, headOf, rule, tuple, value, variable}
 use Rattle.pack.specs.Unpack.{also, records, readAll}
 
 -- ---- what every record of a body is
 
@@ -106,19 +106,30 @@ sized-bound ok lo hi s r e =
     let p = bytes-passed ok (a .0 .got) (a .0 .rest) r (a .2) in
     record { some = omega (arith, b .0, p .many); few = omega (arith, b .1, p .many); each = p .each }
 
--- ---- constructors
+-- ---- values and constructors
 
-pub constructor-arity : (s : List ℕ) (ks : List Constructor) → readAll constructor s ≡ some ks → (k : Constructor) → k ∈ ks → (1 ≤ k .arity) × (k .arity ≤ 4)
+pub value-short : (s : List ℕ) (xs : List Text) → readAll value s ≡ some xs → (x : Text) → x ∈ xs → length x ≤ 64
+unfolding value
+value-short s xs = read-all value (λ x. length x ≤ 64) (λ t r e. sized-bound _ 0 64 t r e .few) s xs
+
+pub record Bounded (k : Constructor) : Type 0 where
+  pub some-arguments : 1 ≤ k .arity
+  pub few-arguments : k .arity ≤ 4
+  pub some-bytes : 1 ≤ length (k .prefix)
+  pub few-bytes : length (k .prefix) ≤ 32
+
+pub constructor-bounded : (s : List ℕ) (ks : List Constructor) → readAll constructor s ≡ some ks → (k : Constructor) → k ∈ ks → Bounded k
 unfolding constructor
-constructor-arity s ks = read-all constructor (λ k. (1 ≤ k .arity) × (k .arity ≤ 4)) one s ks
+constructor-bounded s ks = read-all constructor Bounded one s ks
   where
-    one : (t : List ℕ) (r : Read Constructor) → constructor t ≡ some r → (1 ≤ r .got .arity) × (r .got .arity ≤ 4)
+    one : (t : List ℕ) (r : Read Constructor) → constructor t ≡ some r → Bounded (r .got)
     one t r e =
         let a = next-some (byteIn 1 4 t) _ r e in
         let n = byteIn-bound 1 4 t (a .0) (a .1) in
         let b = next-some (sized _ 1 32 (a .0 .rest)) _ r (a .2) in
-        let q : a .0 .got ≡ r .got .arity = ap (λ (k : Constructor). k .arity) (got-is (b .2)) in
-        (omega (arith, n .0, q), omega (arith, n .1, q))
+        let l = sized-bound _ 1 32 (a .0 .rest) (b .0) (b .1) in
+        subst Bounded (got-is (b .2))
+        (record { some-arguments = n .0; few-arguments = n .1; some-bytes = l .some; few-bytes = l .few })
 
 -- ---- atoms
 
