@@ -5,6 +5,7 @@ from dataclasses import dataclass, field
 
 import limits
 import syntax
+from csvfile import DELIMITERS, DELIMITERS_TEXT
 from entries import Entries
 from mappings import read_mappings
 from pack import Constructor, Dependency, Pack
@@ -14,6 +15,7 @@ from syntax import Misspelt
 from tomlfile import Toml
 
 SECTIONS = ("types", "predicates", "values", "constructors", "tables", "shapes", "mappings")
+TABLE = ("file", "columns", "key", "dependencies", "headers", "delimiter", "skip_nulls")
 
 
 @dataclass
@@ -22,6 +24,12 @@ class Table:
     file: str
     line: int                   # of the table in the description
     columns: list
+    headers: dict               # column to its header in the file, where they differ
+    delimiter: str
+    skip_nulls: bool            # whether rows with nothing in one of the columns are left out
+
+    def header(self, column):
+        return self.headers.get(column, column)
 
 
 @dataclass
@@ -48,6 +56,11 @@ class Catalogue:
             constructors=list(self.constructors.values()),
             rules=self.rules,
         )
+
+
+def description(path):
+    """The description that a path names: a folder's is its catalogue.toml."""
+    return os.path.join(path, "catalogue.toml") if os.path.isdir(path) else path
 
 
 def read_catalogue(path):
@@ -143,11 +156,13 @@ def read_tables(entries, folder):
     for name in entries.table(("tables",)):
         path = ("tables", name)
         check_name(entries, path, "table")
-        entries.table(path, ("file", "columns", "key", "dependencies"))
+        entries.table(path, TABLE)
         file = entries.text(path + ("file",), f"{name}.csv")
         columns = entries.texts(path + ("columns",))
         check_columns(entries, path + ("columns",), name, columns)
-        tables[name] = Table(name, os.path.join(folder, file), entries.toml.line(*path, "file"), columns)
+        tables[name] = Table(name, os.path.join(folder, file), entries.toml.line(*path, "file"), columns,
+                             read_headers(entries, path + ("headers",), name, columns),
+                             read_delimiter(entries, path + ("delimiter",)), entries.flag(path + ("skip_nulls",)))
     check_count(entries, "tables", tables, limits.RECORDS["relations"])
     return tables
 
@@ -157,9 +172,27 @@ def check_columns(entries, path, table, columns):
         entries.wrong(path, f'table "{table}" has {len(columns)} columns; 1 to {limits.COLUMNS} are allowed')
     for place, column in enumerate(columns):
         if not syntax.NAME.fullmatch(column):
-            entries.wrong(path, f'"{column}" is no name for a column; letters, digits and _ are allowed', text=column)
+            entries.wrong(path, f'"{column}" is no name for a column; letters, digits and _ are allowed; '
+                                f'headers = {{ NAME = "{column}" }} gives a header another name', text=column)
         if column in columns[:place]:
             entries.wrong(path, f'column "{column}" stands twice in table "{table}"; names must differ', text=column)
+
+
+def read_headers(entries, path, table, columns):
+    headers = {}
+    for column in entries.table(path):
+        if column not in columns:
+            entries.wrong(path + (column,), f'table "{table}" has no column "{column}"; allowed: {", ".join(columns)}')
+        headers[column] = entries.text(path + (column,), column)
+    return headers
+
+
+def read_delimiter(entries, path):
+    delimiter = entries.text(path, ",")
+    if delimiter not in DELIMITERS:
+        entries.wrong(path, f'"delimiter" must be one of {DELIMITERS_TEXT}')
+        return ","
+    return delimiter
 
 
 def read_dependencies(entries, catalogue):

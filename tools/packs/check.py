@@ -1,8 +1,10 @@
-"""Refusals 5 to 8, on records."""
+"""Refusals 5 to 11, on records."""
 
 from itertools import combinations
 
 import limits
+import nograph
+from core import too_large
 from decode import Finding, decode
 from pack import columns_of, terms_of, variables_of
 
@@ -13,10 +15,10 @@ def findings(data):
     Where 3 is true, the places at which reading stops (4) are given too.
     """
     pack, found = decode(data)
-    for refusal, check in ((5, equal), (6, overlapping), (7, dangling), (8, breaking)):
+    for refusal, check in ((5, equal), (6, overlapping), (7, dangling), (8, breaking), (9, large)):
         if not found:
             found = [Finding(refusal, why) for why in check(pack)]
-    return pack, found
+    return pack, found or [Finding(reason.refusal, reason.why) for reason in nograph.reasons(pack)]
 
 
 def equal(pack):
@@ -114,3 +116,9 @@ def broken(pack):
             earlier, expected = first.setdefault(left, (place, right))
             if right != expected:
                 yield number, earlier, place
+
+
+def large(pack):
+    """9: the core has over 512 IRI nodes or 1,024 triples."""
+    if over := too_large(pack):
+        yield f"with rule {over[0]} the core has over {over[1]}"

@@ -1,33 +1,37 @@
-"""A CSV file (RFC 4180) with the line of each record."""
+"""A CSV file (RFC 4180, or with another delimiter) with the line of each record."""
 
 import re
 
 from files import read_text
 from problems import Problem, Wrong
 
-CELL = re.compile(r'"([^"]*(?:""[^"]*)*)"|([^",\r\n]*)')
-MARK = re.compile(r",|\r?\n|\Z")
+DELIMITERS = (",", ";", "\t", "|")
+DELIMITERS_TEXT = '"," ";" "\\t" and "|"'
+END = r"\r?\n|\Z"
 
 
-def read_records(path):
+def read_records(path, delimiter=","):
     """Each record as its line and its cells; a cell is a text, or None where nothing at all is written.
 
-    Lines that are empty are skipped.
+    Records without any cell that is written, as empty lines, are skipped.
     """
     text = read_text(path)
+    mark = re.escape(delimiter)
+    cells_of = re.compile(rf'"([^"]*(?:""[^"]*)*)"|([^"{mark}\r\n]*)')
+    marks = re.compile(rf"{mark}|{END}")
     at, line, records = 0, 1, []
     while at < len(text):
-        first, cells, mark = line, [], ","
-        while mark == ",":
-            cell = CELL.match(text, at)
-            end = MARK.match(text, cell.end())
+        first, cells, mark = line, [], delimiter
+        while mark == delimiter:
+            cell = cells_of.match(text, at)
+            end = marks.match(text, cell.end())
             if not end:
                 raise Wrong(Problem(path, line, why_not(text, at, cell.end())))
             quoted, plain = cell.groups()
             cells.append(quoted.replace('""', '"') if quoted is not None else plain or None)
             line += text.count("\n", at, end.end())
             at, mark = end.end(), end.group()
-        if cells != [None]:
+        if any(cell is not None for cell in cells):
             records.append((first, cells))
     return records
 
@@ -38,3 +42,12 @@ def why_not(text, start, at):
     if text[start] == '"' and at == start:
         return "the quotation mark that opens a cell here is never closed"
     return 'a quotation mark in the wrong place; a cell that holds one is written "so ""quoted"" text"'
+
+
+def likely_delimiter(path, columns, expected):
+    """The delimiter with which the first line names all these columns; the expected one if none does."""
+    line = read_text(path).split("\n", 1)[0]
+    for delimiter in (expected, *DELIMITERS):
+        if set(columns) <= {cell.strip(' "\r') for cell in line.split(delimiter)}:
+            return delimiter
+    return expected

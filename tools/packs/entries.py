@@ -43,6 +43,13 @@ class Entries:
             return default
         return found
 
+    def flag(self, path):
+        """Whether the entry at this path is true; false where there is none."""
+        found = self.find(path, False)
+        if not isinstance(found, bool):
+            self.wrong(path, f'"{path[-1]}" must be true or false')
+        return found is True
+
     def texts(self, path, least=0):
         """The texts at this path: an array of them, or one alone; none where there is no entry."""
         found = self.find(path, None)

@@ -22,7 +22,8 @@ def read_text(path):
     except UnicodeDecodeError as error:
         at = error.start
         line = data.count(b"\n", 0, at) + 1
-        raise Wrong(Problem(path, line, f"the byte {data[at]} is not UTF-8 here; the text must be UTF-8")) from None
+        hint = "; the file is UTF-16" if data[:2] in (b"\xff\xfe", b"\xfe\xff") else ""
+        raise Wrong(Problem(path, line, f"the byte {data[at]} is not UTF-8 here; the text must be UTF-8{hint}")) from None
 
 
 def write_bytes(path, data, inputs):

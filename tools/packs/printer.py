@@ -1,4 +1,4 @@
-"""Prints a pack, a damaged one as far as it can be read, and says which of the refusals 3 to 8 is true of it."""
+"""Prints a pack, a damaged one as far as it can be read, and says which of the refusals 3 to 11 is true of it."""
 
 import argparse
 import sys
@@ -25,5 +25,5 @@ def main(arguments=None):
         print(line)
     print()
     print_some([finding.why for finding in found if finding.body is None], sys.stdout)
-    print(f"refused {found[0].refusal}" if found else "well formed, and keeps its dependencies")
+    print(f"refused {found[0].refusal}" if found else "well formed, keeps its dependencies, and has a graph")
     return 1 if found else 0

@@ -1,7 +1,7 @@
 """The tables' CSV files to values and rows."""
 
 import limits
-from csvfile import read_records
+from csvfile import likely_delimiter, read_records
 from pack import Row
 from problems import Problem, Problems, Unreadable, Wrong, short
 
@@ -23,7 +23,8 @@ class Rows:
 
     def read_table(self, number, table):
         try:
-            records = read_records(table.file)
+            self.check_delimiter(table)
+            records = read_records(table.file, table.delimiter)
         except Unreadable as error:
             message = f'{table.file} of table "{table.name}" can\'t be read: {error.why}'
             raise Wrong(Problem(self.catalogue.path, table.line, message)) from None
@@ -32,7 +33,7 @@ class Rows:
             raise Wrong(Problem(table.file, 1, message))
         (first, header), records = records[0], records[1:]
         self.check_header(table, first, header)
-        places = [header.index(column) for column in table.columns]
+        places = [header.index(table.header(column)) for column in table.columns]
         for line, cells in records:
             if len(cells) != len(header):
                 self.problems.add(table.file, line, f"cells here: {len(cells)}, in the header: {len(header)}; "
@@ -40,18 +41,31 @@ class Rows:
             else:
                 self.row(number, table, line, [cells[place] for place in places])
 
+    def check_delimiter(self, table):
+        likely = likely_delimiter(table.file, [table.header(column) for column in table.columns], table.delimiter)
+        if likely != table.delimiter:
+            text, other = (mark.replace("\t", "\\t") for mark in (likely, table.delimiter))
+            raise Wrong(Problem(table.file, 1, f'the header parts its columns by "{text}"; say delimiter = "{text}" '
+                                               f'in [tables.{table.name}], or save the file with "{other}"'))
+
     def check_header(self, table, line, header):
-        names = ", ".join(name or "" for name in header)
-        wrong = [column for column in table.columns if header.count(column) != 1]
+        wrong = []
+        for column in table.columns:
+            name = table.header(column)
+            if header.count(name) > 1:
+                wrong.append(f'column "{name}" stands {header.count(name)} times in the header; it must stand once')
+            elif name not in header:
+                wrong.append(f'no column "{name}" in the header' + alike(column, name, header))
         if wrong:
-            raise Wrong(*(Problem(table.file, line, f'column "{column}" stands {header.count(column)} times in the header '
-                                                    f"({names}); it must stand once") for column in wrong))
+            raise Wrong(*(Problem(table.file, line, message) for message in wrong))
 
     def row(self, number, table, line, cells):
+        if None in cells and table.skip_nulls:
+            return
         for column, cell in zip(table.columns, cells):
             if cell is None:
-                self.problems.add(table.file, line, f'no value in column "{column}"; a row must have one in each column: '
-                                                    'leave the row out, or write "" for the empty value')
+                self.problems.add(table.file, line, f'no value in column "{column}"; write "" for the empty value, or say '
+                                                    f"skip_nulls = true in [tables.{table.name}] to leave such rows out")
         if None in cells:
             return
         self.rows.append(Row(number, [self.value(cell, table.file, line) for cell in cells]))
@@ -72,3 +86,11 @@ class Rows:
                 self.problems.add(file, line, f"{short(text)} is different value {count} of the catalogue; "
                                               f"at most {count - 1} are allowed")
         return self.values[text]
+
+
+def alike(column, name, header):
+    """The header's names; where one differs in case or spaces alone, how to name it."""
+    names = [other for other in header if other]
+    near = [other for other in names if other.strip().casefold() == name.strip().casefold()]
+    listed = ", ".join(f'"{other}"' for other in names)
+    return f" ({listed})" + (f'; say headers = {{ {column} = "{near[0]}" }} if it is that one' if near else "")

@@ -69,14 +69,21 @@ IN_DESCRIPTION = [
      '23: 17 constructors; at most 16 are allowed'),
 
     ('[tables.tunings]', '[tables."tuned sheets"]', '12: "tuned sheets" is no name for a table; letters, digits and _ are allowed'),
-    ('[tables.tunings]\n', '[tables.tunings]\nkeys = "style"\n', '13: unknown key "keys"; allowed: file, columns, key, dependencies'),
+    ('[tables.tunings]\n', '[tables.tunings]\nkeys = "style"\n', '13: unknown key "keys"; allowed: file, columns, key, dependencies, '
+                                                                 'headers, delimiter, skip_nulls'),
+    ('[tables.tunings]\n', '[tables.tunings]\nheaders = { id = "x" }\n', '13: table "tunings" has no column "id"; allowed: style, head'),
+    ('[tables.tunings]\n', '[tables.tunings]\nheaders = { head = 1 }\n', '13: "head" must be a text in quotation marks'),
+    ('[tables.tunings]\n', '[tables.tunings]\nheaders = "head"\n', '13: "headers" must be a table'),
+    ('[tables.tunings]\n', '[tables.tunings]\ndelimiter = "::"\n', '13: "delimiter" must be one of "," ";" "\\t" and "|"'),
+    ('[tables.tunings]\n', '[tables.tunings]\nskip_nulls = "yes"\n', '13: "skip_nulls" must be true or false'),
     ('[tables.tunings]\n', '[tables.tunings]\nfile = 7\n', '13: "file" must be a text in quotation marks'),
     ('[tables.tunings]\ncolumns', '[tables]\ntunings', '13: "tunings" must be a table'),
     ('["style", "head"]\n[sh', '[]\n[sh', '13: table "tunings" has 0 columns; 1 to 8 are allowed'),
     ('["style", "head"]\n[sh', '["style", "head", "c", "d", "e", "f", "g", "h", "i"]\n[sh',
      '13: table "tunings" has 9 columns; 1 to 8 are allowed'),
     ('["style", "head"]\n[sh', '["style", "head", "print run"]\n[sh',
-     '13: "print run" is no name for a column; letters, digits and _ are allowed'),
+     '13: "print run" is no name for a column; letters, digits and _ are allowed; '
+     'headers = { NAME = "print run" } gives a header another name'),
     ('["style", "head"]\n[sh', '["style", "head", "style"]\n[sh', '13: column "style" stands twice in table "tunings"; names must differ'),
     ('[shapes.style]', ''.join(f'[tables.t{n}]\ncolumns = ["a"]\n' for n in range(15)) + '[shapes.style]',
      '42: 17 tables; at most 16 are allowed'),
@@ -139,17 +146,25 @@ IN_DESCRIPTION = [
 # the file, its contents, and the first line told
 IN_TABLES = [
     ("styles.csv", "", "1: no header; the first line must name the columns style, name"),
-    ("styles.csv", "style;name\nbold;Bold\n", '1: column "style" stands 0 times in the header (style;name); it must stand once'),
-    ("styles.csv", "style,name,name\n", '1: column "name" stands 2 times in the header (style, name, name); it must stand once'),
+    ("styles.csv", 'style;name\nbold;"so ""bold"""\n', '1: the header parts its columns by ";"; say delimiter = ";" '
+                                                       'in [tables.styles], or save the file with ","'),
+    ("styles.csv", '"name"\t"style"\r\nBold\tbold\r\n', '1: the header parts its columns by "\\t"; say delimiter = "\\t" '
+                                                         'in [tables.styles], or save the file with ","'),
+    ("styles.csv", "style,name,name\n", '1: column "name" stands 2 times in the header; it must stand once'),
+    ("styles.csv", "style,Name ,,x\n", '1: no column "name" in the header ("style", "Name ", "x"); '
+                                       'say headers = { name = "Name " } if it is that one'),
+    ("styles.csv", "style,title\n", '1: no column "name" in the header ("style", "title")'),
     ("styles.csv", "style,name\nbold\n", "2: cells here: 1, in the header: 2; they must be as many"),
     ("styles.csv", 'style,name\na,"two\nlines"\nbold,Bold,700\n', "4: cells here: 3, in the header: 2; they must be as many"),
-    ("styles.csv", "style,name\n\nbold,\n", '3: no value in column "name"; a row must have one in each column: '
-                                            'leave the row out, or write "" for the empty value'),
+    ("styles.csv", "style,name\n\nbold,\n", '3: no value in column "name"; write "" for the empty value, or say '
+                                            'skip_nulls = true in [tables.styles] to leave such rows out'),
     ("styles.csv", 'style,name\nbold,"Bold\n', "2: the quotation mark that opens a cell here is never closed"),
     ("styles.csv", 'style,name\nbold,14" Bold\n', '2: a quotation mark in the wrong place; '
                                                  'a cell that holds one is written "so ""quoted"" text"'),
     ("styles.csv", "style,name\rbold,Bold\r", "1: a carriage return without a line feed; lines end in LF or CR LF"),
     ("styles.csv", b"style,name\nbold,Br\xfccke\n", "2: the byte 252 is not UTF-8 here; the text must be UTF-8"),
+    ("styles.csv", "style,name\n".encode("utf-16"),
+     "1: the byte 255 is not UTF-8 here; the text must be UTF-8; the file is UTF-16"),
     ("styles.csv", "style,name\nbold," + "x" * 65 + "\n",
      '2: the value "' + "x" * 40 + '..." has 65 bytes in UTF-8; at most 64 are allowed'),
     ("styles.csv", "style,name\n" + "".join(f"s{n},n{n}\n" for n in range(130)),

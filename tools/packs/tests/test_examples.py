@@ -4,7 +4,7 @@ import os
 
 from check import findings
 from encode import encode
-from support import EXAMPLES, Files, make, read, show
+from support import EXAMPLES, ROOT, Files, make, read, show
 
 SAMPLE = bytes.fromhex(
     "0b000000" "02000000" "03000000" "0d000000" "11000000" "0c000000" "0c000000" "22000000" "04000000"
@@ -25,6 +25,7 @@ class Examples(Files):
         self.assertEqual((status, err), (0, ""))
         self.assertEqual(out, "catalogue.pack: 144 bytes; values 3, relations 2, rules 3, rows 1\n")
         self.assertEqual(read("catalogue.pack"), SAMPLE)
+        self.assertEqual(read(os.path.join(ROOT, "crates", "certain", "data", "catalogue.pack")), SAMPLE)
 
     def test_sample_shown(self):
         self.write({"sample.pack": SAMPLE})
@@ -34,7 +35,7 @@ class Examples(Files):
         for line in ('1  "Roman"', "0  Style(s, n)", "0  Style: s -> n", "2  family lead style +", "1  fam:{0}",
                      "0  Style(s, n) -> sty(s) rdf:type style", "1  Style(s, n) -> sty(s) name n",
                      "2  Member(s, f) -> sty(s) family fam(f)", '0  Style("r1", "Roman")',
-                     "well formed, and keeps its dependencies"):
+                     "well formed, keeps its dependencies, and has a graph"):
             self.assertIn(line, out)
         _, out, _ = show("sample.pack")
         self.assertIn("2  R1(x0, x1) -> sty:(x0) family fam:(x1)", out)
@@ -42,7 +43,7 @@ class Examples(Files):
     def test_every_example(self):
         for name in sorted(os.listdir(EXAMPLES)):
             description = os.path.join(EXAMPLES, name, "catalogue.toml")
-            status, _, err = make(description, "-o", name)
+            status, _, err = make(os.path.dirname(description), "-o", name)
             self.assertEqual((status, err), (0, ""))
             pack, found = findings(read(name))
             self.assertEqual(found, [])

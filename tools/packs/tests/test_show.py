@@ -55,6 +55,11 @@ ADDED = [
     ("rules", Rule([Atom(0, [0, 1])], Head(2, Term(0, [0]), predicate=0, object=5)), 7, "rule 3: head variable 5 is in no atom"),
     ("rows", Row(4, [0, 9]), 7, "     1  R4(\"r1\", ?9)"),
     ("rows", Row(0, [0, 2]), 8, "rows 0 and 1 break dependency 0"),
+    ("rules", Rule([Atom(0, [0, 1])], Head(2, Term(0, [0]), predicate=0, object=0)), 10,
+     '<sty:r1> has name "r1" and "Roman"; the shape of style allows one'),
+    ("rules", Rule([Atom(0, [0, 1])], Head(2, Term(0, [0]), predicate=1, object=0)), 11,
+     '<sty:r1> family leads to the literal "r1"; the shape of style says family'),
+    ("rules", Rule([Atom(0, [0, 1])], Head(0, Term(0, [0]), type=0)), None, "well formed"),
 ]
 
 
@@ -69,8 +74,10 @@ class Show(Files):
                 pack = sample()
                 getattr(pack, body).append(record)
                 status, out, err = self.shown(encode(pack))
-                self.assertEqual((status, err, out.splitlines()[-1]), (1, "", f"refused {refusal}"))
+                self.assertEqual((status, err), (1 if refusal else 0, ""))
                 self.assertIn(expected, out)
+                if refusal:
+                    self.assertEqual(out.splitlines()[-1], f"refused {refusal}")
 
     def test_too_many_records(self):
         pack = sample()
@@ -103,6 +110,11 @@ class Show(Files):
     def test_no_file(self):
         self.assertEqual(show("absent.pack"), (1, "", "absent.pack:1: can't be read: No such file or directory\n"))
 
+    def test_every_cut(self):
+        for length in range(len(SAMPLE)):
+            status, out, err = self.shown(SAMPLE[:length])
+            self.assertEqual((status, err, out.splitlines()[-1]), (1, "", "refused 3"))
+
     def test_a_thousand_damaged_packs(self):
         draw = random.Random(1)
         for _ in range(1000):
@@ -110,7 +122,7 @@ class Show(Files):
             self.assertEqual(err, "")
             self.assertIn(status, (0, 1))
             last = out.splitlines()[-1]
-            self.assertIn(last, {"well formed, and keeps its dependencies", *(f"refused {n}" for n in range(3, 9))})
+            self.assertIn(last, {"well formed, keeps its dependencies, and has a graph", *(f"refused {n}" for n in range(3, 12))})
 
     def test_the_program(self):
         """Run as people run it: its status, and no traceback even where its output is not read."""
