@@ -14,6 +14,7 @@ import limits
 import refusals
 from catalogue import description, read_catalogue
 from check import findings
+from decode import decode
 from expression import why_no_expression
 from files import read_bytes
 from hints import hints
@@ -119,7 +120,7 @@ def ask(data, query):
 def explain(answer, made, data, query):
     """The exit status; on standard error, what a refusal means, or which names of the query match nothing."""
     if not answer.startswith(b"refused "):
-        pack, _ = findings(data)
+        pack, _ = decode(data)
         for hint in hints(query, pack):
             say(hint)
         if answer == b"certain yes\npairs 0\n":

@@ -9,16 +9,18 @@ from decode import Finding, decode
 from pack import columns_of, terms_of, variables_of
 
 
-def findings(data):
-    """The records of any bytes, and why they are refused: every reason of the first number that is true of them.
+def findings(data, last=11):
+    """The records of any bytes, and why they are refused: every reason of the first number, up to the last, that is true.
 
     Where 3 is true, the places at which reading stops (4) are given too.
     """
     pack, found = decode(data)
-    for refusal, check in ((5, equal), (6, overlapping), (7, dangling), (8, breaking), (9, large)):
-        if not found:
+    for refusal, check in CHECKS:
+        if not found and refusal <= last:
             found = [Finding(refusal, why) for why in check(pack)]
-    return pack, found or [Finding(reason.refusal, reason.why) for reason in nograph.reasons(pack)]
+    if not found and last > 9:
+        found = [Finding(reason.refusal, reason.why) for reason in nograph.reasons(pack)]
+    return pack, found
 
 
 def equal(pack):
@@ -122,3 +124,6 @@ def large(pack):
     """9: the core has over 512 IRI nodes or 1,024 triples."""
     if over := too_large(pack):
         yield f"with rule {over[0]} the core has over {over[1]}"
+
+
+CHECKS = ((5, equal), (6, overlapping), (7, dangling), (8, breaking), (9, large))

@@ -83,6 +83,6 @@ class Made:
 
 def check(data, path):
     """The last guard: no pack that 3 to 7 would refuse is written."""
-    _, found = findings(data)
-    if found and found[0].refusal < 8:
+    _, found = findings(data, last=7)
+    if found:
         raise Wrong(Problem(path, 1, f"nothing written, a mistake of this program: {found[0].refusal}, {found[0].why}"))
