@@ -50,7 +50,8 @@ def main(arguments=None):
 
 
 def say(line):
-    print(f"certain: {line}", file=sys.stderr, flush=True)
+    print_some([f"certain: {line}"], sys.stderr)
+    sys.stderr.flush()
 
 
 def pack_of(path):

@@ -42,6 +42,7 @@ class Catalogue:
     tables: dict                # name to Table
     dependencies: list = field(default_factory=list)
     shapes: list = field(default_factory=list)
+    shape_lines: list = field(default_factory=list)
     rules: list = field(default_factory=list)
     mappings: list = field(default_factory=list)        # for each rule, the mapping that gives it
 

@@ -26,7 +26,7 @@ def why_no_expression(query):
     for at, token in tokens(query):
         place = f"byte {at + 1}"
         if token is None:
-            return f"{place}: {unread(query[at:at + 1])}"
+            return f"{place}: {unread(shown(query[at:])[0])}"
         starts = token in (b"(", b"[") or token not in (b")", b"]", b"|", b"/", b"*")
         if starts and complete:
             return f'{place}: "{shown(token)}" follows without "/" or "|"' + LONG.get(len(before), "")
@@ -50,12 +50,12 @@ def why_no_expression(query):
 LONG = {16: "; a name has at most 16 letters"}
 
 
-def unread(byte):
-    if byte in (b"<", b'"'):
-        return f'the label that "{shown(byte)}" opens is not closed'
-    what = {b" ": "a space", b"\r": "a carriage return", b"\n": "a line feed", b"\t": "a tab"}.get(byte, f'"{shown(byte)}"')
+def unread(character):
+    if character in '<"':
+        return f'the label that "{character}" opens is not closed'
+    what = {" ": "a space", "\r": "a carriage return", "\n": "a line feed", "\t": "a tab"}.get(character, f'"{character}"')
     return f"{what} can't stand here; names are letters a to z"
 
 
 def shown(data):
-    return data.decode("utf-8", "backslashreplace")
+    return data.decode("utf-8", "surrogateescape")

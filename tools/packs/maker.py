@@ -61,8 +61,10 @@ class Made:
         return (reasons[0].refusal if reasons else None), [self.told(reason) for reason in reasons]
 
     def told(self, reason):
-        """A reason at the last row or mapping that gives a triple of it; the others are named."""
-        places = [self.given(rule, match) for rule, match in reason.given] or [(self.catalogue.path, 1)]
+        """A reason at the last row or mapping that gives a triple of it, or at its shape; the others are named."""
+        places = [self.given(rule, match) for rule, match in reason.given]
+        if reason.shape is not None:
+            places = [(self.catalogue.path, self.catalogue.shape_lines[reason.shape])]
         others = "".join(f"; see {file}:{line}" for file, line in places[1:])
         return self.problem(places[0], reason.why + others)
 

@@ -12,7 +12,8 @@ from spelling import iri, segment
 class Reason:
     refusal: int
     why: str
-    given: tuple        # the rule and the match that give each triple that `why` names, the last one first
+    given: tuple = ()   # the rule and the match that give each triple that `why` names, the last one first
+    shape: int = None   # where no triple is named: the number of a shape
 
 
 class Core:
@@ -108,5 +109,6 @@ def mixed_invented(core):
             seen.add(targets)
             if limits.LITERAL in targets and len(targets) > 1:
                 said = ", ".join(f"{core.type(shape.target)} by the shape of {core.type(shape.type)}" for shape in shapes)
-                yield Reason(11, f"{who} needs a {core.predicate(predicate)}, and it would be {said}", ())
+                yield Reason(11, f"{who} needs a {core.predicate(predicate)}, and it would be {said}",
+                             shape=core.pack.shapes.index(shapes[0]))
             todo.append((f"what {who} needs as {core.predicate(predicate)}", targets - {limits.LITERAL}, {}))

@@ -12,6 +12,7 @@ def read_shapes(entries, catalogue):
         for predicate in entries.table(("shapes", name)):
             path = ("shapes", name, predicate)
             shape = entries.table(path, ("target", "count", "min", "max"))
+            catalogue.shape_lines.append(entries.toml.line(*path))
             catalogue.shapes.append(Shape(
                 type_number,
                 known(entries, path, "predicate", predicate, catalogue.predicates),

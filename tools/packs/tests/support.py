@@ -6,6 +6,7 @@ import os
 import tempfile
 import unittest
 
+import asker
 import maker
 import printer
 from problems import Wrong, print_some
@@ -31,14 +32,14 @@ class Files(unittest.TestCase):
 
 def run(main, *arguments):
     """The exit status, standard output and standard error of a program."""
-    out, err = io.StringIO(), io.StringIO()
+    out, err = (io.TextIOWrapper(io.BytesIO(), encoding="utf-8", write_through=True) for _ in range(2))
     with contextlib.redirect_stdout(out), contextlib.redirect_stderr(err):
         try:
             status = main(list(arguments))
         except Wrong as wrong:
             print_some(wrong.problems, err)
             status = 1
-    return status, out.getvalue(), err.getvalue()
+    return status, out.buffer.getvalue().decode(), err.buffer.getvalue().decode()
 
 
 def make(*arguments):
@@ -47,6 +48,10 @@ def make(*arguments):
 
 def show(*arguments):
     return run(printer.main, *arguments)
+
+
+def certain(*arguments):
+    return run(asker.main, *arguments)
 
 
 def read(path):

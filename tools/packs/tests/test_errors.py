@@ -244,6 +244,28 @@ class Errors(Files):
             self.assertEqual(told, f"catalogue.toml:22: with this mapping the core has over {limit}; "
                                    f"at most {limit} are allowed\n")
 
+    def test_no_graph_is_told(self):
+        """Refusals 10 and 11: the pack is written, and why no graph obeys it is told with the rows, the mapping or the shape."""
+        base = DESCRIPTION.replace('key = "style"\n', "")
+        join = 'from = ["tunings(style, head)", "styles(style)"]\nsubject = "style(style)"\nlinks.name = "head"'
+        for text, styles, expected in [
+            (base, STYLES + "bold,Fett\n", 'styles.csv:4: <style:bold> has name "Fett" and "Alder%20Bold"; '
+                                           "the shape of style allows one; see styles.csv:3 (no graph: refusal 10)"),
+            (base + f"[[mappings]]\n{join}\n", STYLES,
+             'catalogue.toml:25: <style:regular> has name "k600" and "Alder%20Regular"; the shape of style allows one; '
+             "see styles.csv:2 (no graph: refusal 10)"),
+            (base.replace('links.name = "name"', 'links.name = "head(name)"'), "style,name\nbold,Bold\n",
+             "styles.csv:2: <style:bold> name leads to the IRI <head:Bold>; the shape of style says Literal (no graph: refusal 11)"),
+            (base.replace('type = "style"\n', 'type = ["style", "head"]\n').replace("[[mapp", "[shapes.head]\n"
+             'tuned = { target = "Literal", count = "?" }\n[[mapp', 1), "style,name\nbold,Bold\n",
+             "catalogue.toml:15: <style:bold> needs a tuned, and it would be head by the shape of style, "
+             "Literal by the shape of head (no graph: refusal 11)"),
+        ]:
+            with self.subTest(expected):
+                self.write({"catalogue.toml": text, "styles.csv": styles, "tunings.csv": TUNINGS})
+                status, out, err = make("catalogue.toml")
+                self.assertEqual((status, out[:14], err), (0, "catalogue.pack", expected + "\n"))
+
     def test_mappings_are_tables(self):
         told = self.told({"catalogue.toml": 'mappings = ["styles"]'})
         self.assertEqual(told, 'catalogue.toml:1: "mappings" must be an array of tables, each of which begins with [[mappings]]\n')

@@ -91,6 +91,29 @@ class Make(Files):
         self.assertIn("styles: all rows -> weight", out)
         self.assertIn('styles("b", "so \\"quoted\\",\\x0Ain two lines", "400")', out)
 
+    def test_tables_as_they_are_exported(self):
+        """Semicolons, other headers, cells that are empty, rows of nothing but delimiters, two tables from one file."""
+        pack = self.make({
+            "catalogue.toml": """
+                predicates = ["name", "size"]
+                [constructors]
+                style = "style:{id}"
+                [tables.names]
+                file = "export.csv"
+                delimiter = ";"
+                columns = ["id", "name"]
+                headers = { id = "Style ID", name = "Name (DE)" }
+                [tables.sizes]
+                file = "export.csv"
+                delimiter = ";"
+                columns = ["id", "size"]
+                headers = { id = "Style ID", size = "Größe" }
+                skip_nulls = true
+                """,
+            "export.csv": '\ufeffStyle ID;Größe;Name (DE)\r\na;12;"Alder, ""fett"""\r\nb;;Über\r\n;;\r\n'})
+        self.assertEqual(pack.values, [b"a", b'Alder, "fett"', b"b", "Über".encode(), b"12"])
+        self.assertEqual(pack.rows, [Row(0, [0, 1]), Row(0, [2, 3]), Row(1, [0, 4])])
+
     def test_names_of_another_description(self):
         self.make(FILES)
         self.write({"other.toml": 'types = ["style"]'})

@@ -1,0 +1,48 @@
+"""The documents' sessions: each command of a ```console block prints what stands below it."""
+
+import os
+import re
+import shlex
+import subprocess
+
+import asker
+from support import ROOT, Files
+
+DOCUMENTS = ("README.md", "docs/CATALOGUES.md", "examples/sample/README.md", "examples/two-tables/README.md",
+             "examples/foundry/README.md")
+BLOCK = re.compile(r"^```console\n(.*?)^```$", re.MULTILINE | re.DOTALL)
+
+
+def sessions(document):
+    """Each command and its output: a line "$ COMMAND", and the lines up to the next one."""
+    with open(os.path.join(ROOT, document), encoding="utf-8") as file:
+        for block in BLOCK.findall(file.read()):
+            for session in re.split(r"^\$ ", block, flags=re.MULTILINE)[1:]:
+                command, _, output = session.partition("\n")
+                yield command, output
+
+
+class Documents(Files):
+    def test_program_is_built(self):
+        self.assertTrue(os.path.exists(asker.PROGRAM), f"{asker.PROGRAM} is not built: run rt check certain first")
+
+    def test_sessions(self):
+        """A last line "..." stands for the rest of the output. What is told on standard error may follow, as it does on a screen."""
+        for document in DOCUMENTS:
+            found = list(sessions(document))
+            self.assertTrue(found, f"{document} has no session")
+            for command, output in found:
+                with self.subTest(document=document, command=command):
+                    printed = self.run_command(command)
+                    if output.endswith("\n...\n"):
+                        output = output.removesuffix("...\n")
+                        printed = printed[:len(output)]
+                    self.assertEqual(printed, output)
+
+    def run_command(self, command):
+        words = shlex.split(command)
+        self.assertIn(words[0], ("tools/certain", "tools/packs/make", "tools/packs/show"))
+        self.assertTrue(os.path.exists(asker.PROGRAM), "not built: run rt check certain first")
+        done = subprocess.run([os.path.join(ROOT, words[0]), *words[1:]], cwd=ROOT, stdin=subprocess.DEVNULL,
+                              capture_output=True, text=True, encoding="utf-8")
+        return done.stdout + done.stderr
