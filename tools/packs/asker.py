@@ -125,7 +125,7 @@ def explain(answer, made, data, query):
         for hint in hints(query, pack):
             say(hint)
         if answer == b"certain yes\npairs 0\n":
-            say("every graph joins some two nodes so, but no two named ones are joined in all of them")
+            say("every graph has such a path, but no two named nodes are joined by one in all of them")
         return 0
     number = int(answer.split()[1])
     print_some(list(refusals.lines(number, reasons(number, made, data, query))), sys.stderr)

@@ -34,7 +34,7 @@ LOOK = {
 
 def lines(number, reasons):
     """The lines that explain a refusal: its meaning, the reasons found, where to look."""
-    yield f"refused {number}: {MEANINGS.get(number, 'a number that is not known here')}"
+    yield f"certain: refusal {number}: {MEANINGS.get(number, 'a number that is not known here')}"
     yield from (f"  {reason}" for reason in reasons)
     if number == 2:
         yield from QUERY

@@ -100,7 +100,7 @@ class Told(Files):
 
     def test_each_number(self):
         for number, meaning in refusals.MEANINGS.items():
-            self.assertEqual(self.told(f"refused {number}\n")[0], f"refused {number}: {meaning}")
+            self.assertEqual(self.told(f"refused {number}\n")[0], f"certain: refusal {number}: {meaning}")
 
     def test_query(self):
         for query, why in [
@@ -152,4 +152,4 @@ class Told(Files):
 
     def test_yes_without_pairs(self):
         self.assertEqual(self.told("certain yes\npairs 0\n"),
-                         ["certain: every graph joins some two nodes so, but no two named ones are joined in all of them"])
+                         ["certain: every graph has such a path, but no two named nodes are joined by one in all of them"])
