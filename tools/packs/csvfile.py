@@ -45,9 +45,9 @@ def why_not(text, start, at):
 
 
 def likely_delimiter(path, columns, expected):
-    """The delimiter with which the first line names all these columns; the expected one if none does."""
+    """The delimiter of the first line: that with which it names all these columns, else the expected one if it stands there."""
     line = read_text(path).split("\n", 1)[0]
     for delimiter in (expected, *DELIMITERS):
         if set(columns) <= {cell.strip(' "\r') for cell in line.split(delimiter)}:
             return delimiter
-    return expected
+    return expected if expected in line else max((expected, *DELIMITERS), key=line.count)

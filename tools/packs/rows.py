@@ -89,8 +89,8 @@ class Rows:
 
 
 def alike(column, name, header):
-    """The header's names; where one differs in case or spaces alone, how to name it."""
+    """The header's names, and how to say which is meant; it is told where it differs in case or spaces alone."""
     names = [other for other in header if other]
-    near = [other for other in names if other.strip().casefold() == name.strip().casefold()]
+    near = [other for other in names if other.strip().casefold() == name.strip().casefold()] + ["..."]
     listed = ", ".join(f'"{other}"' for other in names)
-    return f" ({listed})" + (f'; say headers = {{ {column} = "{near[0]}" }} if it is that one' if near else "")
+    return f' ({listed}); if it is named otherwise there, say headers = {{ {column} = "{near[0]}" }}'

@@ -80,7 +80,9 @@ class Build(Files):
             certain()
         self.assertEqual(ended.exception.code, 2)
         _, out, err = certain(".", "name")
-        self.assertEqual((out, err, self.runs()), ("", './tunings.csv:1: no column "head" in the header ("style")\n', 0))
+        self.assertEqual((out, err, self.runs()), (
+            "", './tunings.csv:1: no column "head" in the header ("style"); '
+                'if it is named otherwise there, say headers = { head = "..." }\n', 0))
 
 
 def quiet(run):
@@ -144,6 +146,8 @@ class Told(Files):
             ("nmae", "nmae is no predicate of this catalogue, so it matches nothing; predicates: name, tuned"),
             ("<style:Bold>", "<style:Bold> is no IRI of this catalogue, so it matches nothing; prefixes: style:, head:"),
             ("<bold>", "<bold> is no IRI of this catalogue, so it matches nothing; prefixes: style:, head:"),
+            ("<head:Alder Bold>",
+             "<head:Alder Bold> is no IRI of this catalogue, so it matches nothing; it is spelled <head:Alder%20Bold>"),
             ('"Alder Bold"', '"Alder Bold" is no literal of this catalogue, so it matches nothing; it is spelled "Alder%20Bold"'),
             ('"Alder"', '"Alder" is no literal of this catalogue, so it matches nothing'),
         ]:

@@ -152,8 +152,11 @@ IN_TABLES = [
                                                          'in [tables.styles], or save the file with ","'),
     ("styles.csv", "style,name,name\n", '1: column "name" stands 2 times in the header; it must stand once'),
     ("styles.csv", "style,Name ,,x\n", '1: no column "name" in the header ("style", "Name ", "x"); '
-                                       'say headers = { name = "Name " } if it is that one'),
-    ("styles.csv", "style,title\n", '1: no column "name" in the header ("style", "title")'),
+                                       'if it is named otherwise there, say headers = { name = "Name " }'),
+    ("styles.csv", "style,title\n", '1: no column "name" in the header ("style", "title"); '
+                                    'if it is named otherwise there, say headers = { name = "..." }'),
+    ("styles.csv", 'Schnitt;Bezeichnung\nbold;"so ""bold""!"\n', '1: the header parts its columns by ";"; say delimiter = ";" '
+                                                                 'in [tables.styles], or save the file with ","'),
     ("styles.csv", "style,name\nbold\n", "2: cells here: 1, in the header: 2; they must be as many"),
     ("styles.csv", 'style,name\na,"two\nlines"\nbold,Bold,700\n', "4: cells here: 3, in the header: 2; they must be as many"),
     ("styles.csv", "style,name\n\nbold,\n", '3: no value in column "name"; write "" for the empty value, or say '
