@@ -4,6 +4,7 @@ Prints what certain prints. Exit status: 0 answered, 1 refused, 2 anything else.
 """
 
 import argparse
+import contextlib
 import os
 import subprocess
 import sys
@@ -87,7 +88,8 @@ def build():
         raise NotRun(f"'rt' can't be run ({error.strerror}): the Rattle kit must be on the PATH") from None
     if done.returncode or not os.path.exists(PROGRAM):
         raise NotRun(f"'rt check certain' failed with exit status {done.returncode}")
-    os.utime(PROGRAM)       # rt leaves a program that needs no new proof as it is
+    with contextlib.suppress(OSError):
+        os.utime(PROGRAM)       # rt leaves a program that needs no new proof as it is
     say(f"built in {time.monotonic() - start:.0f} seconds")
 
 
@@ -137,10 +139,9 @@ def reasons(number, made, data, query):
     if number == 2:
         why = why_no_expression(query.removesuffix(b"\n"))
         return [why] if why else []
-    if number >= 12:
-        return []
-    found, told = made.refusal() if made else (None, [])
-    if not made:
-        _, told = findings(data)
-        found, told = (told[0].refusal, [finding.why for finding in told]) if told else (None, [])
+    if made:
+        found, told = made.refusal()
+    else:
+        _, findings_here = findings(data)
+        found, told = next((finding.refusal for finding in findings_here), None), [finding.why for finding in findings_here]
     return list(map(str, told[:8])) if found == number else []

@@ -45,7 +45,7 @@ def why_not(text, start, at):
 
 
 def likely_delimiter(path, columns, expected):
-    """The delimiter of the first line: that with which it names all these columns, else the expected one if it stands there."""
+    """The first line's delimiter: one with which it names all these columns, else the expected one if it stands there."""
     line = read_text(path).split("\n", 1)[0]
     for delimiter in (expected, *DELIMITERS):
         if set(columns) <= {cell.strip(' "\r') for cell in line.split(delimiter)}:

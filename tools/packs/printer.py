@@ -20,7 +20,10 @@ def main(arguments=None):
     options = parser.parse_args(arguments)
     data = read_bytes(options.pack, limits.PACK_BYTES + 1)
     pack, found = findings(data)
-    names = Names(options.names, pack) if options.names else Numbers(pack)
+    damaged = found and found[0].refusal < 5
+    if options.names and damaged:
+        print_some(["the pack can't be read whole, so it is shown without names"], sys.stderr)
+    names = Names(options.names, pack) if options.names and not damaged else Numbers(pack)
     for line in lines_of(pack, layout(data), found, names):
         print(line)
     print()

@@ -4,7 +4,8 @@ import os
 import sys
 
 if sys.version_info < (3, 11):
-    sys.exit("Python 3.11 or later is needed")
+    print("Python 3.11 or later is needed", file=sys.stderr)
+    sys.exit(2)
 
 from problems import Wrong, print_some
 

@@ -20,7 +20,7 @@ QUERY = (
     "  name/family     steps one after another; a step is a predicate (letters a to z), or _ for any",
     "  a|b  a*  (a|b)  either; any number of times; brackets",
     "  [a/b]           stay, if there is such a path from here",
-    '  <style:x>  "x"  stay at this IRI; at this literal. Bytes other than ASCII letters, digits and - . _ ~ are written %XX',
+    '  <style:x>  "x"  stay at this IRI; at this literal. Bytes but ASCII letters, digits and - . _ ~ are written %XX',
     "Example: [family/lead]/name",
 )
 

@@ -7,7 +7,7 @@ import sys
 
 from encode import encode
 from pack import Atom, Constructor, Dependency, Head, Pack, Row, Rule, Shape, Term
-from support import ROOT, Files, show
+from support import EXAMPLES, ROOT, Files, show
 from test_examples import SAMPLE
 
 
@@ -106,6 +106,12 @@ class Show(Files):
         self.assertEqual(status, 0)
         self.assertTrue(out.isascii())
         self.assertIn('"\\x00\\x01', out)
+
+    def test_damaged_with_names(self):
+        self.write({"cut.pack": SAMPLE[:-1]})
+        status, out, err = show("cut.pack", "--names", os.path.join(EXAMPLES, "sample", "catalogue.toml"))
+        self.assertEqual((status, err), (1, "the pack can't be read whole, so it is shown without names\n"))
+        self.assertEqual(out, show("cut.pack")[1])
 
     def test_no_file(self):
         self.assertEqual(show("absent.pack"), (1, "", "absent.pack:1: can't be read: No such file or directory\n"))

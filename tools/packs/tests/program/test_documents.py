@@ -27,7 +27,7 @@ class Documents(Files):
         self.assertTrue(os.path.exists(asker.PROGRAM), f"{asker.PROGRAM} is not built: run rt check certain first")
 
     def test_sessions(self):
-        """A last line "..." stands for the rest of the output. What is told on standard error may follow, as it does on a screen."""
+        """A last line "..." stands for the rest of the output. Standard error follows standard output."""
         for document in DOCUMENTS:
             found = list(sessions(document))
             self.assertTrue(found, f"{document} has no session")
