@@ -5,11 +5,9 @@ import re
 import shlex
 import subprocess
 
-import asker
-from support import ROOT, Files
+from support import EXAMPLES, ROOT, Files
 
-DOCUMENTS = ("README.md", "docs/CATALOGUES.md", "examples/sample/README.md", "examples/two-tables/README.md",
-             "examples/foundry/README.md")
+DOCUMENTS = ["README.md", "docs/CATALOGUES.md"] + [f"examples/{name}/README.md" for name in sorted(os.listdir(EXAMPLES))]
 BLOCK = re.compile(r"^```console\n(.*?)^```$", re.MULTILINE | re.DOTALL)
 
 
@@ -23,9 +21,6 @@ def sessions(document):
 
 
 class Documents(Files):
-    def test_program_is_built(self):
-        self.assertTrue(os.path.exists(asker.PROGRAM), f"{asker.PROGRAM} is not built: run rt check certain first")
-
     def test_sessions(self):
         """A last line "..." stands for the rest of the output. Standard error follows standard output."""
         for document in DOCUMENTS:
@@ -42,7 +37,6 @@ class Documents(Files):
     def run_command(self, command):
         words = shlex.split(command)
         self.assertIn(words[0], ("tools/certain", "tools/packs/make", "tools/packs/show"))
-        self.assertTrue(os.path.exists(asker.PROGRAM), "not built: run rt check certain first")
         done = subprocess.run([os.path.join(ROOT, words[0]), *words[1:]], cwd=ROOT, stdin=subprocess.DEVNULL,
                               capture_output=True, text=True, encoding="utf-8")
         return done.stdout + done.stderr
