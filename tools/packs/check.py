@@ -4,7 +4,7 @@ from itertools import combinations
 
 import limits
 import nograph
-from core import too_large
+from core import TooManyTries, too_large
 from decode import Finding, decode
 from pack import columns_of, terms_of, variables_of
 
@@ -12,14 +12,17 @@ from pack import columns_of, terms_of, variables_of
 def findings(data, last=11):
     """The records of any bytes, and why they are refused: every reason of the first number, up to the last, that is true.
 
-    Where 3 is true, the places at which reading stops (4) are given too.
+    Where 3 is true, the places at which reading stops (4) are given too. A finding without a number is no refusal.
     """
     pack, found = decode(data)
-    for refusal, check in CHECKS:
-        if not found and refusal <= last:
-            found = [Finding(refusal, why) for why in check(pack)]
-    if not found and last > 9:
-        found = [Finding(reason.refusal, reason.why) for reason in nograph.reasons(pack)]
+    try:
+        for refusal, check in CHECKS:
+            if not found and refusal <= last:
+                found = [Finding(refusal, why) for why in check(pack)]
+        if not found and last > 9:
+            found = [Finding(reason.refusal, reason.why) for reason in nograph.reasons(pack)]
+    except TooManyTries as left:
+        found = [Finding(None, str(left))]
     return pack, found
 
 

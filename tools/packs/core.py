@@ -1,7 +1,18 @@
 """The size of the core: refusal 9."""
 
+from itertools import count
+
 import limits
 from pack import variables_of
+
+TRIES = 100_000     # how many rows are tried here for one rule; the program needs no such bound
+
+
+class TooManyTries(Exception):
+    """A rule has so many partial matches that 9 to 11 are left to the program."""
+
+    def __str__(self):
+        return "not looked for: 9 to 11, since a rule has too many partial matches; the program will say"
 
 
 def too_large(pack):
@@ -40,7 +51,7 @@ def matches(pack, rule):
     needed = [set(variables_of(rule.head))]
     for atom in reversed(rule.atoms):
         needed.insert(0, needed[0] | set(atom.variables))
-    seen = [set() for _ in needed]
+    seen, tries = [set() for _ in needed], count()
     bound, indexes = set(), []
     for atom in rule.atoms:
         joins = [column for column, variable in enumerate(atom.variables) if variable in bound]
@@ -58,6 +69,8 @@ def matches(pack, rule):
             return
         variables, (joins, index) = rule.atoms[place].variables, indexes[place]
         for row in index.get(tuple(kept[variables[column]] for column in joins), ()):
+            if next(tries) == TRIES:
+                raise TooManyTries
             if (longer := agreeing(variables, row, kept)) is not None:
                 yield from extend(place + 1, longer)
 

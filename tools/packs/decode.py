@@ -9,7 +9,7 @@ from pack import Atom, Constructor, Dependency, Head, Pack, Row, Rule, Shape, Te
 @dataclass
 class Finding:
     """One reason to refuse a pack: document 01's number, and why."""
-    refusal: int
+    refusal: int            # None where it is no refusal
     why: str
     body: str = None        # the body in which reading stops
 

@@ -7,7 +7,7 @@ import nograph
 from broken import broken_rows
 from catalogue import description, read_catalogue
 from check import findings
-from core import agreeing, too_large
+from core import TooManyTries, agreeing, too_large
 from encode import encode
 from files import write_bytes
 from problems import Problem, Wrong, print_some
@@ -34,7 +34,7 @@ def main(arguments=None):
     return 0
 
 
-CAUSES = {8: "allowed", 10: "no graph: refusal 10", 11: "no graph: refusal 11"}
+CAUSES = {8: "allowed", 10: "no graph: refusal 10", 11: "no graph: refusal 11", None: "the pack is written"}
 
 
 class Made:
@@ -50,9 +50,15 @@ class Made:
         check(self.data, catalogue.path)
 
     def refusal(self):
-        """The first of 8 to 11 that is true of the pack, and its problems; None and none where the service builds it."""
+        """The first of 8 to 11 that is true of the pack, and its problems; None where none is, or 9 to 11 are not looked for."""
         if broken := list(broken_rows(self.catalogue, self.pack, self.places)):
             return 8, broken
+        try:
+            return self.of_core()
+        except TooManyTries as left:
+            return None, [self.problem((self.catalogue.path, 1), str(left))]
+
+    def of_core(self):
         if over := too_large(self.pack):
             rule, limit = over
             return 9, [self.problem(self.mapping(rule),

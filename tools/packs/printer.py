@@ -20,7 +20,8 @@ def main(arguments=None):
     options = parser.parse_args(arguments)
     data = read_bytes(options.pack, limits.PACK_BYTES + 1)
     pack, found = findings(data)
-    damaged = found and found[0].refusal < 5
+    refusal = found[0].refusal if found else None
+    damaged = refusal in (3, 4)
     if options.names and damaged:
         print_some(["the pack can't be read whole, so it is shown without names"], sys.stderr)
     names = Names(options.names, pack) if options.names and not damaged else Numbers(pack)
@@ -28,5 +29,6 @@ def main(arguments=None):
         print(line)
     print()
     print_some([finding.why for finding in found if finding.body is None], sys.stdout)
-    print(f"refused {found[0].refusal}" if found else "well formed, keeps its dependencies, and has a graph")
-    return 1 if found else 0
+    graph = "well formed, and keeps its dependencies" if found else "well formed, keeps its dependencies, and has a graph"
+    print(f"refused {refusal}" if refusal else graph)
+    return 1 if refusal else 0

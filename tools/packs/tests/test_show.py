@@ -113,6 +113,19 @@ class Show(Files):
         self.assertEqual((status, err), (1, "the pack can't be read whole, so it is shown without names\n"))
         self.assertEqual(out, show("cut.pack")[1])
 
+    def test_more_than_is_tried(self):
+        """A join of all rows with all rows, of which few heads come: left to the program, and not waited for."""
+        pack = sample()
+        pack.values = [bytes([65 + n // 16, 65 + n % 16]) for n in range(256)]
+        pack.relations = [2, 8]
+        pack.rows = [Row(1, [n % 256, n // 256, *(n * factor % 256 for factor in (3, 5, 7, 9, 11, 13))]) for n in range(1000)]
+        pack.rules = [Rule([Atom(1, list(range(8))), Atom(1, list(range(8, 16))), Atom(1, [0, 1, 2, 3, 8, 9, 10, 11])],
+                           Head(0, Term(0, [0]), type=0))] * 32
+        status, out, _ = self.shown(encode(pack))
+        self.assertEqual((status, out.splitlines()[-2:]), (0, [
+            "not looked for: 9 to 11, since a rule has too many partial matches; the program will say",
+            "well formed, and keeps its dependencies"]))
+
     def test_no_file(self):
         self.assertEqual(show("absent.pack"), (1, "", "absent.pack:1: can't be read: No such file or directory\n"))
 
