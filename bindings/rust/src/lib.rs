@@ -1,0 +1,62 @@
+//! Certain answers for a type foundry's catalogue: what holds in every finite graph that a pack of rows and shapes allows.
+//!
+//! The work is done by the proved static library `libciravehy.a`; this crate calls it safely. [`Service`] owns the buffers
+//! and gives typed answers; [`lent`] works on buffers of the caller's.
+//!
+//! ```
+//! use ciravehy::Service;
+//! let pack = include_bytes!("../../../crates/certain/data/catalogue.pack");
+//! let mut service = Service::new();
+//! assert!(service.yes_no(pack, b"[family/lead]/name")?);
+//! # Ok::<(), ciravehy::Refusal>(())
+//! ```
+#![deny(unsafe_op_in_unsafe_fn)]
+#![warn(missing_docs)]
+
+mod foreign;
+mod graph;
+pub mod lent;
+mod refusal;
+mod service;
+
+pub use graph::{Graph, Kind, Node, Pair, Triple};
+pub use refusal::{Clash, Refusal};
+pub use service::{Pairs, Service};
+
+/// How many numbers a lent node list has, or more: 1,024 nodes.
+pub const NODE_LIST_LENGTH: usize = 7168;
+/// How many numbers a lent triple list has, or more: 10,228 triples.
+pub const TRIPLE_LIST_LENGTH: usize = 30684;
+/// How many numbers a lent pair list has, or more: 4,096 pairs.
+pub const PAIR_LIST_LENGTH: usize = 8192;
+/// The length of the working buffer `rows`, or more.
+pub const ROWS_LENGTH: usize = 9216;
+/// The length of the working buffer `heads`, or more.
+pub const HEADS_LENGTH: usize = 32768;
+/// The length of each of the working buffers `alive`, `queue` and `seen`, or more.
+pub const STATES: usize = 263168;
+
+/// How many nodes and triples the pack's graph has.
+#[derive(Clone, Copy, Debug, PartialEq, Eq)]
+pub struct Counts {
+    /// Nodes in the node list.
+    pub nodes: usize,
+    /// Triples in the triple list.
+    pub triples: usize,
+}
+
+/// What an IRI is spelled from.
+#[derive(Clone, Copy, Debug, PartialEq, Eq)]
+pub struct Term {
+    /// The constructor's number.
+    pub constructor: u16,
+    /// The values' numbers in argument order, 65,535 in places unused.
+    pub values: [u16; 4],
+}
+
+impl Term {
+    /// The values of the places that are used.
+    pub fn arguments(&self) -> &[u16] {
+        graph::used(&self.values)
+    }
+}

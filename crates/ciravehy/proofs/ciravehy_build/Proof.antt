@@ -1,0 +1,17 @@
+-- `ciravehy::ciravehy_build` meets its contract. Assumes nothing.
+use borrow.Author.Needs.{needs}
+use Rattle.ciravehy.proofs.Bounds.{build-small}
+use Rattle.ciravehy.proofs.ciravehy_build.Statement.{statement}
+use Rattle.ciravehy.proofs.ciravehy_build.Tie as tie
+
+pub ciravehy-build-spec : {M : Type 1} → statement M
+ciravehy-build-spec =
+    tie.close
+    (tie.spec
+    (λ c κs. search needs)  -- build-requires
+    (λ c κs. search (build-small, needs))  -- numbers-requires
+    (λ c. search needs)  -- same-length
+    (λ c. search needs)  -- same-length-2
+    (λ c. search needs)  -- same-length-3
+    (λ c. search needs)  -- same-length-4
+    (λ c. search needs))  -- returns

@@ -1,0 +1,21 @@
+-- `ciravehy::ciravehy_pairs` meets its contract. Assumes nothing.
+use borrow.Author.Needs.{needs}
+use Rattle.ciravehy.proofs.Bounds.{pairs-small}
+use Rattle.ciravehy.proofs.ciravehy_pairs.Statement.{statement}
+use Rattle.ciravehy.proofs.ciravehy_pairs.Tie as tie
+
+pub ciravehy-pairs-spec : {M : Type 1} → statement M
+ciravehy-pairs-spec =
+    tie.close
+    (tie.spec
+    (λ c κs. search needs)  -- pairs-requires
+    (λ c κs. search (pairs-small, needs))  -- numbers-requires
+    (λ c. search needs)  -- same-length
+    (λ c. search needs)  -- same-length-2
+    (λ c. search needs)  -- same-length-3
+    (λ c. search needs)  -- same-length-4
+    (λ c. search needs)  -- same-length-5
+    (λ c. search needs)  -- same-length-6
+    (λ c. search needs)  -- same-length-7
+    (λ c. search needs)  -- same-length-8
+    (λ c. search needs))  -- returns

@@ -1,0 +1,24 @@
+-- `ciravehy::ciravehy_yes_no` meets its contract. Assumes nothing.
+use borrow.Author.Needs.{needs}
+use mathlib.Core.Path.{refl, ap, _∙_}
+use Rattle.ciravehy.proofs.Bounds.{yes-no-small}
+use Rattle.ciravehy.specs.Report.{reported}
+use Rattle.ciravehy.proofs.ciravehy_yes_no.Statement.{statement}
+use Rattle.ciravehy.proofs.ciravehy_yes_no.Tie as tie
+
+pub ciravehy-yes-no-spec : {M : Type 1} → statement M
+ciravehy-yes-no-spec =
+    tie.close
+    (tie.spec
+    (λ c κs. search needs)  -- yes-no-requires
+    (λ c κs. search needs)  -- said-requires
+    (λ c κs. yes-no-small (c .before .before .before .before .before .before .before .before .before .before .before .before .before .before .yes-no .ensures) (c .said .ensures))  -- numbers-requires
+    (λ c. search needs)  -- same-length
+    (λ c. search needs)  -- same-length-2
+    (λ c. search needs)  -- same-length-3
+    (λ c. search needs)  -- same-length-4
+    (λ c. search needs)  -- same-length-5
+    (λ c. search needs)  -- same-length-6
+    (λ c.  -- returns
+    let a = c .before .before .before .before .before .before .before .before .before .before .before .before .before .before .before .yes-no .result in
+    record { answer = a; answers = c .before .before .before .before .before .before .before .before .before .before .before .before .before .before .before .yes-no .ensures; refusal = refl; report = c .numbers .ensures ∙ ap (λ n. reported (a .nodes) (a .triples) n (a .clash)) (c .before .said .ensures) }))

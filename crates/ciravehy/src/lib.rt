@@ -1,0 +1,95 @@
+// The four open calls, exported for C and whatever calls C: numbers, slices and one array in the place of an answer's struct.
+mod report; // an answer as an array of numbers
+
+ghost use Rattle.ciravehy.specs.Exported.{Builds, Decides, Finds, Reads};
+use crate::report::numbers;
+use crate::report::said;
+use crate::report::term;
+use build::build;
+use pairs::pairs as find_pairs;
+use readback::read_back;
+use yes_no::yes_no;
+
+// `build::build`. The result is the refusal's number, 0 where there is none; the rest of the answer is in `report`.
+#[no_mangle]
+pub extern "C" fn ciravehy_build(
+    pack: &[u8],
+    nodes: &mut [u16],
+    triples: &mut [u16],
+    rows: &mut [u16],
+    heads: &mut [u64],
+    report: &mut [u16; 25],
+) -> u8
+    ensures { λ r. ⌜ Builds (now (pack .entry)) r (now (nodes .entry)) (now (nodes .exit)) (now (triples .entry)) (now (triples .exit)) (now (rows .entry)) (now (rows .exit)) (now (heads .entry)) (now (heads .exit)) (now (report .exit)) ⌝ }
+{
+    let answer = build(pack, nodes, triples, rows, heads);
+    let clash = answer.clash;
+    *report = numbers(answer.nodes, answer.triples, 0, clash);
+    answer.refusal
+}
+
+// `yes_no::yes_no`, in the same way.
+#[no_mangle]
+pub extern "C" fn ciravehy_yes_no(
+    pack: &[u8],
+    query: &[u8],
+    nodes: &mut [u16],
+    triples: &mut [u16],
+    rows: &mut [u16],
+    heads: &mut [u64],
+    alive: &mut [u8],
+    queue: &mut [u32],
+    report: &mut [u16; 25],
+) -> u8
+    ensures { λ r. ⌜ Decides (now (pack .entry)) (now (query .entry)) r (now (nodes .entry)) (now (nodes .exit)) (now (triples .entry)) (now (triples .exit)) (now (rows .entry)) (now (rows .exit)) (now (heads .entry)) (now (heads .exit)) (now (alive .entry)) (now (alive .exit)) (now (queue .entry)) (now (queue .exit)) (now (report .exit)) ⌝ }
+{
+    let answer = yes_no(pack, query, nodes, triples, rows, heads, alive, queue);
+    let clash = answer.clash;
+    *report = numbers(answer.nodes, answer.triples, said(answer.yes), clash);
+    answer.refusal
+}
+
+// `pairs::pairs`, in the same way.
+#[no_mangle]
+pub extern "C" fn ciravehy_pairs(
+    pack: &[u8],
+    query: &[u8],
+    nodes: &mut [u16],
+    triples: &mut [u16],
+    pairs: &mut [u16],
+    rows: &mut [u16],
+    heads: &mut [u64],
+    alive: &mut [u8],
+    queue: &mut [u32],
+    seen: &mut [u16],
+    report: &mut [u16; 25],
+) -> u8
+    ensures { λ r. ⌜ Finds (now (pack .entry)) (now (query .entry)) r (now (nodes .entry)) (now (nodes .exit)) (now (triples .entry)) (now (triples .exit)) (now (pairs .entry)) (now (pairs .exit)) (now (rows .entry)) (now (rows .exit)) (now (heads .entry)) (now (heads .exit)) (now (alive .entry)) (now (alive .exit)) (now (queue .entry)) (now (queue .exit)) (now (seen .entry)) (now (seen .exit)) (now (report .exit)) ⌝ }
+{
+    let answer = find_pairs(
+        pack,
+        query,
+        nodes,
+        triples,
+        pairs,
+        rows,
+        heads,
+        alive,
+        queue,
+        seen,
+    );
+    let clash = answer.clash;
+    *report = numbers(answer.nodes, answer.triples, answer.pairs, clash);
+    answer.refusal
+}
+
+// `readback::read_back`, in the same way.
+#[no_mangle]
+pub extern "C" fn ciravehy_read_back(pack: &[u8], text: &[u8], report: &mut [u16; 5]) -> u8
+    ensures { λ r. ⌜ Reads (now (pack .entry)) (now (text .entry)) r (now (report .exit)) ⌝ }
+{
+    let answer = read_back(pack, text);
+    let values = answer.values;
+    *report = term(answer.constructor, values);
+    answer.refusal
+}

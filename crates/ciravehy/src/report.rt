@@ -1,0 +1,36 @@
+// An answer as an array of numbers.
+ghost use mathlib.Core.List.{_∷_};
+ghost use mathlib.Core.Path.{_≡_};
+ghost use Prim.Native.Nat.{_<_};
+ghost use Rattle.ciravehy.specs.Report.{number, reported};
+use meaning::MAX_ARGUMENTS;
+use sets::buffers::copy_front;
+
+// The counts, the answer and the clash, in this order.
+pub fn numbers(nodes: usize, triples: usize, answer: usize, clash: [u16; 22]) -> [u16; 25]
+    requires { ⌜ (nodes < 65536) × (triples < 65536) × (answer < 65536) ⌝ }
+    ensures { λ r. ⌜ r ≡ reported nodes triples answer clash ⌝ }
+{
+    let mut all = [0u16; 25];
+    all[0] = nodes as u16;
+    all[1] = triples as u16;
+    all[2] = answer as u16;
+    copy_front(&clash[..], 22, &mut all[3..]);
+    all
+}
+
+// Yes is 1, no is 0.
+pub fn said(yes: bool) -> usize
+    ensures { λ r. ⌜ r ≡ number yes ⌝ }
+{
+    if yes { 1 } else { 0 }
+}
+
+// The constructor, then the values.
+pub fn term(constructor: u16, values: [u16; MAX_ARGUMENTS]) -> [u16; 5]
+    ensures { λ r. ⌜ r ≡ constructor ∷ values ⌝ }
+{
+    let mut all = [constructor; 5];
+    copy_front(&values[..], MAX_ARGUMENTS, &mut all[1..]);
+    all
+}
