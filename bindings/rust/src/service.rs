@@ -2,6 +2,7 @@
 use crate::*;
 
 /// Owns every list and working buffer, some 3 MB, for one call after another.
+#[derive(Clone)]
 pub struct Service {
     nodes: Vec<u16>,
     triples: Vec<u16>,

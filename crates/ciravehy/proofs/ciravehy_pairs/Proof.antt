@@ -1,5 +1,6 @@
 -- `ciravehy::ciravehy_pairs` meets its contract. Assumes nothing.
 use borrow.Author.Needs.{needs}
+use native.Mathlib.Omega.{arith}
 use Rattle.ciravehy.proofs.Bounds.{pairs-small}
 use Rattle.ciravehy.proofs.ciravehy_pairs.Statement.{statement}
 use Rattle.ciravehy.proofs.ciravehy_pairs.Tie as tie
@@ -9,7 +10,7 @@ ciravehy-pairs-spec =
     tie.close
     (tie.spec
     (λ c κs. search needs)  -- pairs-requires
-    (λ c κs. search (pairs-small, needs))  -- numbers-requires
+    (λ c κs. let s = pairs-small (c .before .before .before .before .before .before .before .before .before .before .before .before .before .before .before .before .before .pairs .ensures) in (omega (arith, s .0), omega (arith, s .1), omega (arith, s .2)))  -- numbers-requires
     (λ c. search needs)  -- same-length
     (λ c. search needs)  -- same-length-2
     (λ c. search needs)  -- same-length-3

@@ -1,0 +1,104 @@
+/* Ciravehy: certain answers for a type foundry's catalogue, in every finite graph that a pack allows. C11, and C++.
+ *
+ * Link target/staticlib/libciravehy.a, which `rt staticlib ciravehy` writes.
+ *
+ * Each call takes any bytes, and buffers of any length and any content. Its result is a refusal's number from 1 to 13, or 0.
+ * Too short a list or working buffer is refusal 1, which touches no list and no working buffer. After any other return the
+ * working buffers are zero. A refusal leaves the lists as they were; entries past a reported count keep theirs.
+ *
+ * What the caller owes: a length counts entries, not bytes, and so many are there behind its pointer. A pointer is aligned for
+ * its type and not null, even where its length is 0. What may be written overlaps nothing else that is lent.
+ *
+ * The calls keep no pointer and no state, so they may run in several threads at once, each with its own buffers. Pairs takes
+ * some 170 KB of stack, the others less than half of that. */
+#ifndef CIRAVEHY_H
+#define CIRAVEHY_H
+
+#include <stddef.h>
+#include <stdint.h>
+
+#ifdef __cplusplus
+extern "C" {
+#endif
+
+/* ---- lengths, or more */
+
+/* Lists: 1,024 nodes of seven numbers, 10,228 triples of three, 4,096 pairs of two. */
+#define CIRAVEHY_NODE_LIST_LENGTH 7168
+#define CIRAVEHY_TRIPLE_LIST_LENGTH 30684
+#define CIRAVEHY_PAIR_LIST_LENGTH 8192
+
+/* Working buffers; the last is the length of each of alive, queue and seen. */
+#define CIRAVEHY_ROWS_LENGTH 9216
+#define CIRAVEHY_HEADS_LENGTH 32768
+#define CIRAVEHY_STATES 263168
+
+/* Reports, of exactly these lengths. Every call writes the whole of its report. */
+#define CIRAVEHY_REPORT_LENGTH 25
+#define CIRAVEHY_TERM_LENGTH 5
+
+/* ---- the places in a report of build, yes/no and pairs */
+
+#define CIRAVEHY_NODES 0   /* the node count; 0 where refused */
+#define CIRAVEHY_TRIPLES 1 /* the triple count; 0 where refused */
+#define CIRAVEHY_ANSWER 2  /* yes/no: 1 for yes, 0 for no; pairs: the pair count; else 0 */
+/* The clash of refusal 10, zero otherwise: a node, a predicate, two objects. A node is seven numbers. */
+#define CIRAVEHY_CLASH_SUBJECT 3
+#define CIRAVEHY_CLASH_PREDICATE 10
+#define CIRAVEHY_CLASH_FIRST 11
+#define CIRAVEHY_CLASH_SECOND 18
+
+/* ---- what the lists hold
+ *
+ * A node: kind (0 IRI, 1 literal, 2 invented literal, 3 invented other), constructor or value or 0, type set (type t has the
+ * weight 2 to the power t), four arguments, 65,535 where unused. A triple: subject, predicate, object; nodes by their place
+ * in the node list. A pair: start and end, in the same way. */
+
+/* The graph of a pack, at the front of nodes and triples. Refusals 1 and 3 to 11. */
+uint8_t ciravehy_build(
+    const uint8_t *pack, size_t pack_length,
+    uint16_t *nodes, size_t nodes_length,
+    uint16_t *triples, size_t triples_length,
+    uint16_t *rows, size_t rows_length,
+    uint64_t *heads, size_t heads_length,
+    uint16_t *report);
+
+/* Whether the query is satisfied in every finite graph that obeys the pack; its graph, as by build. Refusals 1 to 11. */
+uint8_t ciravehy_yes_no(
+    const uint8_t *pack, size_t pack_length,
+    const uint8_t *query, size_t query_length,
+    uint16_t *nodes, size_t nodes_length,
+    uint16_t *triples, size_t triples_length,
+    uint16_t *rows, size_t rows_length,
+    uint64_t *heads, size_t heads_length,
+    uint8_t *alive, size_t alive_length,
+    uint32_t *queue, size_t queue_length,
+    uint16_t *report);
+
+/* The pairs of named nodes that the query joins in every finite graph that obeys the pack, at the front of pairs; its
+ * graph, as by build. Refusals 1 to 12. */
+uint8_t ciravehy_pairs(
+    const uint8_t *pack, size_t pack_length,
+    const uint8_t *query, size_t query_length,
+    uint16_t *nodes, size_t nodes_length,
+    uint16_t *triples, size_t triples_length,
+    uint16_t *pairs, size_t pairs_length,
+    uint16_t *rows, size_t rows_length,
+    uint64_t *heads, size_t heads_length,
+    uint8_t *alive, size_t alive_length,
+    uint32_t *queue, size_t queue_length,
+    uint16_t *seen, size_t seen_length,
+    uint16_t *report);
+
+/* What an IRI's text is spelled from: the constructor and four values in argument order, 65,535 where unused or refused, in
+ * term (CIRAVEHY_TERM_LENGTH numbers). Refusals 3 to 7 and 13. */
+uint8_t ciravehy_read_back(
+    const uint8_t *pack, size_t pack_length,
+    const uint8_t *text, size_t text_length,
+    uint16_t *term);
+
+#ifdef __cplusplus
+}
+#endif
+
+#endif

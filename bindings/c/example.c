@@ -1,0 +1,82 @@
+/* Each call once: the graph of a pack, a query's answer and pairs, what an IRI is spelled from.
+ *
+ *     example catalogue.pack '[family/lead]/name' sty:r1
+ *
+ * prints numbers; `certain` spells names. */
+#include "ciravehy.h"
+#include <stdio.h>
+#include <string.h>
+
+static uint8_t pack[65537]; /* one more than a pack may have: a longer file is refused too */
+static uint16_t nodes[CIRAVEHY_NODE_LIST_LENGTH];
+static uint16_t triples[CIRAVEHY_TRIPLE_LIST_LENGTH];
+static uint16_t pairs[CIRAVEHY_PAIR_LIST_LENGTH];
+static uint16_t rows[CIRAVEHY_ROWS_LENGTH];
+static uint64_t heads[CIRAVEHY_HEADS_LENGTH];
+static uint8_t alive[CIRAVEHY_STATES];
+static uint32_t queue[CIRAVEHY_STATES];
+static uint16_t seen[CIRAVEHY_STATES];
+static uint16_t report[CIRAVEHY_REPORT_LENGTH];
+
+static void print_numbers(const char *what, const uint16_t *numbers, size_t count)
+{
+    printf("%s", what);
+    for (size_t i = 0; i < count; i++)
+        printf(" %u", (unsigned)numbers[i]);
+    printf("\n");
+}
+
+static int refused(const char *call, unsigned number)
+{
+    if (number != 0)
+        printf("%s: refused %u\n", call, number);
+    if (number == 10)
+        print_numbers("clash", report + CIRAVEHY_CLASH_SUBJECT, 22);
+    return number != 0;
+}
+
+static void show_graph(size_t size)
+{
+    if (refused("build", ciravehy_build(pack, size, nodes, CIRAVEHY_NODE_LIST_LENGTH, triples, CIRAVEHY_TRIPLE_LIST_LENGTH,
+            rows, CIRAVEHY_ROWS_LENGTH, heads, CIRAVEHY_HEADS_LENGTH, report)))
+        return;
+    for (size_t i = 0; i < report[CIRAVEHY_NODES]; i++)
+        print_numbers("node", nodes + 7 * i, 7);
+    for (size_t i = 0; i < report[CIRAVEHY_TRIPLES]; i++)
+        print_numbers("triple", triples + 3 * i, 3);
+}
+
+static void show_answer(size_t size, const uint8_t *query, size_t length)
+{
+    if (!refused("yes/no", ciravehy_yes_no(pack, size, query, length, nodes, CIRAVEHY_NODE_LIST_LENGTH, triples,
+            CIRAVEHY_TRIPLE_LIST_LENGTH, rows, CIRAVEHY_ROWS_LENGTH, heads, CIRAVEHY_HEADS_LENGTH, alive, CIRAVEHY_STATES,
+            queue, CIRAVEHY_STATES, report)))
+        printf("certain %s\n", report[CIRAVEHY_ANSWER] ? "yes" : "no");
+    if (refused("pairs", ciravehy_pairs(pack, size, query, length, nodes, CIRAVEHY_NODE_LIST_LENGTH, triples,
+            CIRAVEHY_TRIPLE_LIST_LENGTH, pairs, CIRAVEHY_PAIR_LIST_LENGTH, rows, CIRAVEHY_ROWS_LENGTH, heads,
+            CIRAVEHY_HEADS_LENGTH, alive, CIRAVEHY_STATES, queue, CIRAVEHY_STATES, seen, CIRAVEHY_STATES, report)))
+        return;
+    for (size_t i = 0; i < report[CIRAVEHY_ANSWER]; i++)
+        print_numbers("pair", pairs + 2 * i, 2);
+}
+
+int main(int count, char **words)
+{
+    if (count != 4) {
+        fprintf(stderr, "use: %s PACK QUERY IRI\n", words[0]);
+        return 2;
+    }
+    FILE *file = fopen(words[1], "rb");
+    if (file == NULL) {
+        perror(words[1]);
+        return 2;
+    }
+    size_t size = fread(pack, 1, sizeof pack, file);
+    fclose(file);
+    show_graph(size);
+    show_answer(size, (const uint8_t *)words[2], strlen(words[2]));
+    uint16_t term[CIRAVEHY_TERM_LENGTH];
+    if (!refused("read-back", ciravehy_read_back(pack, size, (const uint8_t *)words[3], strlen(words[3]), term)))
+        print_numbers("term", term, CIRAVEHY_TERM_LENGTH);
+    return 0;
+}
