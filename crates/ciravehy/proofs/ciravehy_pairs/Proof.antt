@@ -1,5 +1,6 @@
 -- `ciravehy::ciravehy_pairs` meets its contract. Assumes nothing.
 use borrow.Author.Needs.{needs}
+use mathlib.Core.Path.{refl}
 use native.Mathlib.Omega.{arith}
 use Rattle.ciravehy.proofs.Bounds.{pairs-small}
 use Rattle.ciravehy.proofs.ciravehy_pairs.Statement.{statement}
@@ -19,4 +20,4 @@ ciravehy-pairs-spec =
     (λ c. search needs)  -- same-length-6
     (λ c. search needs)  -- same-length-7
     (λ c. search needs)  -- same-length-8
-    (λ c. search needs))  -- returns
+    (λ c. record { answer = c .before .before .before .before .before .before .before .before .before .before .before .before .before .before .before .before .before .before .pairs .result; answers = c .before .before .before .before .before .before .before .before .before .before .before .before .before .before .before .before .before .before .pairs .ensures; refusal = refl; report = c .numbers .ensures }))  -- returns
