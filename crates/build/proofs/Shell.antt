@@ -1,13 +1,22 @@
 -- Build's answer: refusal 1, or what the pack comes to with the working buffers cleared. Assumes nothing.
 use lib.ListN.{length}
 use mathlib.Core.List.{List}
+use mathlib.Core.Logic.{_↔_}
 use mathlib.Core.Path.{_≡_, refl, ap, _∙_}
-use Prim.Native.Nat.{ℕ}
+use Prim.Native.Nat.{ℕ, _≤_}
 use Rattle.build.specs.Answer.{Answers, LongEnough}
-use Rattle.construct.specs.Outcome.{Constructs, refusal}
+use Rattle.construct.specs.Outcome.{Constructs, headsLength, refusal, rowsLength}
 use Rattle.construct.specs.declared.Constructed.{Constructed}
+use Rattle.meaning.specs.Limits.{nodeListLength, tripleListLength}
 use Rattle.meaning.specs.Pack.{Text}
 use Rattle.sets.specs.Buffers.{zeros}
+
+-- the four lengths, and the lists
+pub long : {nodes triples rows heads : List ℕ} → ((nodeListLength ≤ length nodes) × (tripleListLength ≤ length triples) × (rowsLength ≤ length rows) × (headsLength ≤ length heads)) ↔ LongEnough nodes triples rows heads
+long = (
+  (λ h. record { node-list = h .0; triple-list = h .1; row-buffer = h .2; head-buffer = h .3 }),
+  (λ l. (l .node-list, l .triple-list, l .row-buffer, l .head-buffer)),
+)
 
 module _ {pack : Text} {r : Constructed} {nodes triples rows heads : List ℕ} where
   pub short-answer : ¬ LongEnough nodes triples rows heads → r ≡ refusal 1 → Answers pack r nodes nodes triples triples rows rows heads heads

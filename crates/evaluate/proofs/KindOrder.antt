@@ -9,6 +9,7 @@ use mathlib.Core.Option.{some, Option·none-ne-some, Option·some-injective}
 use mathlib.Core.Path.{_≡_, refl, sym, ap, subst, _∙_}
 use native.Mathlib.Omega.{arith}
 use Prim.Native.Nat.{ℕ, zero, suc, _+_, _*_, _≤_, _<_}
+use Rattle.construct.proofs.Front.{record-length}
 use Rattle.evaluate.proofs.Built.{in-order-at}
 use Rattle.evaluate.proofs.Held.{count-is, inOrder}
 use Rattle.meaning.proofs.Lists.Places.{inside, there-is}
@@ -18,22 +19,12 @@ use Rattle.evaluate.specs.Named.{NamedFirst}
 use Rattle.meaning.proofs.Lists.Ordered.{by-key}
 use Rattle.meaning.specs.Built.{BuiltNode, core, invented}
 use Rattle.meaning.specs.Core.{Node, iriNode, literalNode}
-use Rattle.meaning.specs.Listing.{NodeRecord, arguments, inventedKind, kind, nodeKey, number}
+use Rattle.meaning.specs.Listing.{NodeRecord, inventedKind, kind, nodeKey, number}
 use Rattle.meaning.specs.Ordered.{_≺_, less, equal}
 use Rattle.meaning.specs.Pack.{Pack, Text}
 use Rattle.sets.proofs.Cases.{case-on}
 
 -- ---- the kind of a node is the first number of its record and of its key
-
-pub record-length : (b : BuiltNode) → length (arguments b) ≡ 4
-unfolding arguments
-record-length (core (iriNode c [])) = refl
-record-length (core (iriNode c (a ∷ []))) = refl
-record-length (core (iriNode c (a ∷ b ∷ []))) = refl
-record-length (core (iriNode c (a ∷ b ∷ d ∷ []))) = refl
-record-length (core (iriNode c (a ∷ b ∷ d ∷ e ∷ vs))) = refl
-record-length (core (literalNode v)) = refl
-record-length (invented X) = refl
 
 flat-kind : {P : Pack} (bs : List BuiltNode) (rs : List (List ℕ)) → Forall₂ (NodeRecord P) bs rs → (n : ℕ) (b : BuiltNode) → getElem? bs n ≡ some b
     → getD (flatten rs) (n * 7) 0 ≡ kind b

@@ -3,9 +3,9 @@ use lib.ListN.{drop}
 use mathlib.Core.List.{List, _++_, flatten}
 use mathlib.Core.Path.{_≡_, ap, _∙_}
 use Prim.Native.Nat.{ℕ, _*_}
+use Rattle.construct.proofs.Front.{node-count, node-front, triple-count, triple-front}
 use Rattle.construct.specs.Outcome.{Gives}
 use Rattle.construct.specs.declared.Constructed.{Constructed}
-use Rattle.evaluate.proofs.Given.{node-count, node-front, triple-count, triple-front}
 use Rattle.meaning.specs.Pack.{Pack, Text}
 use Rattle.sets.specs.Buffers.{overlaid}
 

@@ -2,6 +2,7 @@
 use lib.ListN.{drop, getD, getD-replicate, length, length-map, length-replicate, take}
 use lib.Seq.{length-take-le}
 use mathlib.Core.List.{List, _++_, flatten, map}
+use mathlib.Core.Logic.{_↔_}
 use mathlib.Core.Path.{_≡_, refl, sym, ap, subst, _∙_}
 use native.Mathlib.Omega.{arith}
 use Prim.Native.Nat.{ℕ, _*_, _≤_, _<_}
@@ -9,7 +10,7 @@ use Rattle.alive.specs.Worklist.{Unmarked, states}
 use Rattle.answers.specs.declared.pairs.Pairs.{Pairs}
 use Rattle.answers.specs.declared.pairs.Pairs.the-variants.{Listed, TooMany}
 use Rattle.construct.proofs.Decide.{as-graph, as-refusal}
-use Rattle.construct.specs.Outcome.{Constructs, refusal}
+use Rattle.construct.specs.Outcome.{Constructs, headsLength, refusal, rowsLength}
 use Rattle.construct.specs.declared.Constructed.{Constructed}
 use Rattle.evaluate.proofs.Given.{graph-in}
 use Rattle.evaluate.proofs.Started.{length-zeros}
@@ -129,6 +130,14 @@ pub not-read : (q : Query) {pack : Text} (query : Text) (tree : List ℕ) {nodes
 not-read x query tree a e h q = no-query (subst (λ y. Answered y query tree) e a) (said-refusal h q) all-kept
 
 -- ---- the whole call
+
+-- the eight lengths, and the lists
+pub long : {nodes triples pairs rows heads alive queue seen : List ℕ}
+    → ((nodeListLength ≤ length nodes) × (tripleListLength ≤ length triples) × (pairListLength ≤ length pairs) × (rowsLength ≤ length rows) × (headsLength ≤ length heads) × (states ≤ length alive) × (states ≤ length queue) × (states ≤ length seen)) ↔ LongEnough nodes triples pairs rows heads alive queue seen
+long = (
+  (λ h. record { node-list = h .0; triple-list = h .1; pair-list = h .2; row-buffer = h .3; head-buffer = h .4; alive-buffer = h .5; queue-buffer = h .6; seen-buffer = h .7 }),
+  (λ l. (l .node-list, l .triple-list, l .pair-list, l .row-buffer, l .head-buffer, l .alive-buffer, l .queue-buffer, l .seen-buffer)),
+)
 
 module _ {pack query : Text} {r : PairAnswer} {nodes triples pairs rows heads alive queue seen : List ℕ} where
   pub short-answer : ¬ LongEnough nodes triples pairs rows heads alive queue seen → r ≡ answered (refusal 1) 0

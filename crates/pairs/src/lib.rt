@@ -2,10 +2,13 @@
 mod find; // the pairs, found
 mod publish; // the graph and the pairs, written into the lent lists
 
+ghost use lib.Dec.{T};
 ghost use lib.ListN.{length};
+ghost use mathlib.Core.Logic.{_↔_};
 ghost use mathlib.Core.Path.{_≡_};
 ghost use Prim.Native.Nat.{_≤_};
 ghost use Rattle.alive.specs.Worklist.{states};
+ghost use Rattle.construct.specs.Outcome.{headsLength, rowsLength};
 ghost use Rattle.meaning.specs.Limits.{nodeListLength, pairListLength, tripleListLength};
 ghost use Rattle.pairs.specs.Answer.{Answers, LongEnough, Outcome, answered};
 ghost use Rattle.pairs.specs.Given.{Given};
@@ -177,6 +180,46 @@ fn to_query(
     }
 }
 
+// Whether the lent lists and working buffers, of these lengths, are long enough.
+fn long_enough(
+    nodes: usize,
+    triples: usize,
+    pairs: usize,
+    rows: usize,
+    heads: usize,
+    alive: usize,
+    queue: usize,
+    seen: usize,
+) -> bool
+    ensures { λ r. ⌜ T r ↔ ((nodeListLength ≤ nodes) × (tripleListLength ≤ triples) × (pairListLength ≤ pairs) × (rowsLength ≤ rows) × (headsLength ≤ heads) × (states ≤ alive) × (states ≤ queue) × (states ≤ seen)) ⌝ }
+{
+    if nodes < NODE_LIST_LENGTH {
+        return false;
+    }
+    if triples < TRIPLE_LIST_LENGTH {
+        return false;
+    }
+    if pairs < PAIR_LIST_LENGTH {
+        return false;
+    }
+    if rows < ROWS_LENGTH {
+        return false;
+    }
+    if heads < HEADS_LENGTH {
+        return false;
+    }
+    if alive < STATES {
+        return false;
+    }
+    if queue < STATES {
+        return false;
+    }
+    if seen < STATES {
+        return false;
+    }
+    true
+}
+
 // The certain pairs at the front of `pairs`, with the graph of the pack at the front of the two lists before it; or a
 // refusal. The others are working buffers.
 pub fn pairs(
@@ -193,28 +236,16 @@ pub fn pairs(
 ) -> PairAnswer
     ensures { λ r. ⌜ Answers (now (pack .entry)) (now (query .entry)) r (now (nodes .entry)) (now (nodes .exit)) (now (triples .entry)) (now (triples .exit)) (now (pairs .entry)) (now (pairs .exit)) (now (rows .entry)) (now (rows .exit)) (now (heads .entry)) (now (heads .exit)) (now (alive .entry)) (now (alive .exit)) (now (queue .entry)) (now (queue .exit)) (now (seen .entry)) (now (seen .exit)) ⌝ }
 {
-    if nodes.len() < NODE_LIST_LENGTH {
-        return with(refused(1), 0);
-    }
-    if triples.len() < TRIPLE_LIST_LENGTH {
-        return with(refused(1), 0);
-    }
-    if pairs.len() < PAIR_LIST_LENGTH {
-        return with(refused(1), 0);
-    }
-    if rows.len() < ROWS_LENGTH {
-        return with(refused(1), 0);
-    }
-    if heads.len() < HEADS_LENGTH {
-        return with(refused(1), 0);
-    }
-    if alive.len() < STATES {
-        return with(refused(1), 0);
-    }
-    if queue.len() < STATES {
-        return with(refused(1), 0);
-    }
-    if seen.len() < STATES {
+    if !long_enough(
+        nodes.len(),
+        triples.len(),
+        pairs.len(),
+        rows.len(),
+        heads.len(),
+        alive.len(),
+        queue.len(),
+        seen.len(),
+    ) {
         return with(refused(1), 0);
     }
     let answer = to_query(

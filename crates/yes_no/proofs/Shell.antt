@@ -3,10 +3,12 @@ use lib.Dec.{T}
 use lib.ListN.{length}
 use mathlib.Core.Bool.{Bool, false}
 use mathlib.Core.List.{List}
+use mathlib.Core.Logic.{_↔_}
 use mathlib.Core.Path.{_≡_, refl, sym, ap, subst, _∙_}
 use Prim.Native.Nat.{ℕ, _≤_}
+use Rattle.alive.specs.Worklist.{states}
 use Rattle.construct.proofs.Decide.{as-graph, as-refusal}
-use Rattle.construct.specs.Outcome.{Constructs, refusal}
+use Rattle.construct.specs.Outcome.{Constructs, headsLength, refusal, rowsLength}
 use Rattle.construct.specs.declared.Constructed.{Constructed}
 use Rattle.evaluate.proofs.Given.{graph-in}
 use Rattle.evaluate.specs.Answered.{Ready, YesIn}
@@ -30,6 +32,14 @@ module _ {pack query : Text} {tree : List ℕ} {parts : ℕ} {nodes nodes′ tri
 
     pub answered-graph : {r : YesNo} (said : Bool) → YesIn pack query nodes′ (g .nodes) triples′ (g .triples) said → r ≡ answered g said → Outcome pack query r nodes nodes′ triples triples′
     answered-graph said y q = let (P, G) = as-graph c z in answers (held .expression) (held .query) P g G said (y P (graph-in G a b) (held .expression) (held .query)) q
+
+-- the six lengths, and the lists
+pub long : {nodes triples rows heads alive queue : List ℕ}
+    → ((nodeListLength ≤ length nodes) × (tripleListLength ≤ length triples) × (rowsLength ≤ length rows) × (headsLength ≤ length heads) × (states ≤ length alive) × (states ≤ length queue)) ↔ LongEnough nodes triples rows heads alive queue
+long = (
+  (λ h. record { node-list = h .0; triple-list = h .1; row-buffer = h .2; head-buffer = h .3; alive-buffer = h .4; queue-buffer = h .5 }),
+  (λ l. (l .node-list, l .triple-list, l .row-buffer, l .head-buffer, l .alive-buffer, l .queue-buffer)),
+)
 
 module _ {pack query : Text} {r : YesNo} {nodes triples rows heads alive queue : List ℕ} where
   pub short-answer : ¬ LongEnough nodes triples rows heads alive queue → r ≡ answered (refusal 1) false

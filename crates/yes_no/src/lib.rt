@@ -1,8 +1,12 @@
 // Yes/no, an open call: whether a query is satisfied in every finite graph that obeys a pack.
+ghost use lib.Dec.{T};
 ghost use lib.ListN.{length};
+ghost use mathlib.Core.Logic.{_↔_};
 ghost use mathlib.Core.Path.{_≡_};
 ghost use Prim.Native.Nat.{_≤_};
 ghost use Rattle.alive.specs.Worklist.{states};
+ghost use Rattle.construct.specs.Outcome.{headsLength, rowsLength};
+ghost use Rattle.meaning.specs.Limits.{nodeListLength, tripleListLength};
 ghost use Rattle.query.specs.Answer.{Held};
 ghost use Rattle.yes_no.specs.Answer.{Answers, LongEnough, Outcome, answered};
 use alive::STATES;
@@ -113,6 +117,38 @@ fn to_query(
     }
 }
 
+// Whether the lent lists and working buffers, of these lengths, are long enough.
+fn long_enough(
+    nodes: usize,
+    triples: usize,
+    rows: usize,
+    heads: usize,
+    alive: usize,
+    queue: usize,
+) -> bool
+    ensures { λ r. ⌜ T r ↔ ((nodeListLength ≤ nodes) × (tripleListLength ≤ triples) × (rowsLength ≤ rows) × (headsLength ≤ heads) × (states ≤ alive) × (states ≤ queue)) ⌝ }
+{
+    if nodes < NODE_LIST_LENGTH {
+        return false;
+    }
+    if triples < TRIPLE_LIST_LENGTH {
+        return false;
+    }
+    if rows < ROWS_LENGTH {
+        return false;
+    }
+    if heads < HEADS_LENGTH {
+        return false;
+    }
+    if alive < STATES {
+        return false;
+    }
+    if queue < STATES {
+        return false;
+    }
+    true
+}
+
 // Whether the query is certain, with the graph of the pack at the front of the two lists; or a refusal. `rows`, `heads`,
 // `alive` and `queue` are working buffers.
 pub fn yes_no(
@@ -127,22 +163,14 @@ pub fn yes_no(
 ) -> YesNo
     ensures { λ r. ⌜ Answers (now (pack .entry)) (now (query .entry)) r (now (nodes .entry)) (now (nodes .exit)) (now (triples .entry)) (now (triples .exit)) (now (rows .entry)) (now (rows .exit)) (now (heads .entry)) (now (heads .exit)) (now (alive .entry)) (now (alive .exit)) (now (queue .entry)) (now (queue .exit)) ⌝ }
 {
-    if nodes.len() < NODE_LIST_LENGTH {
-        return with(refused(1), false);
-    }
-    if triples.len() < TRIPLE_LIST_LENGTH {
-        return with(refused(1), false);
-    }
-    if rows.len() < ROWS_LENGTH {
-        return with(refused(1), false);
-    }
-    if heads.len() < HEADS_LENGTH {
-        return with(refused(1), false);
-    }
-    if alive.len() < STATES {
-        return with(refused(1), false);
-    }
-    if queue.len() < STATES {
+    if !long_enough(
+        nodes.len(),
+        triples.len(),
+        rows.len(),
+        heads.len(),
+        alive.len(),
+        queue.len(),
+    ) {
         return with(refused(1), false);
     }
     let answer = to_query(pack, query, nodes, triples, rows, heads, alive, queue);
