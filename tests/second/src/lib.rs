@@ -11,6 +11,7 @@ pub mod pack;
 pub mod query;
 pub mod records;
 pub mod spelling;
+pub mod written;
 
 pub use graph::{Graph, NodeRecord, TripleRecord};
 

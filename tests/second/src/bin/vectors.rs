@@ -3,22 +3,13 @@
 //! Each argument is a file of cases, or a directory of NAME.pack,
 //! NAME.query and NAME.certain. Ends with a failure if anything differs.
 
+use second::written::{self, Case};
 use std::collections::BTreeMap;
 use std::path::Path;
 use std::process::ExitCode;
 use std::time::Instant;
 
 const SHOWN: usize = 5;
-
-/// One case of a file: its title, its inputs, and the expected lines.
-#[derive(Default)]
-struct Case {
-    title: String,
-    pack: Vec<u8>,
-    query: Vec<u8>,
-    text: Vec<u8>,
-    expected: Vec<String>,
-}
 
 /// What has been compared so far.
 #[derive(Default)]
@@ -78,44 +69,11 @@ fn main() -> ExitCode {
 // ------------------------------------------------------------ a case file
 
 fn compare_file(path: &str, tally: &mut Tally) {
-    let text = std::fs::read_to_string(path).expect("the cases can be read");
-    let mut case = Case::default();
-    let mut cases = 0;
-    for line in text.lines() {
-        let (word, rest) = line.split_once(' ').unwrap_or((line, ""));
-        match word {
-            "case" => {
-                case = Case {
-                    title: line.to_string(),
-                    ..Case::default()
-                }
-            }
-            "pack" => case.pack = from_hex(rest),
-            "query" => case.query = from_hex(rest),
-            "text" => case.text = from_hex(rest),
-            "end" => {
-                compare_case(&case, tally);
-                cases += 1;
-            }
-            _ => case.expected.push(line.to_string()),
-        }
+    let cases = written::read(path);
+    for case in &cases {
+        compare_case(case, tally);
     }
-    println!("{path}: {cases} cases");
-}
-
-fn from_hex(text: &str) -> Vec<u8> {
-    if text == "-" {
-        return Vec::new();
-    }
-    let digits: Vec<u8> = text
-        .chars()
-        .map(|c| c.to_digit(16).expect("a hexadecimal digit") as u8)
-        .collect();
-    assert!(digits.len().is_multiple_of(2), "whole bytes");
-    digits
-        .chunks(2)
-        .map(|pair| 16 * pair[0] + pair[1])
-        .collect()
+    println!("{path}: {} cases", cases.len());
 }
 
 /// Splits the expected lines by call and compares each call.

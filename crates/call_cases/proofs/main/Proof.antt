@@ -1,14 +1,14 @@
--- `build_cases::main` is safe and ends. Assumes nothing.
+-- `call_cases::main` is safe and ends. Assumes nothing.
 use borrow.Author.Needs.{needs}
 use Prim.Native.Nat.{_-_, _≤_}
-use Rattle.build_cases.proofs.main.Statement.{statement}
-use Rattle.build_cases.proofs.main.Tie as tie
+use Rattle.call_cases.proofs.main.Statement.{statement}
+use Rattle.call_cases.proofs.main.Tie as tie
 
 abbrev Inv-loop : tie.InvT-loop
-Inv-loop i₀ i = i ≤ 1000
+Inv-loop i₀ i = i ≤ 65536
 
 abbrev μ-loop : tie.MeasureT-loop
-μ-loop i₀ i = 1000 - i
+μ-loop i₀ i = 65536 - i
 
 pub main-spec : {M : Type 1} → statement M
 main-spec =
@@ -17,7 +17,7 @@ main-spec =
     Inv-loop
     μ-loop
     (λ c. search needs)  -- loop-holds
-    (λ c κs. search needs)  -- next-case-requires
+    (λ c κs. search needs)  -- next-pack-requires
     (λ c. search needs)  -- returns
     (λ c. search needs)  -- add-i
     (λ c. search needs)  -- loop-less

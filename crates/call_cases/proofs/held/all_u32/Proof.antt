@@ -1,19 +1,19 @@
--- `build_cases::all_zero` is safe and ends. Assumes nothing.
+-- `call_cases::held::all_u32` is safe and ends. Assumes nothing.
 use borrow.Author.Needs.{needs}
 use lib.ListN.{length}
 use mathlib.Core.Path.{_≡_}
 use Prim.Native.Nat.{_-_}
-use Rattle.build_cases.proofs.all_zero.Statement.{statement}
-use Rattle.build_cases.proofs.all_zero.Tie as tie
+use Rattle.call_cases.proofs.held.all_u32.Statement.{statement}
+use Rattle.call_cases.proofs.held.all_u32.Tie as tie
 
 abbrev Inv-loop : tie.InvT-loop
-Inv-loop list i₀ i-end i = i-end ≡ length list
+Inv-loop x list i₀ i-end i = i-end ≡ length list
 
 abbrev μ-loop : tie.MeasureT-loop
-μ-loop list i₀ i-end i = i-end - i
+μ-loop x list i₀ i-end i = i-end - i
 
-pub all-zero-spec : {M : Type 1} → statement M
-all-zero-spec =
+pub all-u32-spec : {M : Type 1} → statement M
+all-u32-spec =
     tie.close
     (tie.spec
     Inv-loop

@@ -1,10 +1,11 @@
--- `build_cases::digest` is safe and ends. Assumes nothing.
+-- `call_cases::say::digest` is safe and ends. Assumes nothing.
 use borrow.Author.Needs.{needs}
 use lib.ListN.{length}
 use mathlib.Core.Path.{_≡_}
 use Prim.Native.Nat.{_-_}
-use Rattle.build_cases.proofs.digest.Statement.{statement}
-use Rattle.build_cases.proofs.digest.Tie as tie
+use Rattle.call_cases.proofs.say.digest.Statement.{statement}
+use Rattle.call_cases.proofs.say.digest.Tie as tie
+use Rattle.call_cases.proofs.say.digested.Reads as digested-reads
 
 abbrev Inv-loop : tie.InvT-loop
 Inv-loop list d₀ i₀ i-end d i = i-end ≡ length list

@@ -1,10 +1,10 @@
--- `build_cases::all_are` is safe and ends. Assumes nothing.
+-- `call_cases::held::all_u16` is safe and ends. Assumes nothing.
 use borrow.Author.Needs.{needs}
 use lib.ListN.{length}
 use mathlib.Core.Path.{_≡_}
 use Prim.Native.Nat.{_-_}
-use Rattle.build_cases.proofs.all_are.Statement.{statement}
-use Rattle.build_cases.proofs.all_are.Tie as tie
+use Rattle.call_cases.proofs.held.all_u16.Statement.{statement}
+use Rattle.call_cases.proofs.held.all_u16.Tie as tie
 
 abbrev Inv-loop : tie.InvT-loop
 Inv-loop x list i₀ i-end i = i-end ≡ length list
@@ -12,8 +12,8 @@ Inv-loop x list i₀ i-end i = i-end ≡ length list
 abbrev μ-loop : tie.MeasureT-loop
 μ-loop x list i₀ i-end i = i-end - i
 
-pub all-are-spec : {M : Type 1} → statement M
-all-are-spec =
+pub all-u16-spec : {M : Type 1} → statement M
+all-u16-spec =
     tie.close
     (tie.spec
     Inv-loop

@@ -1,10 +1,10 @@
--- `build_cases::say_records` is safe and ends. Assumes nothing.
+-- `call_cases::say::say_records` is safe and ends. Assumes nothing.
 use borrow.Author.Needs.{needs}
 use lib.ListN.{length}
 use mathlib.Core.Path.{_≡_}
 use Prim.Native.Nat.{_-_}
-use Rattle.build_cases.proofs.say_records.Statement.{statement}
-use Rattle.build_cases.proofs.say_records.Tie as tie
+use Rattle.call_cases.proofs.say.say_records.Statement.{statement}
+use Rattle.call_cases.proofs.say.say_records.Tie as tie
 
 abbrev Inv-loop : tie.InvT-loop
 Inv-loop key list width i₀ t5 i-end i = (i-end ≡ length list) × (length t5 ≡ 1)
