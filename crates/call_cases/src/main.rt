@@ -87,14 +87,14 @@ fn next_pack() -> bool {
     }
     let m = number(head[0], 0, 0);
     let n = number(head[1], head[2], head[3]);
-    if m > 255 || n > 65537 {
+    if m > 255 || n > 66000 {
         return false;
     }
     let mut title = [0u8; 255];
     if !say_title(&mut title, m) {
         return false;
     }
-    let mut pack = [0u8; 65537];
+    let mut pack = [0u8; 66000];
     ask_pack(&mut pack, n, head[6], number(head[4], head[5], 0))
 }
 
