@@ -2,17 +2,19 @@
 use lib.ListN.{getD}
 use mathlib.Core.Bool.{Bool, false, true}
 use mathlib.Core.List.{List}
-use mathlib.Core.Logic.{inl, inr, _⊎_}
+use mathlib.Core.Logic.{inl, inr, ⊎-elim, _⊎_}
 use mathlib.Core.Path.{ap, refl, subst, sym, _∙_, _≡_}
 use native.Mathlib.Decide.{decLt, ℕ-discrete}
 use native.Mathlib.Omega.{arith}
 use Prim.Native.Nat.{ℕ, _%_, _*_, _+_, _-_, _/_, _<_, _≤_}
 use Rattle.alive.specs.Fits.{Fits}
+use Rattle.alive.specs.Links.{Caused}
 use Rattle.alive.specs.Lists.{Lists, leafAt, numbered}
 use Rattle.alive.specs.Living.{Living, SomeAt, Yes}
-use Rattle.alive.specs.Steps.{AllAlive, At, BackAt, BackTo, EndAt, Led, PartBack, StateAlive, leads, turns}
+use Rattle.alive.specs.Steps.{AllAlive, At, BackAt, BackTo, EndAt, Led, PartBack, StateAlive, Touches, leads, turns}
 use Rattle.alive.specs.Worklist.{Adds, Table, Unmarked, states}
-use Rattle.index.specs.Index.{ByObject}
+use Rattle.index.proofs.Chains.{met-first, met-later, met-none, met-split}
+use Rattle.index.specs.Index.{ByObject, Met}
 use Rattle.meaning.specs.Query.{Joins}
 use Rattle.walk.proofs.Alive.{alive-least}
 use Rattle.walk.specs.Parts.{Child, Part, chain, either, leaf, listed, partOf, repeat, test}
@@ -56,39 +58,64 @@ still-alive {L} {Y} {t₁} {q₁} {t₂} {q₂} {k₁} {k₂} t a d x l e = go (
     go : (k : ℕ) × (k < k₂) × (getD q₂ k 0 ≡ x) → StateAlive L x
     go (k, g, p) = subst (StateAlive L) p (by k g (decLt k k₁))
 
--- The states that s makes alive, of the parts below i.
-pub record Backing (L : Lists) (s : ℕ) (t₁ q₁ : List ℕ) (k₁ : ℕ) (t₂ q₂ : List ℕ) (k₂ i : ℕ) : Type 0 where
-  pub within : i ≤ L .parts
+-- The states that s makes alive are marked, but for parts that are met on what is left of a chain, which begins at `at`.
+pub record Backing (L : Lists) (rest : List ℕ) (s : ℕ) (t₁ q₁ : List ℕ) (k₁ : ℕ) (t₂ q₂ : List ℕ) (k₂ at : ℕ) : Type 0 where
   pub adds : Adds 1 states (StateAlive L) (λ y. ⊥) t₁ q₁ k₁ t₂ q₂ k₂
-  pub done : (j y : ℕ) → j < i → BackAt L t₁ s j y → getD t₂ y 0 ≡ 1
+  pub inside : (e : ℕ) → Met rest at e → e < L .parts * 3
+  pub left : (i y : ℕ) → i < L .parts → BackAt L t₁ s i y → (getD t₂ y 0 ≡ 1) ⊎ ((e : ℕ) × Met rest at e × (e / 3 ≡ i))
 
-pub back-start : {L : Lists} {s : ℕ} {t q : List ℕ} {k : ℕ} → Table 1 states t q k → Backing L s t q k t q k 0
-back-start t = record { within = omega arith; adds = adds-none t (λ y h. h); done = λ j y l h. absurd (omega arith) }
+-- A part that s makes alive is one that the part of s can make alive.
+back-touches : {L : Lists} {table : List ℕ} {s i y : ℕ} → BackAt L table s i y → Touches (getD (L .next) i 0) (partOf (L .tree) i) (s / 1024)
+back-touches {L} {table} {s} {i} (leads n e p j q) = subst (λ x. Touches (getD (L .next) i 0) x (s / 1024)) (sym e) (sym p)
+back-touches (turns x w q) = w
 
-pub back-again : {L : Lists} {s : ℕ} {last earlier t₁ q₁ t₂ q₂ t₃ q₃ : List ℕ} {k₁ k₂ k₃ i : ℕ} → Fits L → ByObject (L .triples) (L .edges) last earlier → Table 1 states t₁ q₁ k₁ → AllAlive L t₁ → StateAlive L s → i < L .parts → Backing L s t₁ q₁ k₁ t₂ q₂ k₂ i
-    → Adds 1 states (PartBack (L .triples) earlier last (L .tree) (L .next) (L .wanted) t₂ i (s / 1024) (s % 1024)) (PartBack (L .triples) earlier last (L .tree) (L .next) (L .wanted) t₂ i (s / 1024) (s % 1024)) t₂ q₂ k₂ t₃ q₃ k₃
-    → Backing L s t₁ q₁ k₁ t₃ q₃ k₃ (i + 1)
-back-again {L} {s} {last} {earlier} {t₁} {q₁} {t₂} {q₂} {t₃} {q₃} {k₁} {k₂} {k₃} {i} f b t a w l g d = record {
-  within = omega arith;
-  adds = adds-as {Y′ = λ y. ⊥} (adds-then (g .adds) (adds-as {S′ = StateAlive L} {Y′ = λ y. ⊥} d (λ y x. part-alive f b (still-alive t a (g .adds)) s w i y l x) (λ y x. absurd x))) (λ y x. x) (λ y x. absurd x);
-  done = λ j y h x. by j y x (decLt j i) h;
-}
-  where
-    by : (j y : ℕ) → BackAt L t₁ s j y → Dec (j < i) → j < i + 1 → getD t₃ y 0 ≡ 1
-    by j y x (yes h) r = d .more y (g .done j y h x)
-    by j y x (no h) r =
-        let p : j ≡ i = omega arith in
-        d .all y (back-part f b (g .adds .more) s i y (omega arith) l (subst (λ z. BackAt L t₁ s z y) p x))
+pub back-start : {L : Lists} {heads rest : List ℕ} {s : ℕ} {t q : List ℕ} {k : ℕ} → Fits L → Caused L heads rest → StateAlive L s → Table 1 states t q k → Backing L rest s t q k t q k (getD heads (s / 1024) 0)
+back-start {L} {heads} {rest} {s} f c w t =
+    let a = f .query .few in
+    let b = w .part in
+    record {
+      adds = adds-none t (λ y h. h);
+      inside = λ e m. c .inside (s / 1024) e (omega arith) m;
+      left = λ i y l x. inr (c .causes i (s / 1024) l (omega arith) (back-touches x));
+    }
 
-pub back-done : {L : Lists} {s : ℕ} {t₁ q₁ t₂ q₂ : List ℕ} {k₁ k₂ i : ℕ} → L .parts ≤ i → Backing L s t₁ q₁ k₁ t₂ q₂ k₂ i → Adds 1 states (StateAlive L) (BackTo L t₁ s) t₁ q₁ k₁ t₂ q₂ k₂
-back-done l g = record {
-  after = g .adds .after;
-  longer = g .adds .longer;
-  kept = g .adds .kept;
-  more = g .adds .more;
-  new = g .adds .new;
-  all = λ y b. let h = b .is in g .done (b .part) y (omega arith) (b .back);
-}
+module _ {L : Lists} {rest : List ℕ} {s : ℕ} {t₁ q₁ : List ℕ} {k₁ : ℕ} {t₂ q₂ : List ℕ} {k₂ at : ℕ} (g : Backing L rest s t₁ q₁ k₁ t₂ q₂ k₂ at) where
+  -- the first link of what is left
+  pub link-first : 0 < at → at - 1 < L .parts * 3
+  link-first l = g .inside (at - 1) (met-first at l)
+
+  pub back-again : {last earlier t₃ q₃ : List ℕ} {k₃ : ℕ} → Fits L → ByObject (L .triples) (L .edges) last earlier → Table 1 states t₁ q₁ k₁ → AllAlive L t₁ → StateAlive L s → 0 < at
+      → Adds 1 states (PartBack (L .triples) earlier last (L .tree) (L .next) (L .wanted) t₂ ((at - 1) / 3) (s / 1024) (s % 1024)) (PartBack (L .triples) earlier last (L .tree) (L .next) (L .wanted) t₂ ((at - 1) / 3) (s / 1024) (s % 1024)) t₂ q₂ k₂ t₃ q₃ k₃
+      → Backing L rest s t₁ q₁ k₁ t₃ q₃ k₃ (getD rest (at - 1) 0)
+  back-again {last} {earlier} {t₃} {q₃} {k₃} f b t a w l d = record {
+    adds = adds-as {Y′ = λ y. ⊥} (adds-then (g .adds) (adds-as {S′ = StateAlive L} {Y′ = λ y. ⊥} d (λ y x. part-alive f b (still-alive t a (g .adds)) s w ((at - 1) / 3) y part x) (λ y x. absurd x))) (λ y x. x) (λ y x. absurd x);
+    inside = λ e m. g .inside e (met-later at l m);
+    left = λ i y h x. by i y h x (g .left i y h x);
+  }
+    where
+      part : (at - 1) / 3 < L .parts
+      part = let z = link-first l in omega arith
+
+      one : (i y : ℕ) → i < L .parts → BackAt L t₁ s i y → (at - 1) / 3 ≡ i → getD t₃ y 0 ≡ 1
+      one i y h x p = d .all y (back-part f b (g .adds .more) s ((at - 1) / 3) y (omega arith) part (subst (λ z. BackAt L t₁ s z y) (sym p) x))
+
+      split : (i y : ℕ) → i < L .parts → BackAt L t₁ s i y → (e : ℕ) → e / 3 ≡ i → (e ≡ at - 1) ⊎ Met rest (getD rest (at - 1) 0) e → (getD t₃ y 0 ≡ 1) ⊎ ((e : ℕ) × Met rest (getD rest (at - 1) 0) e × (e / 3 ≡ i))
+      split i y h x e p (inl q) = inl (one i y h x (ap (λ z. z / 3) (sym q) ∙ p))
+      split i y h x e p (inr m) = inr (e, m, p)
+
+      by : (i y : ℕ) → i < L .parts → BackAt L t₁ s i y → (getD t₂ y 0 ≡ 1) ⊎ ((e : ℕ) × Met rest at e × (e / 3 ≡ i)) → (getD t₃ y 0 ≡ 1) ⊎ ((e : ℕ) × Met rest (getD rest (at - 1) 0) e × (e / 3 ≡ i))
+      by i y h x (inl z) = inl (d .more y z)
+      by i y h x (inr (e, m, p)) = split i y h x e p (met-split m)
+
+  pub back-done : at ≡ 0 → Adds 1 states (StateAlive L) (BackTo L t₁ s) t₁ q₁ k₁ t₂ q₂ k₂
+  back-done z = record {
+    after = g .adds .after;
+    longer = g .adds .longer;
+    kept = g .adds .kept;
+    more = g .adds .more;
+    new = g .adds .new;
+    all = λ y b. ⊎-elim (λ e. e) (λ (e, m, p). absurd (met-none z m)) (g .left (b .part) y (b .is) (b .back));
+  }
 
 -- ---- state by state
 
@@ -141,7 +168,7 @@ module _ {L : Lists} (f : Fits L) where
       sound = still-alive {L = L} (g .marks) (g .sound) a;
       ends = λ n h. a .more (L .parts * 1024 + n) (g .ends n h);
       led = λ k h i n r e p j. by-leaf k i n h r e p j (ℕ-discrete k head);
-      turned = λ i m r h x. by-part i m r h x (ℕ-discrete m (s % 1024));
+      turned = λ i m r h x. by-part i m r h x (split-led m h (getD (L .next) i 0) (partOf (L .tree) i) x);
     }
       where
         s : ℕ
@@ -160,19 +187,33 @@ module _ {L : Lists} (f : Fits L) where
             let w : getD q₂ k 0 ≡ j * 1024 + m = sym (a .kept k (omega arith)) ∙ e in
             subst (λ x. getD t₂ x 0 ≡ 1) w (g .marks .marked k (omega arith))
 
-        passed-before : (m j : ℕ) → m < L .nodes → (m ≡ getD q₂ head 0 % 1024 → ⊥) → Passed q₃ (head + 1) m j → Passed q₂ head m j
-        passed-before m j lm ne (k, h, e) = (k, other (ℕ-discrete k head), w)
+        -- passed before, or the state that is passed now
+        passed-split : (m j : ℕ) → m < L .nodes → Passed q₃ (head + 1) m j → Passed q₂ head m j ⊎ ((j ≡ s / 1024) × (m ≡ s % 1024))
+        passed-split m j lm (k, h, e) = other (ℕ-discrete k head)
           where
             w : getD q₂ k 0 ≡ j * 1024 + m
             w = sym (a .kept k (omega arith)) ∙ e
 
-            other : Dec (k ≡ head) → k < head
-            other (yes z) = absurd (ne (let q = f .graph .few-nodes in sym (state-node j m (getD q₂ head 0) (omega arith) (sym (ap (λ x. getD q₂ x 0) z) ∙ w))))
-            other (no z) = omega arith
+            other : Dec (k ≡ head) → Passed q₂ head m j ⊎ ((j ≡ s / 1024) × (m ≡ s % 1024))
+            other (yes z) =
+                let q = f .graph .few-nodes in
+                let v : s ≡ j * 1024 + m = sym (ap (λ x. getD q₂ x 0) z) ∙ w in
+                inr (sym (state-part j m s (omega arith) v), sym (state-node j m s (omega arith) v))
+            other (no z) = inl (k, omega arith, w)
 
-        by-part : (i m : ℕ) → i < L .parts → m < L .nodes → Led (Passed q₃ (head + 1) m) (getD (L .next) i 0) (partOf (L .tree) i) → Dec (m ≡ getD q₂ head 0 % 1024) → getD t₃ (i * 1024 + m) 0 ≡ 1
-        by-part i m r h x (yes z) = a .all (i * 1024 + m) (record { part = i; is = r; back = turns (subst (λ y. Led (At t₂ y) (getD (L .next) i 0) (partOf (L .tree) i)) z (led-more f (Passed q₃ (head + 1) m) (At t₂ m) (marked-now m) (getD (L .next) i 0) (partOf (L .tree) i) x)) (ap (λ y. i * 1024 + y) z) })
-        by-part i m r h x (no z) = a .more (i * 1024 + m) (g .turned i m r h (led-more f (Passed q₃ (head + 1) m) (Passed q₂ head m) (λ j y. passed-before m j h z y) (getD (L .next) i 0) (partOf (L .tree) i) x))
+        -- so what makes a part alive was passed before, or the state that is passed now touches it
+        split-led : (m : ℕ) → m < L .nodes → (after : ℕ) (p : Part) → Led (Passed q₃ (head + 1) m) after p → Led (Passed q₂ head m) after p ⊎ (Touches after p (s / 1024) × (m ≡ s % 1024))
+        split-led m lm after leaf x = absurd x
+        split-led m lm after (test b) (x, y) = ⊎-elim (λ u. ⊎-elim (λ v. inl (u, v)) (λ (v, r). inr (inr (sym v), r)) (passed-split m after lm y)) (λ (u, r). inr (inl (sym u), r)) (passed-split m b lm x)
+        split-led m lm after (repeat b) (inl x) = ⊎-elim (λ u. inl (inl u)) (λ (u, r). inr (inl (sym u), r)) (passed-split m after lm x)
+        split-led m lm after (repeat b) (inr x) = ⊎-elim (λ u. inl (inr u)) (λ (u, r). inr (inr (sym u), r)) (passed-split m b lm x)
+        split-led m lm after (chain b d) x = ⊎-elim (λ u. inl u) (λ (u, r). inr (sym u, r)) (passed-split m b lm x)
+        split-led m lm after (either b d) (inl x) = ⊎-elim (λ u. inl (inl u)) (λ (u, r). inr (inl (sym u), r)) (passed-split m b lm x)
+        split-led m lm after (either b d) (inr x) = ⊎-elim (λ u. inl (inr u)) (λ (u, r). inr (inr (sym u), r)) (passed-split m d lm x)
+
+        by-part : (i m : ℕ) → i < L .parts → m < L .nodes → Led (Passed q₃ (head + 1) m) (getD (L .next) i 0) (partOf (L .tree) i) → Led (Passed q₂ head m) (getD (L .next) i 0) (partOf (L .tree) i) ⊎ (Touches (getD (L .next) i 0) (partOf (L .tree) i) (s / 1024) × (m ≡ s % 1024)) → getD t₃ (i * 1024 + m) 0 ≡ 1
+        by-part i m r h x (inl y) = a .more (i * 1024 + m) (g .turned i m r h y)
+        by-part i m r h x (inr (y, z)) = a .all (i * 1024 + m) (record { part = i; is = r; back = turns (subst (λ y. Led (At t₂ y) (getD (L .next) i 0) (partOf (L .tree) i)) z (led-more f (Passed q₃ (head + 1) m) (At t₂ m) (marked-now m) (getD (L .next) i 0) (partOf (L .tree) i) x)) y (ap (λ y. i * 1024 + y) z) })
 
   -- All listed states are passed: the marked states are saturated.
   module _ {table queue : List ℕ} {head tail : ℕ} (g : Growing L table queue head tail) (whole : tail ≤ head) where

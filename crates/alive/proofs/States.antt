@@ -125,5 +125,5 @@ module _ {L : Lists} (f : Fits L) where
   pub back-part : {last earlier table table′ : List ℕ} → ByObject (L .triples) (L .edges) last earlier → ((x : ℕ) → getD table x 0 ≡ 1 → getD table′ x 0 ≡ 1) → (s i y : ℕ) → s % 1024 < 1024 → i < L .parts
       → BackAt L table s i y → PartBack (L .triples) earlier last (L .tree) (L .next) (L .wanted) table′ i (s / 1024) (s % 1024) y
   back-part {last} {earlier} {table} {table′} b up s i y d l (leads n e p j q) = leaves p (joins-back {L = L} b d (leaf-says L i n (s % 1024) (leaf-kind i l e) j) q)
-  back-part {last} {earlier} {table} {table′} b up s i y d l (BackAt.turns x q) =
+  back-part {last} {earlier} {table} {table′} b up s i y d l (BackAt.turns x w q) =
       turns (led-more (At table (s % 1024)) (At table′ (s % 1024)) (λ j h. up (j * 1024 + s % 1024) h) (getD (L .next) i 0) (partOf (L .tree) i) x) q

@@ -2,4 +2,5 @@ pub mod Lists
 pub mod Fits
 pub mod Worklist
 pub mod Steps
+pub mod Links
 pub mod Living

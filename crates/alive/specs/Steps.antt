@@ -88,11 +88,19 @@ pub record StateAlive (L : Lists) (x : ℕ) : Type 0 where
 abbrev pub AllAlive : Lists → List ℕ → Type 0
 AllAlive L table = (x : ℕ) → x < states → getD table x 0 ≡ 1 → StateAlive L x
 
+-- The part p, after which `after` comes, can turn alive when the part j does.
+abbrev pub Touches : ℕ → Part → ℕ → Type 0
+Touches after leaf j = j ≡ after
+Touches after (test body) j = (j ≡ body) ⊎ (j ≡ after)
+Touches after (repeat body) j = (j ≡ after) ⊎ (j ≡ body)
+Touches after (chain left right) j = j ≡ left
+Touches after (either left right) j = (j ≡ left) ⊎ (j ≡ right)
+
 -- y is a state of the part i that is alive if the state s and what is marked are: the part is a leaf that leads to s, or
--- it has parts, and these make it alive at the node of s.
+-- it has parts, s is of one of these or of what comes after, and they make it alive at the node of s.
 pub data BackAt (L : Lists) (table : List ℕ) (s i y : ℕ) : Type 0 where
   leads : (n : ℕ) → partOf (L .tree) i ≡ leaf → getD (L .next) i 0 ≡ s / 1024 → Joins (numbered L) (leafAt L i) n (s % 1024) → y ≡ i * 1024 + n → BackAt L table s i y
-  turns : Led (At table (s % 1024)) (getD (L .next) i 0) (partOf (L .tree) i) → y ≡ i * 1024 + s % 1024 → BackAt L table s i y
+  turns : Led (At table (s % 1024)) (getD (L .next) i 0) (partOf (L .tree) i) → Touches (getD (L .next) i 0) (partOf (L .tree) i) (s / 1024) → y ≡ i * 1024 + s % 1024 → BackAt L table s i y
 
 pub record BackTo (L : Lists) (table : List ℕ) (s y : ℕ) : Type 0 where
   pub part : ℕ

@@ -1,18 +1,22 @@
 // The states of a query over a graph in number lists from which the end is reached, found backward from the ends.
 mod marks; // a state is marked once
+mod links; // the parts that each part can make alive
 pub mod back; // the states from which a step leads to one
 
 ghost use lib.ListN.{getD, length};
 ghost use mathlib.Core.Path.{_≡_};
 ghost use Prim.Native.Nat.{_%_, _*_, _+_, _-_, _/_, _<_, _≤_};
 ghost use Rattle.alive.specs.Fits.{Fits};
+ghost use Rattle.alive.specs.Links.{Caused};
 ghost use Rattle.alive.specs.Lists.{lists};
 ghost use Rattle.alive.specs.Living.{Living, SomeAt};
 ghost use Rattle.alive.specs.Steps.{AllAlive, BackTo, EndAt, StateAlive};
 ghost use Rattle.alive.specs.Worklist.{Adds, AddsOnly, Table, Unmarked, states};
 ghost use Rattle.index.specs.Index.{ByObject};
 use crate::back::mark_part;
+use crate::links::link_parts;
 use crate::marks::mark;
+use index::chain_by_object;
 
 // How many nodes, triples and parts there are.
 pub struct Sizes {
@@ -25,6 +29,9 @@ pub struct Sizes {
 pub const PLACES: usize = 1024;
 
 pub const STATES: usize = 263168;
+
+// Three links for each of 256 parts.
+const MAX_LINKS: usize = 768;
 
 // Marks the end at every node.
 fn mark_ends(nodes: usize, parts: usize, alive: &mut [u8], queue: &mut [u32]) -> usize
@@ -40,7 +47,7 @@ fn mark_ends(nodes: usize, parts: usize, alive: &mut [u8], queue: &mut [u32]) ->
     tail
 }
 
-// Marks each state that the state s makes alive.
+// Marks each state that the state s makes alive. The parts that a part can make alive are chained in `heads` and `rest`.
 fn mark_back(
     sizes: Sizes,
     triples: &[u16],
@@ -49,19 +56,22 @@ fn mark_back(
     tree: &[u32],
     next: &[u16],
     wanted: &[u16],
+    heads: &[u16],
+    rest: &[u16],
     s: usize,
     alive: &mut [u8],
     queue: &mut [u32],
     tail: usize,
 ) -> usize
-    requires { ⌜ (Fits (lists sizes (now triples) (now tree) (now next) (now wanted)) × ByObject (now triples) (sizes .edges) (now last) (now earlier)) × ((AllAlive (lists sizes (now triples) (now tree) (now next) (now wanted)) (now alive) × ((s < states) × (getD (now alive) s 0 ≡ 1))) × Table 1 states (now alive) (now queue) tail) ⌝ }
+    requires { ⌜ (Fits (lists sizes (now triples) (now tree) (now next) (now wanted)) × (ByObject (now triples) (sizes .edges) (now last) (now earlier) × Caused (lists sizes (now triples) (now tree) (now next) (now wanted)) (now heads) (now rest))) × ((AllAlive (lists sizes (now triples) (now tree) (now next) (now wanted)) (now alive) × ((s < states) × (getD (now alive) s 0 ≡ 1))) × Table 1 states (now alive) (now queue) tail) ⌝ }
     ensures { λ r. ⌜ Adds 1 states (StateAlive (lists sizes (now (triples .entry)) (now (tree .entry)) (now (next .entry)) (now (wanted .entry)))) (BackTo (lists sizes (now (triples .entry)) (now (tree .entry)) (now (next .entry)) (now (wanted .entry))) (now (alive .entry)) s) (now (alive .entry)) (now (queue .entry)) tail (now (alive .exit)) (now (queue .exit)) r ⌝ }
 {
     let j = s / PLACES;
     let m = s % PLACES;
     let mut end = tail;
-    let mut i = 0;
-    while i < sizes.parts {
+    let mut at = heads[j] as usize;
+    while 0 < at {
+        let i = (at - 1) / 3;
         end = mark_part(
             triples,
             earlier,
@@ -76,9 +86,49 @@ fn mark_back(
             queue,
             end,
         );
-        i += 1;
+        at = rest[at - 1] as usize;
     }
     end
+}
+
+// Marks the states from which the end is reached, by chains of the parts that each part can make alive.
+fn mark_all(
+    sizes: Sizes,
+    triples: &[u16],
+    earlier: &[u16],
+    last: &[u16],
+    tree: &[u32],
+    next: &[u16],
+    wanted: &[u16],
+    heads: &[u16],
+    rest: &[u16],
+    alive: &mut [u8],
+    queue: &mut [u32],
+)
+    requires { ⌜ (Fits (lists sizes (now triples) (now tree) (now next) (now wanted)) × (ByObject (now triples) (sizes .edges) (now last) (now earlier) × Caused (lists sizes (now triples) (now tree) (now next) (now wanted)) (now heads) (now rest))) × Unmarked 1 states (now alive) (now queue) ⌝ }
+    ensures { λ _. ⌜ Living (lists sizes (now (triples .entry)) (now (tree .entry)) (now (next .entry)) (now (wanted .entry))) (now (alive .exit)) ⌝ }
+{
+    let mut tail = mark_ends(sizes.nodes, sizes.parts, alive, queue);
+    let mut head = 0;
+    while head < tail {
+        let s = queue[head] as usize;
+        tail = mark_back(
+            sizes,
+            triples,
+            earlier,
+            last,
+            tree,
+            next,
+            wanted,
+            heads,
+            rest,
+            s,
+            alive,
+            queue,
+            tail,
+        );
+        head += 1;
+    }
 }
 
 // Marks the states from which the end is reached.
@@ -96,25 +146,24 @@ pub fn mark_alive(
     requires { ⌜ (Fits (lists sizes (now triples) (now tree) (now next) (now wanted)) × ByObject (now triples) (sizes .edges) (now last) (now earlier)) × Unmarked 1 states (now alive) (now queue) ⌝ }
     ensures { λ _. ⌜ Living (lists sizes (now (triples .entry)) (now (tree .entry)) (now (next .entry)) (now (wanted .entry))) (now (alive .exit)) ⌝ }
 {
-    let mut tail = mark_ends(sizes.nodes, sizes.parts, alive, queue);
-    let mut head = 0;
-    while head < tail {
-        let s = queue[head] as usize;
-        tail = mark_back(
-            sizes,
-            triples,
-            earlier,
-            last,
-            tree,
-            next,
-            wanted,
-            s,
-            alive,
-            queue,
-            tail,
-        );
-        head += 1;
-    }
+    let mut links = [0u16; MAX_LINKS * 3];
+    let mut heads = [0u16; PLACES];
+    let mut rest = [0u16; MAX_LINKS];
+    link_parts(tree, next, sizes.parts, &mut links);
+    chain_by_object(&links[..], PLACES, sizes.parts * 3, &mut heads, &mut rest);
+    mark_all(
+        sizes,
+        triples,
+        earlier,
+        last,
+        tree,
+        next,
+        wanted,
+        &heads[..],
+        &rest[..],
+        alive,
+        queue,
+    );
 }
 
 // Whether the root is marked at some node.

@@ -1,37 +1,24 @@
 -- `alive::mark_alive` meets its contract. Assumes nothing.
 use borrow.Author.Needs.{needs}
-use lib.ListN.{length}
-use mathlib.Core.Path.{refl, _∙_, _≡_}
-use mir.Facts.{fits-widen}
 use native.Mathlib.Omega.{arith}
-use Prim.Native.Nat.{_-_}
-use Rattle.alive.specs.Lists.{lists}
-use Rattle.alive.specs.Worklist.{states}
-use Rattle.alive.proofs.Growing.{Growing, grow-again, grow-done, grow-start, now-inside, now-marked}
+use Rattle.alive.proofs.Linking.{chains-cause, heads-ready, link-ready, links-fit}
 use Rattle.alive.proofs.mark_alive.Statement.{statement}
 use Rattle.alive.proofs.mark_alive.Tie as tie
-
-abbrev Inv-loop : tie.InvT-loop
-Inv-loop sizes triples earlier last tree next wanted alive₀ queue₀ tail₀ head₀ alive queue tail head = (length alive ≡ length alive₀) × (length queue ≡ length queue₀) × Growing (lists sizes triples tree next wanted) alive queue head tail
-
-abbrev μ-loop : tie.MeasureT-loop
-μ-loop sizes triples earlier last tree next wanted alive₀ queue₀ tail₀ head₀ alive queue tail head = states - head
 
 pub mark-alive-spec : {M : Type 1} → statement M
 mark-alive-spec =
     tie.close
     (tie.spec
-    Inv-loop
-    μ-loop
-    (λ c κs. let a = c .before .before .before .before .before .before .before .before .before .before .pre .0 .0 .graph .few-nodes in let b = c .before .before .before .before .before .before .before .before .before .before .pre .0 .0 .query .few in ((omega arith, omega arith), c .before .before .before .before .before .before .before .before .before .before .pre .1))  -- mark-ends-requires
-    (λ c. (refl, refl, grow-start (c .before .before .before .before .before .before .before .before .before .before .before .before .before .before .before .pre .0 .0) (c .before .before .before .before .before .before .before .before .before .before .before .before .before .before .before .pre .1) (c .before .before .before .before .mark-ends .ensures)))  -- loop-holds
-    (λ c. search needs)  -- mul-s
-    (λ c. let a = c .before .before .loop .inv .2 .marks .count in let b = c .before .before .loop .inv .2 .marks .room in omega arith)  -- slice-read-s
-    (λ c. fits-widen tt (c .slice-known5 .given _))  -- cast-s
-    (λ c κs. (c .before .before .before .before .before .before .before .before .before .before .before .before .before .before .before .before .before .before .before .before .pre .0, (((c .before .before .before .before .loop .inv .2 .sound), (now-inside (c .before .before .before .before .before .before .before .before .before .before .before .before .before .before .before .before .before .before .before .before .pre .0 .0) (c .before .before .before .before .loop .inv .2) (c .before .before .before .loop-test .taken), now-marked (c .before .before .before .before .before .before .before .before .before .before .before .before .before .before .before .before .before .before .before .before .pre .0 .0) (c .before .before .before .before .loop .inv .2) (c .before .before .before .loop-test .taken))), c .before .before .before .before .loop .inv .2 .marks)))  -- mark-back-requires
-    (λ c. search needs)  -- add-head
-    (λ c. let a = c .before .before .before .before .before .before .before .before .before .loop .inv .2 .marks .count in omega arith)  -- loop-less
-    (λ c. (c .before .before .before .before .mark-back .kept .1 .1 .1 .1 .1 .1 .1 .1 .0 ∙ c .before .before .before .before .before .before .before .before .before .loop .inv .0, c .before .before .before .before .mark-back .kept .1 .1 .1 .1 .1 .1 .1 .1 .1 .0 ∙ c .before .before .before .before .before .before .before .before .before .loop .inv .1, grow-again (c .before .before .before .before .before .before .before .before .before .before .before .before .before .before .before .before .before .before .before .before .before .before .before .before .before .pre .0 .0) (c .before .before .before .before .before .before .before .before .before .loop .inv .2) (c .before .before .before .before .before .before .before .before .loop-test .taken) (c .before .before .before .before .mark-back .ensures)))  -- loop-again
-    (λ c. c .before .loop .inv .0 ∙ c .before .before .before .before .before .before .mark-ends .kept .1 .1 .0)  -- same-length
-    (λ c. c .before .loop .inv .1 ∙ c .before .before .before .before .before .before .mark-ends .kept .1 .1 .1 .0)  -- same-length-2
-    (λ c. grow-done (c .before .before .before .before .before .before .before .before .before .before .before .before .before .before .before .before .before .pre .0 .0) (c .before .loop .inv .2) (omega arith)))  -- returns
+    (λ c. search needs)  -- slice-aggregate-link-parts
+    (λ c κs. let f = c .before .before .before .before .before .before .before .before .before .pre .0 .0 in let h = f .query .few in (link-ready f, omega arith))  -- link-parts-requires
+    (λ c. search needs)  -- slice-aggregate-chain-by-object
+    (λ c. search needs)  -- mul-chain-by-object
+    (λ c. search needs)  -- slice-aggregate-chain-by-object-2
+    (λ c. search needs)  -- slice-aggregate-chain-by-object-3
+    (λ c κs. let h = c .before .before .before .before .before .before .before .before .before .before .before .before .before .before .before .pre .0 .0 .query .few in (links-fit h (c .before .before .before .before .before .link-parts .ensures), heads-ready h))  -- chain-by-object-requires
+    (λ c. search needs)  -- slice-aggregate-mark-all
+    (λ c. search needs)  -- slice-aggregate-mark-all-2
+    (λ c κs. let p = c .before .before .before .before .before .before .before .before .before .before .before .before .before .before .before .before .before .before .before .before .before .before .pre in ((p .0 .0, (p .0 .1, chains-cause (p .0 .0) (c .before .before .before .before .before .before .before .before .before .before .before .before .link-parts .ensures) (c .before .before .before .before .before .before .chain-by-object .ensures))), p .1))  -- mark-all-requires
+    (λ c. search needs)  -- same-length
+    (λ c. search needs)  -- same-length-2
+    (λ c. c .before .before .before .before .mark-all .ensures))  -- returns

@@ -1,20 +1,32 @@
 -- `alive::mark_back` meets its contract. Assumes nothing.
 use borrow.Author.Needs.{needs}
-use lib.ListN.{length}
+use lib.ListN.{getD, length}
+use mathlib.Core.List.{List}
 use mathlib.Core.Path.{refl, _∙_, _≡_}
+use mir.Facts.{fits-widen}
 use native.Mathlib.Omega.{arith}
-use Prim.Native.Nat.{_%_, _-_}
+use Prim.Native.Nat.{ℕ, _%_, _-_, _/_, _<_}
+use Rattle.alive.specs.declared.Sizes.{Sizes}
+use Rattle.alive.specs.Fits.{Fits}
+use Rattle.alive.specs.Links.{Caused}
 use Rattle.alive.specs.Lists.{lists}
-use Rattle.alive.proofs.Growing.{Backing, back-again, back-done, back-start}
+use Rattle.alive.specs.Steps.{AllAlive}
+use Rattle.alive.specs.Worklist.{Table, states}
+use Rattle.index.specs.Index.{ByObject}
+use Rattle.alive.proofs.Growing.{Backing, back-again, back-done, back-start, link-first}
 use Rattle.alive.proofs.States.{chain-ready, part-ready}
 use Rattle.alive.proofs.mark_back.Statement.{statement}
 use Rattle.alive.proofs.mark_back.Tie as tie
 
+-- What the call requires. The loop does not know the sizes, so its invariant is said of any that are right.
+abbrev Ready : Sizes → (triples earlier last tree next wanted heads rest : List ℕ) (s : ℕ) (alive queue : List ℕ) (tail : ℕ) → Type 0
+Ready sizes triples earlier last tree next wanted heads rest s alive queue tail = (Fits (lists sizes triples tree next wanted) × (ByObject triples (sizes .edges) last earlier × Caused (lists sizes triples tree next wanted) heads rest)) × ((AllAlive (lists sizes triples tree next wanted) alive × ((s < states) × (getD alive s 0 ≡ 1))) × Table 1 states alive queue tail)
+
 abbrev Inv-loop : tie.InvT-loop
-Inv-loop sizes triples earlier last tree next wanted s alive₀ queue₀ tail j m end₀ i₀ alive queue end i = (length alive ≡ length alive₀) × (length queue ≡ length queue₀) × Backing (lists sizes triples tree next wanted) s alive₀ queue₀ tail alive queue end i
+Inv-loop triples earlier last tree next wanted heads rest s alive₀ queue₀ tail j m end₀ at₀ alive queue end at = (length alive ≡ length alive₀) × (length queue ≡ length queue₀) × ((sizes : Sizes) → Ready sizes triples earlier last tree next wanted heads rest s alive₀ queue₀ tail → Backing (lists sizes triples tree next wanted) rest s alive₀ queue₀ tail alive queue end at)
 
 abbrev μ-loop : tie.MeasureT-loop
-μ-loop sizes triples earlier last tree next wanted s alive₀ queue₀ tail j m end₀ i₀ alive queue end i = sizes .parts - i
+μ-loop triples earlier last tree next wanted heads rest s alive₀ queue₀ tail j m end₀ at₀ alive queue end at = at
 
 pub mark-back-spec : {M : Type 1} → statement M
 mark-back-spec =
@@ -22,12 +34,18 @@ mark-back-spec =
     (tie.spec
     Inv-loop
     μ-loop
-    (λ c. (refl, refl, back-start (c .before .before .before .before .before .before .before .before .pre .1 .1)))  -- loop-holds
-    (λ c κs. let g = c .before .before .before .before .before .before .before .before .before .before .before .before .before .pre .0 .0 .query .in-wanted in let h = c .before .before .before .before .before .before .before .before .before .before .before .before .before .pre .0 .1 .heads in
-    ((chain-ready (c .before .before .before .before .before .before .before .before .before .before .before .before .before .pre .0 .0) (c .before .before .before .before .before .before .before .before .before .before .before .before .before .pre .0 .1) (c .before .before .before .before .before .before .before .before .before .before .before .before .before .args .s % 1024) (omega arith), h), ((part-ready (c .before .before .before .before .before .before .before .before .before .before .before .before .before .pre .0 .0) (c .before .before .before .before .loop .i) (c .before .before .if1 .taken), omega arith), (omega arith, c .before .before .before .before .loop .inv .2 .adds .after))))  -- mark-part-requires
-    (λ c. search needs)  -- add-i
-    (λ c. search needs)  -- loop-less
-    (λ c. (c .before .before .before .before .mark-part .kept .1 .1 .1 .1 .1 .1 .1 .1 .1 .0 ∙ c .before .before .before .before .before .before .before .before .before .loop .inv .0, c .before .before .before .before .mark-part .kept .1 .1 .1 .1 .1 .1 .1 .1 .1 .1 .0 ∙ c .before .before .before .before .before .before .before .before .before .loop .inv .1, back-again (c .before .before .before .before .before .before .before .before .before .before .before .before .before .before .before .before .before .before .pre .0 .0) (c .before .before .before .before .before .before .before .before .before .before .before .before .before .before .before .before .before .before .pre .0 .1) (c .before .before .before .before .before .before .before .before .before .before .before .before .before .before .before .before .before .before .pre .1 .1) (c .before .before .before .before .before .before .before .before .before .before .before .before .before .before .before .before .before .before .pre .1 .0 .0) (c .before .before .before .before .before .before .before .before .before .before .before .before .before .before .before .before .before .before .pre .1 .0 .0 (c .before .before .before .before .before .before .before .before .before .before .before .before .before .before .before .before .before .before .args .s) (c .before .before .before .before .before .before .before .before .before .before .before .before .before .before .before .before .before .before .pre .1 .0 .1 .0) (c .before .before .before .before .before .before .before .before .before .before .before .before .before .before .before .before .before .before .pre .1 .0 .1 .1)) (c .before .before .before .before .before .before .before .if1 .taken) (c .before .before .before .before .before .before .before .before .before .loop .inv .2) (c .before .before .before .before .mark-part .ensures)))  -- loop-again
-    (λ c. c .before .before .loop .inv .0)  -- same-length
-    (λ c. c .before .before .loop .inv .1)  -- same-length-2
-    (λ c. back-done (omega arith) (c .before .before .loop .inv .2)))  -- returns
+    (λ c. let y = c .before .before .before .before .before .before .before .before .before .before .pre .1 .0 .1 .0 in omega arith)  -- mul-at
+    (λ c. let z = c .before .before .before .before .before .before .before .before .before .before .before .pre .0 .1 .1 .begins in let y = c .before .before .before .before .before .before .before .before .before .before .before .pre .1 .0 .1 .0 in omega arith)  -- shared-slice-read-at
+    (λ c. fits-widen tt (c .shared-slice-known9 .given _))  -- cast-at
+    (λ c. (refl, refl, λ sizes r. back-start (r .0 .0) (r .0 .1 .1) (r .1 .0 .0 _ (r .1 .0 .1 .0) (r .1 .0 .1 .1)) (r .1 .1)))  -- loop-holds
+    (λ c. search needs)  -- sub-i
+    (λ c κs. let p = c .before .before .before .before .before .before .before .before .before .before .before .before .before .before .before .pre in let g = c .before .before .before .loop .inv .2 (c .before .before .before .before .before .before .before .before .before .before .before .before .before .before .before .args .sizes) p in let z = link-first g (c .before .before .loop-test .taken) in let y = p .0 .0 .query .in-wanted in ((chain-ready (p .0 .0) (p .0 .1 .0) (c .before .before .before .before .before .before .before .before .before .before .before .before .before .before .before .args .s % 1024) (omega arith), p .0 .1 .0 .heads), ((part-ready (p .0 .0) ((c .before .before .before .loop .at - 1) / 3) (omega arith), omega arith), (omega arith, g .adds .after))))  -- mark-part-requires
+    (λ c. search needs)  -- sub-at
+    (λ c. let p = c .before .before .before .before .before .before .before .before .before .before .before .before .before .before .before .before .before .before .before .before .pre in let z = link-first (c .before .before .before .before .before .before .before .before .loop .inv .2 (c .before .before .before .before .before .before .before .before .before .before .before .before .before .before .before .before .before .before .before .before .args .sizes) p) (c .before .before .before .before .before .before .before .loop-test .taken) in let y = p .0 .0 .query .few in omega arith)  -- mul-at-2
+    (λ c. let p = c .before .before .before .before .before .before .before .before .before .before .before .before .before .before .before .before .before .before .before .before .before .pre in let z = link-first (c .before .before .before .before .before .before .before .before .before .loop .inv .2 (c .before .before .before .before .before .before .before .before .before .before .before .before .before .before .before .before .before .before .before .before .before .args .sizes) p) (c .before .before .before .before .before .before .before .before .loop-test .taken) in let y = p .0 .1 .1 .listed in omega arith)  -- shared-slice-read-at-2
+    (λ c. fits-widen tt (c .shared-slice-known10 .given _))  -- cast-at-2
+    (λ c. let p = c .before .before .before .before .before .before .before .before .before .before .before .before .before .before .before .before .before .before .before .before .before .pre in let z = link-first (c .before .before .before .before .before .before .before .before .before .loop .inv .2 (c .before .before .before .before .before .before .before .before .before .before .before .before .before .before .before .before .before .before .before .before .before .args .sizes) p) (c .before .before .before .before .before .before .before .before .loop-test .taken) in let y = p .0 .1 .1 .falls _ z in omega arith)  -- loop-less
+    (λ c. (c .before .before .before .before .before .mark-part .kept .1 .1 .1 .1 .1 .1 .1 .1 .1 .0 ∙ c .before .before .before .before .before .before .before .before .before .loop .inv .0, c .before .before .before .before .before .mark-part .kept .1 .1 .1 .1 .1 .1 .1 .1 .1 .1 .0 ∙ c .before .before .before .before .before .before .before .before .before .loop .inv .1, λ sizes r. back-again (c .before .before .before .before .before .before .before .before .before .loop .inv .2 sizes r) (r .0 .0) (r .0 .1 .0) (r .1 .1) (r .1 .0 .0) (r .1 .0 .0 _ (r .1 .0 .1 .0) (r .1 .0 .1 .1)) (c .before .before .before .before .before .before .before .before .loop-test .taken) (c .before .before .before .before .before .mark-part .ensures)))  -- loop-again
+    (λ c. c .before .loop .inv .0)  -- same-length
+    (λ c. c .before .loop .inv .1)  -- same-length-2
+    (λ c. back-done (c .before .loop .inv .2 (c .before .before .before .before .before .before .before .before .before .before .before .before .before .args .sizes) (c .before .before .before .before .before .before .before .before .before .before .before .before .before .pre)) (omega arith)))  -- returns

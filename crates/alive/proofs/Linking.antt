@@ -1,0 +1,148 @@
+-- Links are written one by one, and chains of them have the parts that each part can make alive. Assumes nothing.
+use lib.ListN.{getD, getD-replicate, length, length-set, replicate, set}
+use lib.Seq.{getD-set-other, getD-set-same}
+use mathlib.Core.List.{List}
+use mathlib.Core.Logic.{inl, inr}
+use mathlib.Core.Path.{refl, subst, sym, _∙_, _≡_}
+use native.Mathlib.Decide.{decLt, ℕ-discrete}
+use native.Mathlib.Omega.{arith}
+use Prim.Native.Nat.{ℕ, _%_, _*_, _+_, _-_, _/_, _<_, _≤_}
+use Rattle.alive.specs.Fits.{Fits}
+use Rattle.alive.specs.Links.{Caused, Link, Linked, LinkReady}
+use Rattle.alive.specs.Lists.{Lists}
+use Rattle.alive.specs.Steps.{Touches}
+use Rattle.index.specs.Index.{ByObject, ChainReady, Met}
+use Rattle.index.specs.Triples.{GraphFits, objectOf, subjectOf}
+use Rattle.walk.proofs.KindLaws.{kind-chain, kind-either, kind-leaf, kind-repeat, kind-test}
+use Rattle.walk.specs.Parts.{Part, chain, either, firstOf, kindOf, leaf, partOf, repeat, test}
+use Rattle.alive.proofs.States.{part-ready}
+
+-- ---- link by link
+
+pub link-start : {tree next links : List ℕ} → Linked tree next 0 links
+link-start = record { whole = omega arith; subjects = λ e l. absurd (omega arith); objects = λ e l. absurd (omega arith) }
+
+module _ {tree next links : List ℕ} {n c : ℕ} (d : Linked tree next n links) (room : n * 3 + 3 ≤ length links) (x : Link tree next n c) where
+  one : List ℕ
+  one = set links (n * 3) 0
+
+  two : List ℕ
+  two = set one (n * 3 + 2) c
+
+  long : length one ≡ length links
+  unfolding one
+  long = length-set links (n * 3) 0
+
+  longer : length two ≡ length links
+  unfolding two
+  longer = length-set one (n * 3 + 2) c ∙ long
+
+  kept : (k : ℕ) → (k ≡ n * 3 → ⊥) → (k ≡ n * 3 + 2 → ⊥) → getD two k 0 ≡ getD links k 0
+  unfolding one two
+  kept k p q = getD-set-other one (n * 3 + 2) k c 0 q ∙ getD-set-other links (n * 3) k 0 0 p
+
+  new-subject : subjectOf two n ≡ 0
+  unfolding one two
+  new-subject = getD-set-other one (n * 3 + 2) (n * 3) c 0 (λ e. omega arith) ∙ getD-set-same links (n * 3) 0 0 (omega arith)
+
+  new-object : objectOf two n ≡ c
+  unfolding two
+  new-object = let z = long in getD-set-same one (n * 3 + 2) c 0 (omega arith)
+
+  subjects′ : (e : ℕ) → e < n + 1 → subjectOf two e ≡ 0
+  subjects′ e l = go (decLt e n)
+    where
+      go : Dec (e < n) → subjectOf two e ≡ 0
+      go (yes h) = kept (e * 3) (λ q. omega arith) (λ q. omega arith) ∙ d .subjects e h
+      go (no h) = let p : n ≡ e = omega arith in subst (λ k. subjectOf two k ≡ 0) p new-subject
+
+  objects′ : (e : ℕ) → e < n + 1 → Link tree next e (objectOf two e)
+  objects′ e l = go (decLt e n)
+    where
+      go : Dec (e < n) → Link tree next e (objectOf two e)
+      go (yes h) = subst (λ z. Link tree next e z) (sym (kept (e * 3 + 2) (λ q. omega arith) (λ q. omega arith))) (d .objects e h)
+      go (no h) = let p : n ≡ e = omega arith in subst (λ k. Link tree next k (objectOf two k)) p (subst (λ z. Link tree next n z) (sym new-object) x)
+
+  pub link-again : Linked tree next (n + 1) (set (set links (n * 3) 0) (n * 3 + 2) c)
+  unfolding one two
+  link-again = record { whole = let z = longer in omega arith; subjects = subjects′; objects = objects′ }
+
+pub link-done : {tree next links : List ℕ} {n m : ℕ} → Linked tree next m links → m ≡ n → Linked tree next n links
+link-done {tree} {next} {links} d e = subst (λ k. Linked tree next k links) e d
+
+-- ---- chains of links
+
+pub link-ready : {L : Lists} → Fits L → LinkReady (L .tree) (L .next) (L .parts)
+link-ready f = record { few = f .query .few; ready = λ i l. part-ready f i l }
+
+-- No part has a chain yet.
+pub heads-ready : {parts : ℕ} → parts ≤ 256 → ChainReady (parts * 3) (replicate 1024 0) (replicate 768 0)
+heads-ready l = record { heads = omega arith; links = omega arith; none = λ o h. getD-replicate 1024 o 0 0 h }
+
+-- Links are triples within their bounds.
+pub links-fit : {tree next links : List ℕ} {parts : ℕ} → parts ≤ 256 → Linked tree next (parts * 3) links → GraphFits 1024 (parts * 3) links
+links-fit l d = record {
+  few-nodes = omega arith;
+  few-edges = omega arith;
+  whole = d .whole;
+  subjects = λ k h. let z = d .subjects k h in omega arith;
+  objects = λ k h. d .objects k h .small;
+}
+
+module _ {L : Lists} {links heads rest : List ℕ} (f : Fits L) (d : Linked (L .tree) (L .next) (L .parts * 3) links) (b : ByObject links (L .parts * 3) heads rest) where
+  -- a link of the part i that leads from j
+  found : (i j e : ℕ) → j < 1024 → e < L .parts * 3 → e / 3 ≡ i → objectOf links e ≡ j → (e : ℕ) × Met rest (getD heads j 0) e × (e / 3 ≡ i)
+  found i j e h l p q = (e, b .exactly j e h .1 (l, q), p)
+
+  module _ (i j : ℕ) (l : i < L .parts) (h : j < 1024) where
+    from-after : j ≡ getD (L .next) i 0 → (e : ℕ) × Met rest (getD heads j 0) e × (e / 3 ≡ i)
+    from-after q =
+        let p : i * 3 / 3 ≡ i = omega arith in
+        found i j (i * 3) h (omega arith) p (subst (λ k. objectOf links (i * 3) ≡ getD (L .next) k 0) p (d .objects (i * 3) (omega arith) .after (omega arith)) ∙ sym q)
+
+    from-body : 5 ≤ kindOf (L .tree) i → j ≡ i - 1 → (e : ℕ) × Met rest (getD heads j 0) e × (e / 3 ≡ i)
+    from-body k q =
+        let p : (i * 3 + 1) / 3 ≡ i = omega arith in
+        found i j (i * 3 + 1) h (omega arith) p (subst (λ x. 5 ≤ kindOf (L .tree) x → objectOf links (i * 3 + 1) ≡ x - 1) p (d .objects (i * 3 + 1) (omega arith) .body (omega arith)) k ∙ sym q)
+
+    from-first : 7 ≤ kindOf (L .tree) i → j ≡ firstOf (L .tree) i → (e : ℕ) × Met rest (getD heads j 0) e × (e / 3 ≡ i)
+    from-first k q =
+        let p : (i * 3 + 2) / 3 ≡ i = omega arith in
+        found i j (i * 3 + 2) h (omega arith) p (subst (λ x. 7 ≤ kindOf (L .tree) x → objectOf links (i * 3 + 2) ≡ firstOf (L .tree) x) p (d .objects (i * 3 + 2) (omega arith) .first (omega arith)) k ∙ sym q)
+
+    abbrev Way : Part → Type 0
+    Way p = Touches (getD (L .next) i 0) p j → (e : ℕ) × Met rest (getD heads j 0) e × (e / 3 ≡ i)
+
+    by : (p : Part) → partOf (L .tree) i ≡ p → Way p → Way (partOf (L .tree) i)
+    by p e w = subst (λ q. Way q) (sym e) w
+
+    way : Way (partOf (L .tree) i)
+    way = go (ℕ-discrete (kindOf (L .tree) i) 5) (ℕ-discrete (kindOf (L .tree) i) 6) (ℕ-discrete (kindOf (L .tree) i) 7) (ℕ-discrete (kindOf (L .tree) i) 8)
+      where
+        testing : 5 ≤ kindOf (L .tree) i → Way (test (i - 1))
+        testing k (inl q) = from-body k q
+        testing k (inr q) = from-after q
+
+        repeating : 5 ≤ kindOf (L .tree) i → Way (repeat (i - 1))
+        repeating k (inl q) = from-after q
+        repeating k (inr q) = from-body k q
+
+        choosing : 7 ≤ kindOf (L .tree) i → Way (either (firstOf (L .tree) i) (i - 1))
+        choosing k (inl q) = from-first k q
+        choosing k (inr q) = from-body (omega arith) q
+
+        go : Dec (kindOf (L .tree) i ≡ 5) → Dec (kindOf (L .tree) i ≡ 6) → Dec (kindOf (L .tree) i ≡ 7) → Dec (kindOf (L .tree) i ≡ 8) → Way (partOf (L .tree) i)
+        go (yes k) b c d = by (test (i - 1)) (kind-test (L .tree) i k) (testing (omega arith))
+        go (no a) (yes k) c d = by (repeat (i - 1)) (kind-repeat (L .tree) i k) (repeating (omega arith))
+        go (no a) (no b) (yes k) d = by (chain (firstOf (L .tree) i) (i - 1)) (kind-chain (L .tree) i k) (λ q. from-first (omega arith) q)
+        go (no a) (no b) (no c) (yes k) = by (either (firstOf (L .tree) i) (i - 1)) (kind-either (L .tree) i k) (choosing (omega arith))
+        go (no a) (no b) (no c) (no e) = by leaf (kind-leaf (L .tree) i a b c e) (λ q. from-after q)
+
+  pub chains-cause : Caused L heads rest
+  chains-cause = record {
+    begins = b .heads;
+    listed = b .links;
+    inside = λ j e h m. b .exactly j e h .0 m .0;
+    falls = b .falls;
+    causes = λ i j l h x. way i j l h x;
+  }
