@@ -1,0 +1,137 @@
+//! The ordinary program agrees with the second program, which is written from
+//! the definitions: so what the benchmark measures against is right.
+
+use bench::lent::Lent;
+use bench::ordinary::{self, Checks, Counts, Refused};
+use second::generate::{case, Case};
+use second::{Graph, Refusal};
+
+fn same_front(list: &[u16], front: impl Iterator<Item = u16>) {
+    let front: Vec<u16> = front.collect();
+    assert_eq!(&list[..front.len()], &front[..]);
+    assert!(list[front.len()..].iter().all(|n| *n == 7));
+}
+
+/// The lists hold the graph at their front and are as lent behind it.
+fn holds(lent: &Lent, counts: Counts, graph: &Graph) {
+    assert_eq!(counts.nodes, graph.nodes.len());
+    assert_eq!(counts.triples, graph.triples.len());
+    same_front(&lent.nodes, graph.nodes.iter().flatten().copied());
+    same_front(&lent.triples, graph.triples.iter().flatten().copied());
+}
+
+fn untouched(lent: &Lent) {
+    let lists = [&lent.nodes, &lent.triples, &lent.pairs];
+    assert!(lists.into_iter().flatten().all(|n| *n == 7));
+}
+
+fn same_refusal(ours: &Refused, theirs: &Refusal) {
+    assert_eq!(ours.number, theirs.number);
+    if ours.number == 10 {
+        let (subject, rest) = ours.clash.split_at(7);
+        assert!(theirs.clashes.iter().any(|clash| {
+            clash.node == subject
+                && clash.predicate == rest[0]
+                && rest[1..8] != rest[8..]
+                && clash.objects.iter().any(|o| o == &rest[1..8])
+                && clash.objects.iter().any(|o| o == &rest[8..])
+        }));
+    }
+}
+
+fn check_build(checks: Checks, case: &Case) {
+    let lent = &mut Lent::default();
+    let ours = ordinary::build(
+        checks,
+        &case.pack,
+        &mut lent.nodes,
+        &mut lent.triples,
+        &mut lent.rows,
+        &mut lent.heads,
+    );
+    match (ours, second::build(&case.pack)) {
+        (Ok(counts), Ok(graph)) => holds(lent, counts, &graph),
+        (Err(ours), Err(theirs)) => {
+            same_refusal(&ours, &theirs);
+            untouched(lent);
+        }
+        (ours, _) => panic!("build: {ours:?}"),
+    }
+}
+
+fn check_yes_no(checks: Checks, case: &Case) {
+    let lent = &mut Lent::default();
+    let ours = ordinary::yes_no(
+        checks,
+        &case.pack,
+        &case.query,
+        &mut lent.nodes,
+        &mut lent.triples,
+        &mut lent.rows,
+        &mut lent.heads,
+        &mut lent.alive,
+        &mut lent.queue,
+    );
+    match (ours, second::yes_no(&case.pack, &case.query)) {
+        (Ok((yes, counts)), Ok((answer, graph))) => {
+            assert_eq!(yes, answer);
+            holds(lent, counts, &graph);
+        }
+        (Err(ours), Err(theirs)) => {
+            same_refusal(&ours, &theirs);
+            untouched(lent);
+        }
+        (ours, _) => panic!("yes/no: {ours:?}"),
+    }
+}
+
+fn check_pairs(checks: Checks, case: &Case) {
+    let lent = &mut Lent::default();
+    let ours = ordinary::pairs(
+        checks,
+        &case.pack,
+        &case.query,
+        &mut lent.nodes,
+        &mut lent.triples,
+        &mut lent.pairs,
+        &mut lent.rows,
+        &mut lent.heads,
+        &mut lent.alive,
+        &mut lent.queue,
+        &mut lent.seen,
+    );
+    match (ours, second::pairs(&case.pack, &case.query)) {
+        (Ok((count, counts)), Ok((pairs, graph))) => {
+            assert_eq!(count, pairs.len());
+            same_front(&lent.pairs, pairs.iter().flatten().copied());
+            holds(lent, counts, &graph);
+        }
+        (Err(ours), Err(theirs)) => {
+            same_refusal(&ours, &theirs);
+            untouched(lent);
+        }
+        (ours, _) => panic!("pairs: {ours:?}"),
+    }
+    let zero = [&lent.rows, &lent.seen].into_iter().flatten();
+    assert!(zero.into_iter().all(|n| *n == 0));
+    assert!(lent.heads.iter().all(|n| *n == 0));
+    assert!(lent.alive.iter().all(|n| *n == 0));
+    assert!(lent.queue.iter().all(|n| *n == 0));
+}
+
+#[test]
+fn the_ordinary_program_agrees_with_the_second() {
+    for seed in 0..4_000 {
+        let case = case(seed);
+        let checks = match seed % 2 {
+            0 => Checks::TwoByTwo,
+            _ => Checks::Sorted,
+        };
+        let outcome = std::panic::catch_unwind(|| {
+            check_build(checks, &case);
+            check_yes_no(checks, &case);
+            check_pairs(checks, &case);
+        });
+        assert!(outcome.is_ok(), "seed {seed}, {}", case.family);
+    }
+}
