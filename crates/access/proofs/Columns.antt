@@ -7,7 +7,9 @@ use mathlib.Core.List.{List, [], _∷_}
 use mathlib.Core.Path.{_≡_, refl, sym, ap, _∙_}
 use native.Mathlib.Omega.{arith}
 use Prim.Native.Nat.{ℕ, _+_, _/_, _%_, _≤_, _<_}
-use Rattle.meaning.specs.WellFormed.{agree}
+use Rattle.meaning.specs.Pack.{Dependency, Row}
+use Rattle.meaning.specs.Tests.{any}
+use Rattle.meaning.specs.WellFormed.{agree, breaks}
 use Rattle.pack.specs.Shown.{textAt}
 use Rattle.pack.proofs.Reading.{slice-front}
 
@@ -59,3 +61,8 @@ module _ {s : List ℕ} {mask a n b m rest i : ℕ} (p : Alike s mask a n b m re
   pub alike-done : n ≤ i → true ≡ agree mask (textAt s a n) (textAt s b m)
   unfolding agree
   alike-done h = let e : i ≡ n = omega (arith, p .within) in rw (e, slice-empty) at (p .is)
+
+-- A row of another relation breaks nothing.
+pub breaks-none : (d : Dependency) (r : Row) → eqb (r .relation) (d .relation) ≡ false → (rs : List Row) → any (breaks d r) rs ≡ false
+breaks-none d r e [] = refl
+breaks-none d r e (s ∷ rs) = rw e (breaks-none d r e rs)

@@ -76,6 +76,9 @@ fn breaks_later(s: &[u8], d: Depends, x: Tuple, from: Cursor) -> bool
     requires { ⌜ (x .start + x .len ≤ length (now s)) × Placed (now s) from ⌝ }
     ensures { λ r. ⌜ Listed row (left (now (s .entry)) from) (λ rs. r ≡ any (breaks (dependencyOf d) (made rowOf (now (s .entry)) x)) rs) ⌝ }
 {
+    if x.number != d.relation {
+        return false;
+    }
     let mut c = from;
     while c.at < c.end {
         match c.row(s) {

@@ -2,11 +2,12 @@
 use lib.ListN.{length, getD}
 use lib.Seq.{slice, slice-empty}
 use mathlib.Core.Bool.{Bool, true, false}
-use mathlib.Core.List.{List}
-use mathlib.Core.Path.{_≡_}
+use mathlib.Core.List.{List, [], _∷_}
+use mathlib.Core.Path.{refl, _≡_}
 use native.Mathlib.Omega.{arith}
 use Prim.Native.Nat.{ℕ, _+_, _≤_, _<_}
 use Rattle.meaning.specs.Tests.{every, any}
+use Rattle.pack.specs.Records.{anyByte}
 use Rattle.pack.proofs.Reading.{slice-front}
 
 -- every byte from at to i passes, so the run passes where the rest does
@@ -48,3 +49,8 @@ module _ {ok : ℕ → Bool} {s : List ℕ} {at i end : ℕ} (p : Missing ok s a
 
   pub missing-done : end ≤ i → false ≡ any ok (slice at end s)
   missing-done h = let e : i ≡ end = omega (arith, p .before) in rw (e, slice-empty) at (p .is)
+
+-- Any byte passes.
+pub any-passes : (xs : List ℕ) → every anyByte xs ≡ true
+any-passes [] = refl
+any-passes (x ∷ xs) = any-passes xs

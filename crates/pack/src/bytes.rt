@@ -69,7 +69,7 @@ pub fn byte_passes(class: Class, b: u8) -> bool
 }
 
 // Whether each of the n bytes at a place is of the class.
-pub fn all_pass(s: &[u8], at: usize, n: usize, class: Class) -> bool
+fn each_passes(s: &[u8], at: usize, n: usize, class: Class) -> bool
     requires { ⌜ at + n ≤ length (now s) ⌝ }
     ensures { λ r. ⌜ r ≡ every (passes class) (slice at (at + n) (now (s .entry))) ⌝ }
 {
@@ -82,4 +82,17 @@ pub fn all_pass(s: &[u8], at: usize, n: usize, class: Class) -> bool
         i += 1;
     }
     true
+}
+
+// The same: any byte is of the class Any.
+pub fn all_pass(s: &[u8], at: usize, n: usize, class: Class) -> bool
+    requires { ⌜ at + n ≤ length (now s) ⌝ }
+    ensures { λ r. ⌜ r ≡ every (passes class) (slice at (at + n) (now (s .entry))) ⌝ }
+{
+    match class {
+        Class::Any => true,
+        Class::Letter => each_passes(s, at, n, class),
+        Class::Prefix => each_passes(s, at, n, class),
+        Class::Variable => each_passes(s, at, n, class),
+    }
 }

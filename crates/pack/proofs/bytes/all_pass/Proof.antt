@@ -1,32 +1,24 @@
--- `bytes::all_pass` meets its contract: each byte before i passes. Assumes nothing.
-use borrow.Author.Tests.{not-true, not-false}
-use native.Mathlib.Omega.{arith}
-use mathlib.Core.Path.{refl, sym, _∙_}
-use Prim.Native.Nat.{_-_, _+_}
-use Rattle.pack.specs.Classes.{passes}
-use Rattle.pack.proofs.Runs.{Passing, passing-on, passing-stops, passing-done}
+-- `bytes::all_pass` meets its contract. Assumes nothing.
 use borrow.Author.Needs.{needs}
+use lib.Seq.{slice}
+use mathlib.Core.Path.{sym}
+use Prim.Native.Nat.{_+_}
+use Rattle.pack.proofs.Runs.{any-passes}
 use Rattle.pack.proofs.bytes.all_pass.Statement.{statement}
 use Rattle.pack.proofs.bytes.all_pass.Tie as tie
-
-abbrev Inv-loop : tie.InvT-loop
-Inv-loop s at n class end i₀ i = Passing (passes class) s at i (at + n)
-
-abbrev μ-loop : tie.MeasureT-loop
-μ-loop s at n class end i₀ i = at + n - i
 
 pub all-pass-spec : {M : Type 1} → statement M
 all-pass-spec =
     tie.close
     (tie.spec
-    Inv-loop
-    μ-loop
-    (λ c. search needs)  -- add-end
-    (λ c. record { before = omega arith; inside = omega arith; is = refl })  -- loop-holds
-    (λ c. search needs)  -- shared-slice-read-byte-passes
-    (λ c κs. search needs)  -- byte-passes-requires
-    (λ c. passing-stops (c .before .before .before .before .loop .inv) (c .before .before .before .loop-test .taken) (sym (c .before .byte-passes .ensures) ∙ not-true (c .before .byte-passes .result) (c .if1 .taken)))  -- returns
-    (λ c. search needs)  -- add-i
-    (λ c. search needs)  -- loop-less
-    (λ c. passing-on (c .before .before .before .before .loop .inv) (c .before .before .before .loop-test .taken) (sym (c .before .byte-passes .ensures) ∙ not-false (c .before .byte-passes .result) (c .if1 .left)))  -- loop-again
-    (λ c. passing-done (c .before .loop .inv) (c .loop-test .left)))  -- returns-2
+    (λ c. search needs)  -- enum-told
+    (λ c. search needs)  -- enum-told-2
+    (λ c κs. search needs)  -- each-passes-requires
+    (λ c. search needs)  -- enum-told-3
+    (λ c κs. search needs)  -- each-passes-requires-2
+    (λ c. search needs)  -- enum-told-4
+    (λ c κs. search needs)  -- each-passes-requires-3
+    (λ c. rw (c .enum-told .given .1) (sym (any-passes (slice (c .before .before .before .args .at) (c .before .before .before .args .at + c .before .before .before .args .n) (c .before .before .before .args .s .now)))))  -- returns
+    (λ c. search needs)  -- returns-2
+    (λ c. search needs)  -- returns-3
+    (λ c. search needs))  -- returns-4
