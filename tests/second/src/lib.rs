@@ -11,7 +11,7 @@ pub mod pack;
 pub mod query;
 pub mod records;
 pub mod spelling;
-pub mod written;
+pub mod vectors;
 
 pub use graph::{Graph, NodeRecord, TripleRecord};
 
@@ -86,14 +86,19 @@ fn answers(pack: &[u8], query: &[u8]) -> Result<String, Refusal> {
     let (yes, graph) = yes_no(pack, query)?;
     let (pairs, _) = pairs(pack, query)?;
     let pack = pack::well_formed(pack)?;
+    Ok(printed(&pack, yes, &pairs, &graph.nodes))
+}
+
+/// An answer and a list of pairs as `certain` prints them, spelled.
+pub fn printed(pack: &pack::Pack, yes: bool, pairs: &[[u16; 2]], nodes: &[NodeRecord]) -> String {
     let mut text = format!("certain {}\n", if yes { "yes" } else { "no" });
     text.push_str(&format!("pairs {}\n", pairs.len()));
     for [start, end] in pairs {
-        let start = spelling::marked(&pack, &graph.nodes[start as usize]);
-        let end = spelling::marked(&pack, &graph.nodes[end as usize]);
+        let start = spelling::marked(pack, &nodes[usize::from(*start)]);
+        let end = spelling::marked(pack, &nodes[usize::from(*end)]);
         text.push_str(&format!("{start} {end}\n"));
     }
-    Ok(text)
+    text
 }
 
 /// Standard input of the program `certain`, less one final line feed.

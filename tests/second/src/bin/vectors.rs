@@ -3,8 +3,10 @@
 //! Each argument is a file of cases, or a directory of NAME.pack,
 //! NAME.query and NAME.certain. Ends with a failure if anything differs.
 
-use second::written::{self, Case};
+use second::vectors::{answers, read_directory, read_file};
+use second::Refusal;
 use std::collections::BTreeMap;
+use std::fmt::Debug;
 use std::path::Path;
 use std::process::ExitCode;
 use std::time::Instant;
@@ -19,22 +21,16 @@ struct Tally {
 }
 
 impl Tally {
-    fn compare(&mut self, title: &str, outcome: &str, expected: &[String], found: &[String]) {
-        if expected == found {
-            *self.agree.entry(outcome.to_string()).or_default() += 1;
+    fn compare<T: Debug + PartialEq>(&mut self, title: &str, outcome: String, both: [&T; 2]) {
+        if both[0] == both[1] {
+            *self.agree.entry(outcome).or_default() += 1;
             return;
         }
         self.differences += 1;
         if self.differences <= SHOWN {
             println!("difference in {title}, {outcome}");
-            let lines = expected.len().max(found.len());
-            for number in (0..lines)
-                .filter(|n| expected.get(*n) != found.get(*n))
-                .take(SHOWN)
-            {
-                println!("  expected {:?}", expected.get(number));
-                println!("  found    {:?}", found.get(number));
-            }
+            println!("  expected {:?}", both[0]);
+            println!("  found    {:?}", both[1]);
         }
     }
 }
@@ -46,9 +42,9 @@ fn main() -> ExitCode {
         return ExitCode::FAILURE;
     }
     let mut tally = Tally::default();
-    for path in &paths {
-        if Path::new(path).is_dir() {
-            compare_directory(Path::new(path), &mut tally);
+    for path in paths.iter().map(Path::new) {
+        if path.is_dir() {
+            compare_directory(path, &mut tally);
         } else {
             compare_file(path, &mut tally);
         }
@@ -66,178 +62,38 @@ fn main() -> ExitCode {
     }
 }
 
-// ------------------------------------------------------------ a case file
-
-fn compare_file(path: &str, tally: &mut Tally) {
-    let cases = written::read(path);
-    for case in &cases {
-        compare_case(case, tally);
-    }
-    println!("{path}: {} cases", cases.len());
-}
-
-/// Splits the expected lines by call and compares each call.
-fn compare_case(case: &Case, tally: &mut Tally) {
-    let mut expected: BTreeMap<&str, Vec<String>> = BTreeMap::new();
-    let mut call = "";
-    for line in &case.expected {
-        let word = line.split(' ').next().unwrap();
-        if ["build", "yesno", "pairs", "readback"].contains(&word) {
-            call = word;
-        }
-        expected.entry(call).or_default().push(line.clone());
-    }
-    assert_eq!(expected.len(), 4, "{}: four calls", case.title);
-
-    for (call, mut lines) in expected {
-        let mut found = match call {
-            "build" => build_lines(case),
-            "yesno" => yes_no_lines(case),
-            "pairs" => pairs_lines(case),
-            "readback" => read_back_lines(case),
-            _ => panic!("{}: unknown line {call:?}", case.title),
-        };
-        // The clashes are a set, and so are the objects of each.
-        for list in [&mut lines, &mut found] {
-            if list[0] == "build refused 10" {
-                list.iter_mut().skip(1).for_each(order_objects);
-                list[1..].sort();
-            }
-        }
-        tally.compare(&case.title, &outcome(&lines[0]), &lines, &found);
+fn compare_file(path: &Path, tally: &mut Tally) {
+    let cases = read_file(path);
+    println!("{}: {} cases", path.display(), cases.len());
+    for case in cases {
+        let found = answers(&case.pack, &case.query, &case.text).ordered();
+        let expected = case.answers.ordered();
+        let title = &case.title;
+        let named = outcome("build", &expected.build, |_| "ok");
+        tally.compare(title, named, [&expected.build, &found.build]);
+        let answer = |(yes, _): &(bool, _)| if *yes { "ok yes" } else { "ok no" };
+        let named = outcome("yesno", &expected.yes_no, answer);
+        tally.compare(title, named, [&expected.yes_no, &found.yes_no]);
+        let named = outcome("pairs", &expected.pairs, |_| "ok");
+        tally.compare(title, named, [&expected.pairs, &found.pairs]);
+        let named = outcome("readback", &expected.read_back, |_| "ok");
+        tally.compare(title, named, [&expected.read_back, &found.read_back]);
     }
 }
 
 /// The call and how it ends, without the counts.
-fn outcome(line: &str) -> String {
-    let words: Vec<&str> = line.split(' ').collect();
-    let kept = if words[1] == "refused" || words[0] == "yesno" {
-        3
-    } else {
-        2
-    };
-    words[..kept].join(" ")
-}
-
-/// Puts the objects of a clash line in order.
-fn order_objects(line: &mut String) {
-    let (start, objects) = line.split_once(" : ").expect("a clash line");
-    let mut objects: Vec<&str> = objects.split(" , ").collect();
-    objects.sort();
-    *line = format!("{start} : {}", objects.join(" , "));
-}
-
-fn numbers(numbers: &[u16]) -> String {
-    numbers
-        .iter()
-        .map(u16::to_string)
-        .collect::<Vec<_>>()
-        .join(" ")
-}
-
-fn build_lines(case: &Case) -> Vec<String> {
-    match second::build(&case.pack) {
-        Ok(graph) => {
-            let mut lines = vec![format!(
-                "build ok {} {}",
-                graph.nodes.len(),
-                graph.triples.len()
-            )];
-            lines.extend(
-                graph
-                    .nodes
-                    .iter()
-                    .map(|node| format!("node {}", numbers(node))),
-            );
-            lines.extend(
-                graph
-                    .triples
-                    .iter()
-                    .map(|triple| format!("triple {}", numbers(triple))),
-            );
-            lines
-        }
-        Err(refusal) => {
-            let mut lines = vec![format!("build refused {}", refusal.number)];
-            for clash in &refusal.clashes {
-                let objects: Vec<String> =
-                    clash.objects.iter().map(|object| numbers(object)).collect();
-                lines.push(format!(
-                    "clash {} pred {} objects {} : {}",
-                    numbers(&clash.node),
-                    clash.predicate,
-                    objects.len(),
-                    objects.join(" , ")
-                ));
-            }
-            lines
-        }
+fn outcome<T>(call: &str, result: &Result<T, Refusal>, ok: fn(&T) -> &'static str) -> String {
+    match result {
+        Ok(answer) => format!("{call} {}", ok(answer)),
+        Err(refusal) => format!("{call} refused {}", refusal.number),
     }
 }
-
-fn yes_no_lines(case: &Case) -> Vec<String> {
-    vec![match second::yes_no(&case.pack, &case.query) {
-        Ok((yes, graph)) => {
-            let answer = if yes { "yes" } else { "no" };
-            format!(
-                "yesno ok {answer} {} {}",
-                graph.nodes.len(),
-                graph.triples.len()
-            )
-        }
-        Err(refusal) => format!("yesno refused {}", refusal.number),
-    }]
-}
-
-fn pairs_lines(case: &Case) -> Vec<String> {
-    match second::pairs(&case.pack, &case.query) {
-        Ok((pairs, graph)) => {
-            let mut lines = vec![format!(
-                "pairs ok {} {} {}",
-                pairs.len(),
-                graph.nodes.len(),
-                graph.triples.len()
-            )];
-            lines.extend(pairs.iter().map(|pair| format!("pair {}", numbers(pair))));
-            lines
-        }
-        Err(refusal) => vec![format!("pairs refused {}", refusal.number)],
-    }
-}
-
-fn read_back_lines(case: &Case) -> Vec<String> {
-    vec![match second::read_back(&case.pack, &case.text) {
-        Ok(result) => format!("readback ok {}", numbers(&result)),
-        Err(refusal) => format!("readback refused {}", refusal.number),
-    }]
-}
-
-// ------------------------------------------------------------ a directory
 
 fn compare_directory(directory: &Path, tally: &mut Tally) {
-    let mut packs: Vec<_> = std::fs::read_dir(directory)
-        .expect("the directory can be read")
-        .map(|entry| entry.expect("an entry").path())
-        .filter(|path| {
-            path.extension()
-                .is_some_and(|extension| extension == "pack")
-        })
-        .collect();
-    packs.sort();
-    for path in packs {
-        let read = |extension: &str| {
-            std::fs::read(path.with_extension(extension)).expect("the file can be read")
-        };
+    for case in read_directory(directory) {
         let started = Instant::now();
-        let found = second::certain(&read("pack"), second::less_line_feed(&read("query")));
-        println!("{}: {} ms", path.display(), started.elapsed().as_millis());
-        let expected = String::from_utf8(read("certain")).expect("text");
-        let lines = |text: &str| text.split('\n').map(String::from).collect::<Vec<_>>();
-        tally.compare(
-            &path.display().to_string(),
-            "certain",
-            &lines(&expected),
-            &lines(&found),
-        );
+        let found = second::certain(&case.pack, &case.query);
+        println!("{}: {} ms", case.title, started.elapsed().as_millis());
+        tally.compare(&case.title, "certain".to_string(), [&case.certain, &found]);
     }
 }

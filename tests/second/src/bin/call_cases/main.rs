@@ -9,7 +9,8 @@ mod packs;
 mod queries;
 
 use second::generate::case;
-use second::written;
+use second::vectors::{read_file, Written};
+use std::path::Path;
 use std::process::ExitCode;
 
 /// A pack and the queries that are asked of it.
@@ -92,6 +93,6 @@ fn random(first: u64, count: u64) -> Vec<Case> {
 }
 
 fn from_file(path: &str) -> Vec<Case> {
-    let one = |case: written::Case| Case::new(&case.title, case.pack, vec![case.query]);
-    written::read(path).into_iter().map(one).collect()
+    let one = |case: Written| Case::new(&case.title, case.pack, vec![case.query]);
+    read_file(Path::new(path)).into_iter().map(one).collect()
 }
