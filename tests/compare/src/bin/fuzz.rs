@@ -1,0 +1,154 @@
+//! Fuzzing: random and damaged inputs, buffers of random lengths, each next
+//! to a page that stops whoever touches it, or exactly as long as its
+//! allocation. Every call is made twice and compared with the second
+//! program.
+//!
+//! Arguments: for how many seconds, and the first seed; or `one` and a
+//! seed. A seed fixes all that is done for it.
+
+use compare::buffers::{longer, shorter, Buffers, Lengths, Place, COUNT, NEEDED};
+use compare::calls::{Call, Proved};
+use compare::driver::{Case, Driver};
+use compare::inputs::{inputs, Inputs, Room};
+use second::generate::Random;
+use second::vectors::answers;
+use std::ffi::{c_int, c_void};
+use std::process::ExitCode;
+use std::sync::atomic::{AtomicU64, Ordering};
+use std::time::Instant;
+
+const USAGE: &str = "usage: fuzz SECONDS [FIRST-SEED], or: fuzz one SEED";
+
+fn main() -> ExitCode {
+    report_stops();
+    let arguments: Vec<String> = std::env::args().skip(1).collect();
+    let one = arguments.first().is_some_and(|word| word == "one");
+    let numbers: Option<Vec<u64>> = arguments[usize::from(one)..]
+        .iter()
+        .map(|argument| argument.parse().ok())
+        .collect();
+    let result = match (one, numbers.as_deref()) {
+        (true, Some(&[seed])) => fuzz(0, seed),
+        (false, Some(&[seconds])) => fuzz(seconds, 0),
+        (false, Some(&[seconds, first])) => fuzz(seconds, first),
+        _ => Err(USAGE.to_string()),
+    };
+    match result {
+        Ok(()) => ExitCode::SUCCESS,
+        Err(message) => {
+            println!("{message}");
+            ExitCode::FAILURE
+        }
+    }
+}
+
+/// At least one seed, and then as many as the time allows.
+fn fuzz(seconds: u64, first: u64) -> Result<(), String> {
+    let started = Instant::now();
+    let mut driver = Driver::new(Proved);
+    let mut seed = first;
+    let mut minutes = 0;
+    loop {
+        SEED.store(seed, Ordering::Relaxed);
+        fuzz_seed(&mut driver, seed)
+            .map_err(|what| format!("difference: {what}\nto see it again: fuzz one {seed}"))?;
+        seed += 1;
+        let elapsed = started.elapsed().as_secs();
+        if elapsed >= 60 * (minutes + 1) {
+            minutes += 1;
+            println!("{minutes} minutes, {} seeds", seed - first);
+        }
+        if elapsed >= seconds {
+            break;
+        }
+    }
+    let (last, calls) = (seed - 1, driver.tally.total());
+    println!("seeds {first} to {last}, {calls} calls, no difference");
+    println!("{}", driver.tally);
+    println!("{} seconds", started.elapsed().as_secs());
+    Ok(())
+}
+
+/// Every call twice. What the calls are asked must be as before.
+fn fuzz_seed(driver: &mut Driver<Proved>, seed: u64) -> Result<(), String> {
+    let inputs = inputs(seed);
+    let Inputs { pack, query, text } = &inputs;
+    let answers = &answers(pack, query, text);
+    let random = &mut Random::new(!seed);
+    let lengths = lengths(random);
+    let (place, buffers, mut room) = match random.below(3) {
+        0 => (Place::First, Buffers::fenced(), Room::fenced()),
+        1 => (Place::Last, Buffers::fenced(), Room::fenced()),
+        _ => (Place::First, Buffers::alone(&lengths), Room::alone(&inputs)),
+    };
+    driver.place = place;
+    driver.buffers = buffers;
+    driver.random = random.clone();
+    let input = room.put(&inputs, place);
+    for call in Call::ALL {
+        let _answer = driver.twice(call, &lengths, Case { input, answers })?;
+        if (input.pack, input.query, input.text) != (pack, query, text) {
+            return Err(format!("{call}: the inputs are changed"));
+        }
+    }
+    Ok(())
+}
+
+/// Long enough in most cases; else some buffers are shorter.
+fn lengths(random: &mut Random) -> Lengths {
+    let mut lengths = if random.percent(50) {
+        NEEDED
+    } else {
+        longer(random)
+    };
+    if random.percent(20) {
+        for buffer in 0..COUNT {
+            if random.percent(25) {
+                lengths = shorter(random, lengths, buffer);
+            }
+        }
+    }
+    lengths
+}
+
+// ------------------------------------------------- where a stop happened
+
+/// The seed at hand, for a report when the program is stopped.
+static SEED: AtomicU64 = AtomicU64::new(0);
+
+extern "C" {
+    fn signal(number: c_int, handler: usize) -> usize;
+    fn write(file: c_int, bytes: *const c_void, length: usize) -> isize;
+}
+
+/// Linux's numbers: illegal instruction, abort, bus error, bad address.
+const SIGNALS: [c_int; 4] = [4, 6, 7, 11];
+
+/// A fault or a panic prints the seed.
+fn report_stops() {
+    let handler: extern "C" fn(c_int) = stopped;
+    for number in SIGNALS {
+        // SAFETY: the handler makes no calls that a handler must not make.
+        unsafe { signal(number, handler as usize) };
+    }
+    let hook = std::panic::take_hook();
+    std::panic::set_hook(Box::new(move |panic| {
+        println!("panic at seed {}", SEED.load(Ordering::Relaxed));
+        hook(panic);
+    }));
+}
+
+/// Writes the seed, and lets the signal stop the program the next time.
+extern "C" fn stopped(number: c_int) {
+    let mut text = *b"\nstopped at seed 00000000000000000000\n";
+    let mut seed = SEED.load(Ordering::Relaxed);
+    for place in (17..37).rev() {
+        text[place] = b'0' + (seed % 10) as u8;
+        seed /= 10;
+    }
+    // SAFETY: the text is as long as is said; 0 is the default handler.
+    unsafe {
+        write(2, text.as_ptr().cast(), text.len());
+        signal(number, 0);
+    }
+}

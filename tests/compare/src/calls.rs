@@ -1,0 +1,75 @@
+//! The four calls, as the wrapper of the proved library offers them.
+
+use crate::buffers::Buffers;
+use ciravehy::{lent, Counts, Refusal, Term};
+use std::fmt;
+
+#[derive(Clone, Copy, Debug, PartialEq, Eq, PartialOrd, Ord)]
+pub enum Call {
+    Build,
+    YesNo,
+    Pairs,
+    ReadBack,
+}
+
+impl Call {
+    pub const ALL: [Call; 4] = [Call::Build, Call::YesNo, Call::Pairs, Call::ReadBack];
+}
+
+impl fmt::Display for Call {
+    fn fmt(&self, f: &mut fmt::Formatter) -> fmt::Result {
+        f.pad(match self {
+            Call::Build => "build",
+            Call::YesNo => "yes/no",
+            Call::Pairs => "pairs",
+            Call::ReadBack => "read-back",
+        })
+    }
+}
+
+/// What the calls are asked.
+#[derive(Clone, Copy, Debug)]
+pub struct Input<'a> {
+    pub pack: &'a [u8],
+    pub query: &'a [u8],
+    pub text: &'a [u8],
+}
+
+/// What a call gives where it does not refuse.
+#[derive(Clone, Debug, PartialEq, Eq)]
+pub enum Given {
+    Graph(Counts),
+    Truth(bool, Counts),
+    Pairs(usize, Counts),
+    Term(Term),
+}
+
+pub type Answer = Result<Given, Refusal>;
+
+/// Something that answers the calls on lent buffers.
+pub trait Calls {
+    fn call(&mut self, call: Call, input: Input, buffers: &mut Buffers) -> Answer;
+}
+
+/// The proved calls.
+pub struct Proved;
+
+impl Calls for Proved {
+    fn call(&mut self, call: Call, input: Input, buffers: &mut Buffers) -> Answer {
+        let Input { pack, query, text } = input;
+        let [nodes, triples, pairs, rows, heads, alive, queue, seen] = &mut buffers.lent;
+        let (nodes, triples, pairs) = (nodes.slice(), triples.slice(), pairs.slice());
+        let (rows, heads) = (rows.slice(), heads.slice());
+        let (alive, queue, seen) = (alive.slice(), queue.slice(), seen.slice());
+        match call {
+            Call::Build => lent::build(pack, nodes, triples, rows, heads).map(Given::Graph),
+            Call::YesNo => lent::yes_no(pack, query, nodes, triples, rows, heads, alive, queue)
+                .map(|(yes, counts)| Given::Truth(yes, counts)),
+            Call::Pairs => lent::pairs(
+                pack, query, nodes, triples, pairs, rows, heads, alive, queue, seen,
+            )
+            .map(|(count, counts)| Given::Pairs(count, counts)),
+            Call::ReadBack => lent::read_back(pack, text).map(Given::Term),
+        }
+    }
+}

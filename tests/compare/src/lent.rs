@@ -1,0 +1,183 @@
+//! A lent buffer: a part of some memory, all of which holds a pattern
+//! before the call. What lies around the part must keep it.
+
+use crate::memory::Memory;
+
+/// Numbers that a buffer may hold: any bytes are one.
+pub trait Entry: Copy {}
+
+impl Entry for u8 {}
+impl Entry for u16 {}
+impl Entry for u32 {}
+impl Entry for u64 {}
+
+/// What a call must leave in a lent buffer.
+#[derive(Clone, Copy, Debug)]
+pub enum Left<'a> {
+    /// What it held before.
+    Kept,
+    /// These numbers in front; the rest as before.
+    Front(&'a [u16]),
+    /// Zero everywhere.
+    Zero,
+}
+
+/// To compare with, block by block.
+const ZERO: &[u8] = &[0; 4_096];
+
+pub struct Lent {
+    name: &'static str,
+    /// Bytes of an entry.
+    width: usize,
+    memory: Memory,
+    /// What the memory held before, in words of 8 bytes.
+    pattern: Vec<u64>,
+    /// The lent part, in bytes.
+    start: usize,
+    end: usize,
+}
+
+fn bytes_of(words: &[u64]) -> &[u8] {
+    // SAFETY: any bytes are bytes.
+    unsafe { words.align_to().1 }
+}
+
+impl Lent {
+    pub fn new(name: &'static str, width: usize, memory: Memory) -> Lent {
+        Lent {
+            name,
+            width,
+            pattern: vec![0; memory.len().div_ceil(8)],
+            memory,
+            start: 0,
+            end: 0,
+        }
+    }
+
+    /// How many entries there are to lend.
+    pub fn room(&self) -> usize {
+        self.memory.len() / self.width
+    }
+
+    /// Fills the memory from a seed; no byte is zero.
+    pub fn fill(&mut self, seed: u64) {
+        for (number, word) in self.pattern.iter_mut().enumerate() {
+            let mixed = seed
+                .wrapping_add(number as u64)
+                .wrapping_mul(0x9E37_79B9_7F4A_7C15);
+            *word = mixed | 0x0101_0101_0101_0101;
+        }
+        let bytes = bytes_of(&self.pattern);
+        let size = self.memory.len();
+        self.memory.copy_from_slice(&bytes[..size]);
+    }
+
+    /// What a part of the memory held before the call.
+    fn before(&self, first: usize, end: usize) -> &[u8] {
+        &bytes_of(&self.pattern)[first..end]
+    }
+
+    /// Which entries are lent from now on.
+    pub fn lend(&mut self, start: usize, length: usize) {
+        assert!(start + length <= self.room(), "{}: room", self.name);
+        self.start = start * self.width;
+        self.end = self.start + length * self.width;
+    }
+
+    pub fn slice<T: Entry>(&mut self) -> &mut [T] {
+        assert_eq!(size_of::<T>(), self.width);
+        let bytes = &mut self.memory[self.start..self.end];
+        // SAFETY: any bytes are entries. The memory begins at a multiple of
+        // 8, so that no byte is left out: `entries` are all of them.
+        let (none, entries, rest) = unsafe { bytes.align_to_mut() };
+        assert!(none.is_empty() && rest.is_empty());
+        entries
+    }
+
+    /// What is not as it must be.
+    pub fn check(&self, left: Left) -> Result<(), String> {
+        self.kept(0, self.start)?;
+        self.kept(self.end, self.memory.len())?;
+        match left {
+            Left::Kept => self.kept(self.start, self.end),
+            Left::Zero => self.cleared(),
+            Left::Front(numbers) => {
+                let front: Vec<u8> = numbers.iter().flat_map(|n| n.to_ne_bytes()).collect();
+                self.equal(self.start, &front, "not")?;
+                self.kept(self.start + front.len(), self.end)
+            }
+        }
+    }
+
+    fn kept(&self, first: usize, end: usize) -> Result<(), String> {
+        self.equal(first, self.before(first, end), "but it was")
+    }
+
+    fn cleared(&self) -> Result<(), String> {
+        for first in (self.start..self.end).step_by(ZERO.len()) {
+            let length = ZERO.len().min(self.end - first);
+            self.equal(first, &ZERO[..length], "not cleared to")?;
+        }
+        Ok(())
+    }
+
+    /// Whether the memory holds these bytes from a place on.
+    fn equal(&self, first: usize, expected: &[u8], how: &str) -> Result<(), String> {
+        let found = &self.memory[first..first + expected.len()];
+        if found == expected {
+            return Ok(());
+        }
+        let differs = |place: &usize| found[*place] != expected[*place];
+        let place = (0..found.len()).find(differs).unwrap() / self.width * self.width;
+        let number = |bytes: &[u8]| {
+            let mut number = [0; 8];
+            number[..self.width].copy_from_slice(&bytes[place..place + self.width]);
+            u64::from_le_bytes(number)
+        };
+        let (found, expected) = (number(found), number(expected));
+        let entry = self.entry(first + place);
+        Err(format!(
+            "{}: {entry} is {found}, {how} {expected}",
+            self.name
+        ))
+    }
+
+    /// The entry at a place in words.
+    fn entry(&self, place: usize) -> String {
+        if place < self.start {
+            format!(
+                "guard entry {} before it",
+                (self.start - place) / self.width
+            )
+        } else if place < self.end {
+            format!("entry {}", (place - self.start) / self.width)
+        } else {
+            format!(
+                "guard entry {} behind it",
+                (place - self.end) / self.width + 1
+            )
+        }
+    }
+
+    #[cfg(test)]
+    pub fn length(&self) -> usize {
+        (self.end - self.start) / self.width
+    }
+
+    #[cfg(test)]
+    pub fn bytes(&mut self) -> &mut [u8] {
+        &mut self.memory[self.start..self.end]
+    }
+
+    /// Changes the entry in front of the lent ones, as a faulty call would.
+    #[cfg(test)]
+    pub fn touch_before(&mut self) {
+        self.memory[self.start - 1] = 0;
+    }
+
+    /// Changes the entry behind the lent ones, as a faulty call would.
+    #[cfg(test)]
+    pub fn touch_behind(&mut self) {
+        self.memory[self.end] = 0;
+    }
+}

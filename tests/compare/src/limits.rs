@@ -1,0 +1,98 @@
+//! Cases at the limits that the scope document names, with the outcome that
+//! it states for one of the calls.
+
+use crate::calls::Call;
+use crate::tally::Outcome::{self, Graph, Pairs, Refusal, Yes};
+use second::encode::{encode, join};
+use second::generate::{pairs_pack, product_pack, sample};
+use second::pack::{CONTENTS, MAX_BYTES};
+
+pub struct Limit {
+    pub title: &'static str,
+    pub pack: Vec<u8>,
+    pub query: Vec<u8>,
+    pub call: Call,
+    pub outcome: Outcome,
+}
+
+pub fn limits() -> Vec<Limit> {
+    let mut limits = queries();
+    limits.extend(packs());
+    limits
+}
+
+fn queries() -> Vec<Limit> {
+    let cases = [
+        ("16 open brackets", nested(16, "family"), Yes),
+        ("17 open brackets", nested(17, "family"), Refusal(2)),
+        ("() in 15 brackets", nested(15, "()"), Yes),
+        ("() in 16 brackets", nested(16, "()"), Refusal(2)),
+        ("256 bytes", "name".to_string() + &"*".repeat(252), Yes),
+        (
+            "257 bytes",
+            "name".to_string() + &"*".repeat(253),
+            Refusal(2),
+        ),
+        ("a name of 16 letters", "a".repeat(16) + "|name", Yes),
+        ("a name of 17 letters", "a".repeat(17) + "|name", Refusal(2)),
+    ];
+    let limit = |(title, query, outcome): (_, String, _)| Limit {
+        title,
+        pack: encode(&sample()),
+        query: query.into_bytes(),
+        call: Call::YesNo,
+        outcome,
+    };
+    cases.into_iter().map(limit).collect()
+}
+
+/// Round and square brackets by turns, with a branch in each.
+fn nested(brackets: usize, inner: &str) -> String {
+    let pair = |number| {
+        if number % 2 == 0 {
+            ('(', ')')
+        } else {
+            ('[', ']')
+        }
+    };
+    (0..brackets).fold(inner.to_string(), |query, number| {
+        let (open, close) = pair(number);
+        format!("{open}lead|{query}{close}")
+    })
+}
+
+fn packs() -> Vec<Limit> {
+    let limit = |title, pack, query: &[u8], call, outcome| Limit {
+        title,
+        pack,
+        query: query.to_vec(),
+        call,
+        outcome,
+    };
+    let build = |title, pack, outcome| limit(title, pack, b"_", Call::Build, outcome);
+    let pairs = |title, extra, outcome| {
+        let pack = encode(&pairs_pack(64, 64, extra));
+        limit(title, pack, b"p/q|r", Call::Pairs, outcome)
+    };
+    let core = |total, extra, triples| encode(&product_pack(16, total, extra, triples));
+    vec![
+        build("512 IRI nodes", core(512, 0, false), Graph),
+        build("513 IRI nodes", core(512, 1, false), Refusal(9)),
+        build("1,024 triples", core(1_024, 0, true), Graph),
+        build("1,025 triples", core(1_024, 1, true), Refusal(9)),
+        build("no byte", Vec::new(), Refusal(3)),
+        build("35 zero bytes", vec![0; 35], Refusal(3)),
+        build("36 zero bytes", vec![0; 36], Graph),
+        build("65,536 bytes", of_size(MAX_BYTES), Refusal(4)),
+        build("65,537 bytes", of_size(MAX_BYTES + 1), Refusal(3)),
+        pairs("4,096 pairs", 0, Pairs),
+        pairs("4,097 pairs", 1, Refusal(12)),
+    ]
+}
+
+/// A pack of empty values only, too many of them.
+fn of_size(bytes: usize) -> Vec<u8> {
+    let mut bodies: [Vec<u8>; 9] = Default::default();
+    bodies[0] = vec![0; bytes - CONTENTS];
+    join(&bodies)
+}

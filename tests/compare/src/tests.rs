@@ -1,0 +1,355 @@
+//! That the comparison passes what is right, and notices each fault.
+
+use crate::buffers::*;
+use crate::calls::{Answer, Call, Calls, Given, Input};
+use crate::driver::{Case, Driver};
+use crate::limits::limits;
+use crate::model::{Faulty, Model};
+use crate::tally::{outcomes, Tally};
+use second::encode::encode;
+use second::generate::{case, sample};
+use second::records::row;
+use second::vectors::answers;
+
+/// A pack that build takes, and one that it refuses by 10.
+fn taken() -> Vec<u8> {
+    encode(&sample())
+}
+
+fn clashing() -> Vec<u8> {
+    let mut pack = sample();
+    pack.dependencies.clear();
+    pack.rows.push(row(0, &[0, 2]));
+    encode(&pack)
+}
+
+fn compare(calls: impl Calls, pack: &[u8]) -> Result<(), String> {
+    let input = Input {
+        pack,
+        query: b"name",
+        text: b"sty:r1",
+    };
+    let answers = &answers(input.pack, input.query, input.text);
+    Driver::new(calls).case(7, Case { input, answers })
+}
+
+/// What is said of a fault in the answers to a pack.
+fn said(pack: &[u8], fault: impl FnMut(Call, &mut Answer, &mut Buffers)) -> String {
+    compare(Faulty(fault), pack).expect_err("a difference")
+}
+
+#[test]
+fn the_lengths_are_those_of_the_wrapper() {
+    let states = ciravehy::STATES;
+    let lengths = [
+        ciravehy::NODE_LIST_LENGTH,
+        ciravehy::TRIPLE_LIST_LENGTH,
+        ciravehy::PAIR_LIST_LENGTH,
+        ciravehy::ROWS_LENGTH,
+        ciravehy::HEADS_LENGTH,
+        states,
+        states,
+        states,
+    ];
+    assert_eq!(NEEDED, lengths);
+}
+
+#[test]
+fn right_answers_pass() {
+    for seed in 0..60 {
+        let case = case(seed);
+        let input = Input {
+            pack: &case.pack,
+            query: &case.query,
+            text: &case.text,
+        };
+        let answers = &answers(input.pack, input.query, input.text);
+        let mut driver = Driver::new(Model);
+        assert_eq!(driver.case(seed, Case { input, answers }), Ok(()));
+        // Three calls on whole buffers, and one for each short buffer.
+        assert_eq!(driver.tally.total(), 4 * 3 + 4 + 6 + 8);
+    }
+    assert_eq!(compare(Model, &taken()), Ok(()));
+    assert_eq!(compare(Model, &clashing()), Ok(()));
+}
+
+#[test]
+fn a_wrong_count_is_noticed() {
+    let said = said(&taken(), |_, answer, _| {
+        if let Ok(Given::Graph(counts)) = answer {
+            counts.triples += 1;
+        }
+    });
+    assert!(said.starts_with("build, exact lengths: it gives"), "{said}");
+}
+
+#[test]
+fn a_wrong_answer_is_noticed() {
+    let no = said(&taken(), |_, answer, _| {
+        if let Ok(Given::Truth(yes, _)) = answer {
+            *yes = false;
+        }
+    });
+    assert!(no.starts_with("yes/no, exact lengths: it gives"), "{no}");
+    let count = said(&taken(), |_, answer, _| {
+        if let Ok(Given::Pairs(count, _)) = answer {
+            *count = 0;
+        }
+    });
+    assert!(
+        count.starts_with("pairs, exact lengths: it gives"),
+        "{count}"
+    );
+    let term = said(&taken(), |_, answer, _| {
+        if let Ok(Given::Term(term)) = answer {
+            term.values[3] = 0;
+        }
+    });
+    assert!(
+        term.starts_with("read-back, exact lengths: it gives"),
+        "{term}"
+    );
+}
+
+#[test]
+fn a_refusal_or_another_one_is_noticed() {
+    let refuse = |number| {
+        move |_: Call, answer: &mut Answer, _: &mut Buffers| {
+            *answer = Err(ciravehy::Refusal {
+                number,
+                clash: None,
+            })
+        }
+    };
+    for pack in [taken(), clashing()] {
+        for number in 1..=13 {
+            assert!(compare(Faulty(refuse(number)), &pack).is_err());
+        }
+    }
+}
+
+#[test]
+fn a_changed_list_is_noticed() {
+    for (buffer, call) in [(NODES, "build"), (TRIPLES, "build"), (PAIRS, "pairs")] {
+        let front = said(&taken(), |_, answer, buffers| {
+            if answer.is_ok() && buffers.lent[buffer].length() > 0 {
+                buffers.lent[buffer].slice::<u16>()[1] ^= 1;
+            }
+        });
+        let entry = format!("{call}, exact lengths: {}: entry 1 is ", NAMES[buffer]);
+        assert!(front.starts_with(&entry), "{front}");
+        let last = said(&taken(), |_, answer, buffers| {
+            if answer.is_ok() {
+                *buffers.lent[buffer].slice::<u16>().last_mut().unwrap() ^= 1;
+            }
+        });
+        let entry = format!("{}: entry {} is ", NAMES[buffer], NEEDED[buffer] - 1);
+        assert!(last.contains(&entry), "{last}");
+        let refused = said(&clashing(), |_, _, buffers| {
+            if let Some(first) = buffers.lent[buffer].slice::<u16>().first_mut() {
+                *first ^= 1;
+            }
+        });
+        assert!(refused.contains(": entry 0 is "), "{refused}");
+    }
+}
+
+#[test]
+fn a_buffer_that_is_not_cleared_is_noticed() {
+    for buffer in [ROWS, HEADS, ALIVE, QUEUE, SEEN] {
+        for pack in [taken(), clashing()] {
+            let said = said(&pack, |_, _, buffers| {
+                if let Some(last) = buffers.lent[buffer].bytes().last_mut() {
+                    *last = 7;
+                }
+            });
+            let entry = format!("{}: entry {} is ", NAMES[buffer], NEEDED[buffer] - 1);
+            assert!(said.contains(&entry), "{said}");
+            assert!(said.contains("not cleared"), "{said}");
+        }
+    }
+}
+
+#[test]
+fn a_longer_buffer_that_is_not_all_cleared_is_noticed() {
+    let said = said(&taken(), |_, _, buffers| {
+        if buffers.lent[HEADS].length() > NEEDED[HEADS] {
+            buffers.lent[HEADS].slice::<u64>()[NEEDED[HEADS]] = 9;
+        }
+    });
+    assert!(
+        said.contains("heads: entry 32768 is 9, not cleared"),
+        "{said}"
+    );
+}
+
+#[test]
+fn a_touched_guard_entry_is_noticed() {
+    for (buffer, name) in NAMES.into_iter().enumerate() {
+        let before = said(&taken(), |call, _, buffers| {
+            if lent_to(call).contains(&buffer) {
+                buffers.lent[buffer].touch_before();
+            }
+        });
+        let guard = format!("{name}: guard entry 1 before it is ");
+        assert!(before.contains(&guard), "{before}");
+        let behind = said(&clashing(), |call, _, buffers| {
+            if lent_to(call).contains(&buffer) {
+                buffers.lent[buffer].touch_behind();
+            }
+        });
+        let guard = format!("{name}: guard entry 1 behind it is ");
+        assert!(behind.contains(&guard), "{behind}");
+    }
+}
+
+#[test]
+fn a_buffer_touched_after_1_is_noticed() {
+    for (buffer, name) in NAMES.into_iter().enumerate() {
+        let said = said(&taken(), |call, answer, buffers| {
+            let refused = matches!(answer, Err(refusal) if refusal.number == 1);
+            if refused && lent_to(call).contains(&buffer) {
+                buffers.lent[buffer].bytes().fill(0);
+            }
+        });
+        let entry = format!("{name}: entry 0 is 0, but it was ");
+        assert!(said.contains(&entry), "{said}");
+    }
+}
+
+#[test]
+fn a_short_buffer_that_is_taken_is_noticed() {
+    let answers = &answers(&taken(), b"name", b"");
+    for (buffer, needed) in NEEDED.into_iter().enumerate() {
+        let said = said(&taken(), |call, answer, buffers| {
+            let short = buffers.lent[buffer].length() < needed;
+            if short && lent_to(call).contains(&buffer) {
+                let (_, graph) = answers.yes_no.as_ref().unwrap();
+                *answer = Ok(Given::Graph(ciravehy::Counts {
+                    nodes: graph.nodes.len(),
+                    triples: graph.triples.len(),
+                }));
+            }
+        });
+        assert!(said.contains("lengths: it gives Ok(Graph"), "{said}");
+        assert!(said.ends_with(", not 1"), "{said}");
+    }
+}
+
+#[test]
+fn a_wrong_clash_is_noticed() {
+    let shown = |change: fn(&mut ciravehy::Clash)| {
+        said(&clashing(), move |_, answer, _| {
+            if let Err(ciravehy::Refusal {
+                clash: Some(clash), ..
+            }) = answer
+            {
+                change(clash);
+            }
+        })
+    };
+    let same = shown(|clash| clash.objects[1] = clash.objects[0]);
+    let subject = shown(|clash| clash.subject[2] ^= 2);
+    let predicate = shown(|clash| clash.predicate += 1);
+    let object = shown(|clash| clash.objects[0][1] = 0);
+    let none = said(&clashing(), |_, answer, _| {
+        if let Err(refusal) = answer {
+            refusal.clash = None;
+        }
+    });
+    for said in [same, subject, predicate, object, none] {
+        assert!(
+            said.starts_with("build, exact lengths: the clash is"),
+            "{said}"
+        );
+    }
+}
+
+#[test]
+fn a_clash_with_another_refusal_is_noticed() {
+    let mut pack = sample();
+    pack.rows.push(row(0, &[0, 2]));
+    let said = said(&encode(&pack), |_, answer, _| {
+        if let Err(refusal) = answer {
+            refusal.clash = Some(ciravehy::Clash {
+                subject: [0; 7],
+                predicate: 0,
+                objects: [[0; 7], [1; 7]],
+            });
+        }
+    });
+    assert!(said.contains("the clash is"), "{said}");
+}
+
+#[test]
+fn another_answer_the_second_time_is_noticed() {
+    // Both orders of the objects are right, but not one and then the other.
+    let mut calls = 0;
+    let said = said(&clashing(), |_, answer, _| {
+        if let Err(ciravehy::Refusal {
+            clash: Some(clash), ..
+        }) = answer
+        {
+            calls += 1;
+            if calls == 3 {
+                clash.objects.swap(0, 1);
+            }
+        }
+    });
+    assert!(said.starts_with("build: first"), "{said}");
+}
+
+#[test]
+fn an_outcome_that_never_occurs_is_missing() {
+    let mut tally = Tally::default();
+    let all: Vec<_> = Call::ALL
+        .into_iter()
+        .flat_map(|call| {
+            outcomes(call)
+                .into_iter()
+                .map(move |outcome| (call, outcome))
+        })
+        .collect();
+    assert_eq!(tally.missing(), all);
+    for (number, (call, outcome)) in all.iter().enumerate() {
+        tally.add(*call, *outcome);
+        assert_eq!(tally.missing(), all[number + 1..]);
+    }
+}
+
+#[test]
+fn the_limits_have_the_stated_outcomes() {
+    let mut driver = Driver::new(Model);
+    for limit in limits() {
+        let input = Input {
+            pack: &limit.pack,
+            query: &limit.query,
+            text: b"",
+        };
+        let found = driver.outcome(limit.call, input);
+        assert_eq!(found, limit.outcome, "{}", limit.title);
+    }
+}
+
+#[test]
+fn what_certain_prints_is_read_from_the_lists() {
+    fn input<'a>(pack: &'a [u8], query: &'a [u8]) -> Input<'a> {
+        Input {
+            pack,
+            query,
+            text: b"",
+        }
+    }
+    let mut driver = Driver::new(Model);
+    let found = driver.certain(input(&taken(), b"[family/lead]/name"));
+    assert_eq!(found, "certain yes\npairs 1\n<sty:r1> \"Roman\"\n");
+    let found = driver.certain(input(&clashing(), b"name"));
+    assert_eq!(found, "refused 10\n");
+    let mut driver = Driver::new(Faulty(|call, _: &mut _, buffers: &mut Buffers| {
+        if call == Call::Pairs {
+            buffers.lent[PAIRS].slice::<u16>()[1] = 0;
+        }
+    }));
+    let found = driver.certain(input(&taken(), b"name"));
+    assert_eq!(found, "certain yes\npairs 1\n<sty:r1> <sty:r1>\n");
+}
