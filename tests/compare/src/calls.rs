@@ -35,6 +35,12 @@ pub struct Input<'a> {
     pub text: &'a [u8],
 }
 
+impl<'a> Input<'a> {
+    pub fn new(pack: &'a [u8], query: &'a [u8], text: &'a [u8]) -> Input<'a> {
+        Input { pack, query, text }
+    }
+}
+
 /// What a call gives where it does not refuse.
 #[derive(Clone, Debug, PartialEq, Eq)]
 pub enum Given {

@@ -4,7 +4,7 @@
 use crate::buffers::{is_short, is_working, lent_to, Buffers, Lengths};
 use crate::calls::{Answer, Call, Given};
 use crate::lent::Left;
-use crate::tally::Outcome;
+use crate::tally::{outcomes, Outcome};
 use ciravehy::{Clash, Counts, Term};
 use second::vectors::Answers;
 use second::{Graph, Refusal};
@@ -78,10 +78,14 @@ impl Expected {
     /// what differs.
     pub fn check(&self, call: Call, answer: &Answer, buffers: &Buffers) -> Result<Outcome, String> {
         self.check_answer(answer)?;
+        let outcome = Outcome::of(answer);
+        if !outcomes(call).contains(&outcome) {
+            return Err(format!("{outcome} is no outcome of this call"));
+        }
         for &buffer in lent_to(call) {
             buffers.lent[buffer].check(self.left(buffer))?;
         }
-        Ok(Outcome::of(answer))
+        Ok(outcome)
     }
 
     fn check_answer(&self, answer: &Answer) -> Result<(), String> {

@@ -3,6 +3,7 @@
 pub mod buffers;
 pub mod calls;
 pub mod check;
+pub mod command;
 pub mod driver;
 pub mod inputs;
 pub mod lent;

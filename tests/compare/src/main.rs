@@ -1,15 +1,16 @@
-//! Compares the proved calls with the second program on random cases, and
-//! with the written cases of `tests/vectors`.
+//! Compares the proved calls with the second program on random cases and on
+//! cases at limits, and with the written cases of `tests/vectors`.
 //!
 //! Arguments: how many random cases and the first seed, or `one` and a
 //! seed. Ends with a failure if anything differs, or if some outcome of
 //! some call never occurred among the random cases.
 
 use compare::calls::{Input, Proved};
+use compare::command::{arguments, ended, Arguments};
 use compare::driver::{Case, Driver};
-use compare::limits::{limits, Limit};
+use compare::limits::limits;
 use second::generate;
-use second::vectors::{answers, read_directory, read_file, Answers};
+use second::vectors::{answers, read_directory, read_file};
 use std::path::Path;
 use std::process::ExitCode;
 use std::time::Instant;
@@ -22,26 +23,16 @@ const COUNT: u64 = 6_000;
 const WRITTEN: &str = concat!(env!("CARGO_MANIFEST_DIR"), "/../vectors");
 
 fn main() -> ExitCode {
-    let arguments: Vec<String> = std::env::args().skip(1).collect();
-    let one = arguments.first().is_some_and(|word| word == "one");
-    let numbers: Option<Vec<u64>> = arguments[usize::from(one)..]
-        .iter()
-        .map(|argument| argument.parse().ok())
-        .collect();
-    let result = match (one, numbers.as_deref()) {
-        (true, Some(&[seed])) => show_one(seed),
-        (false, Some(&[])) => compare_all(COUNT, 0),
-        (false, Some(&[count])) => compare_all(count, 0),
-        (false, Some(&[count, first])) => compare_all(count, first),
-        _ => Err(USAGE.to_string()),
-    };
-    match result {
-        Ok(()) => ExitCode::SUCCESS,
-        Err(message) => {
-            println!("{message}");
-            ExitCode::FAILURE
-        }
-    }
+    ended(match arguments() {
+        Some(Arguments::One(seed)) => show_one(seed),
+        Some(Arguments::Numbers(numbers)) => match numbers[..] {
+            [] => compare_all(COUNT, 0),
+            [count] => compare_all(count, 0),
+            [count, first] => compare_all(count, first),
+            _ => Err(USAGE.to_string()),
+        },
+        None => Err(USAGE.to_string()),
+    })
 }
 
 fn compare_all(count: u64, first: u64) -> Result<(), String> {
@@ -57,34 +48,30 @@ fn compare_all(count: u64, first: u64) -> Result<(), String> {
     for seed in first..first + count {
         compare_seed(&mut driver, seed)?;
     }
+    let tally = &driver.tally;
     println!("{count} random cases agree, seeds from {first}");
-    println!(
-        "{} calls, by outcome:\n{}",
-        driver.tally.total(),
-        driver.tally
-    );
+    println!("{} calls, by outcome:\n{tally}", tally.total());
     println!("{} seconds", started.elapsed().as_secs());
-    let missing = driver.tally.missing();
-    if missing.is_empty() {
-        return Ok(());
-    }
-    let named = missing
+    let missing: Vec<String> = tally
+        .missing()
         .iter()
-        .map(|(call, outcome)| format!("{call} {outcome}"));
-    let named: Vec<String> = named.collect();
-    Err(format!("never occurred: {}", named.join(", ")))
+        .map(|(call, outcome)| format!("{call} {outcome}"))
+        .collect();
+    if missing.is_empty() {
+        Ok(())
+    } else {
+        Err(format!("never occurred: {}", missing.join(", ")))
+    }
 }
 
 /// The cases of a third program.
 fn compare_written(driver: &mut Driver<Proved>) -> Result<usize, String> {
     let cases = read_file(&Path::new(WRITTEN).join("cases.txt"));
-    for (number, written) in cases.iter().enumerate() {
-        let input = Input {
-            pack: &written.pack,
-            query: &written.query,
-            text: &written.text,
-        };
-        compare_one(driver, number as u64, input, &written.answers)
+    for (seed, written) in (0..).zip(&cases) {
+        let input = Input::new(&written.pack, &written.query, &written.text);
+        let answers = &written.answers;
+        driver
+            .case(seed, Case { input, answers })
             .map_err(|what| format!("difference in cases.txt, {}: {what}", written.title))?;
     }
     Ok(cases.len())
@@ -93,22 +80,16 @@ fn compare_written(driver: &mut Driver<Proved>) -> Result<usize, String> {
 /// Hard cases: the second program's answers, and what is printed.
 fn compare_printed(driver: &mut Driver<Proved>) -> Result<usize, String> {
     let cases = read_directory(&Path::new(WRITTEN).join("adversarial"));
-    for (number, printed) in cases.iter().enumerate() {
-        let input = Input {
-            pack: &printed.pack,
-            query: &printed.query,
-            text: b"",
-        };
-        let answers = answers(input.pack, input.query, input.text);
-        compare_one(driver, number as u64, input, &answers)
-            .map_err(|what| format!("difference in {}: {what}", printed.title))?;
-        let found = driver.certain(input);
-        if found != printed.certain {
-            let expected = &printed.certain;
-            let title = &printed.title;
-            return Err(format!(
-                "difference in {title}: prints {found}, not {expected}"
-            ));
+    for (seed, printed) in (0..).zip(&cases) {
+        let title = &printed.title;
+        let input = Input::new(&printed.pack, &printed.query, b"");
+        let answers = &answers(input.pack, input.query, input.text);
+        driver
+            .case(seed, Case { input, answers })
+            .map_err(|what| format!("difference in {title}: {what}"))?;
+        let (found, expected) = (driver.certain(input), &printed.certain);
+        if found != *expected {
+            return Err(format!("{title}: it prints {found}not {expected}"));
         }
     }
     Ok(cases.len())
@@ -117,21 +98,17 @@ fn compare_printed(driver: &mut Driver<Proved>) -> Result<usize, String> {
 /// Cases at limits: the second program's answers, and the stated outcome.
 fn compare_limits(driver: &mut Driver<Proved>) -> Result<usize, String> {
     let cases = limits();
-    for (number, limit) in cases.iter().enumerate() {
-        let Limit { title, call, .. } = limit;
-        let input = Input {
-            pack: &limit.pack,
-            query: &limit.query,
-            text: b"",
-        };
-        let answers = answers(input.pack, input.query, input.text);
-        compare_one(driver, number as u64, input, &answers)
-            .map_err(|what| format!("difference in the case \"{title}\": {what}"))?;
-        let found = driver.outcome(*call, input);
-        if found != limit.outcome {
-            let stated = limit.outcome;
+    for (seed, limit) in (0..).zip(&cases) {
+        let (title, call, stated) = (limit.title, limit.call, limit.outcome);
+        let input = Input::new(&limit.pack, &limit.query, b"");
+        let answers = &answers(input.pack, input.query, input.text);
+        driver
+            .case(seed, Case { input, answers })
+            .map_err(|what| format!("difference at the limit \"{title}\": {what}"))?;
+        let found = driver.outcome(call, input);
+        if found != stated {
             return Err(format!(
-                "the case \"{title}\": {call} is {found}, not {stated}"
+                "the limit \"{title}\": {call} is {found}, not {stated}"
             ));
         }
     }
@@ -140,29 +117,12 @@ fn compare_limits(driver: &mut Driver<Proved>) -> Result<usize, String> {
 
 fn compare_seed(driver: &mut Driver<Proved>, seed: u64) -> Result<(), String> {
     let case = generate::case(seed);
-    let input = input(&case);
-    let answers = answers(input.pack, input.query, input.text);
-    compare_one(driver, seed, input, &answers).map_err(|what| {
-        let family = case.family;
-        format!("difference at seed {seed}, a pack of the family \"{family}\": {what}\nto see it again: compare one {seed}")
+    let input = Input::new(&case.pack, &case.query, &case.text);
+    let answers = &answers(input.pack, input.query, input.text);
+    driver.case(seed, Case { input, answers }).map_err(|what| {
+        let title = format!("seed {seed}, a pack of the family \"{}\"", case.family);
+        format!("difference at {title}: {what}\nto see it again: compare one {seed}")
     })
-}
-
-fn compare_one(
-    driver: &mut Driver<Proved>,
-    seed: u64,
-    input: Input,
-    answers: &Answers,
-) -> Result<(), String> {
-    driver.case(seed, Case { input, answers })
-}
-
-fn input(case: &generate::Case) -> Input<'_> {
-    Input {
-        pack: &case.pack,
-        query: &case.query,
-        text: &case.text,
-    }
 }
 
 /// Shows one case and the second program's answers, and compares it.

@@ -24,11 +24,7 @@ fn clashing() -> Vec<u8> {
 }
 
 fn compare(calls: impl Calls, pack: &[u8]) -> Result<(), String> {
-    let input = Input {
-        pack,
-        query: b"name",
-        text: b"sty:r1",
-    };
+    let input = Input::new(pack, b"name", b"sty:r1");
     let answers = &answers(input.pack, input.query, input.text);
     Driver::new(calls).case(7, Case { input, answers })
 }
@@ -58,11 +54,7 @@ fn the_lengths_are_those_of_the_wrapper() {
 fn right_answers_pass() {
     for seed in 0..60 {
         let case = case(seed);
-        let input = Input {
-            pack: &case.pack,
-            query: &case.query,
-            text: &case.text,
-        };
+        let input = Input::new(&case.pack, &case.query, &case.text);
         let answers = &answers(input.pack, input.query, input.text);
         let mut driver = Driver::new(Model);
         assert_eq!(driver.case(seed, Case { input, answers }), Ok(()));
@@ -126,6 +118,27 @@ fn a_refusal_or_another_one_is_noticed() {
             assert!(compare(Faulty(refuse(number)), &pack).is_err());
         }
     }
+}
+
+#[test]
+fn an_outcome_of_another_call_is_noticed() {
+    // Even if the second program said so too.
+    let pack = taken();
+    let input = Input::new(&pack, b"name", b"sty:r1");
+    let mut answers = answers(input.pack, input.query, input.text);
+    answers.build = Err(second::Refusal::new(12));
+    let mut driver = Driver::new(Faulty(|_, answer: &mut Answer, _: &mut Buffers| {
+        *answer = Err(ciravehy::Refusal {
+            number: 12,
+            clash: None,
+        })
+    }));
+    let answers = &answers;
+    let said = driver.case(1, Case { input, answers }).unwrap_err();
+    assert!(
+        said.ends_with("refusal 12 is no outcome of this call"),
+        "{said}"
+    );
 }
 
 #[test]
@@ -321,11 +334,7 @@ fn an_outcome_that_never_occurs_is_missing() {
 fn the_limits_have_the_stated_outcomes() {
     let mut driver = Driver::new(Model);
     for limit in limits() {
-        let input = Input {
-            pack: &limit.pack,
-            query: &limit.query,
-            text: b"",
-        };
+        let input = Input::new(&limit.pack, &limit.query, b"");
         let found = driver.outcome(limit.call, input);
         assert_eq!(found, limit.outcome, "{}", limit.title);
     }
@@ -333,23 +342,16 @@ fn the_limits_have_the_stated_outcomes() {
 
 #[test]
 fn what_certain_prints_is_read_from_the_lists() {
-    fn input<'a>(pack: &'a [u8], query: &'a [u8]) -> Input<'a> {
-        Input {
-            pack,
-            query,
-            text: b"",
-        }
-    }
     let mut driver = Driver::new(Model);
-    let found = driver.certain(input(&taken(), b"[family/lead]/name"));
+    let found = driver.certain(Input::new(&taken(), b"[family/lead]/name", b""));
     assert_eq!(found, "certain yes\npairs 1\n<sty:r1> \"Roman\"\n");
-    let found = driver.certain(input(&clashing(), b"name"));
+    let found = driver.certain(Input::new(&clashing(), b"name", b""));
     assert_eq!(found, "refused 10\n");
     let mut driver = Driver::new(Faulty(|call, _: &mut _, buffers: &mut Buffers| {
         if call == Call::Pairs {
             buffers.lent[PAIRS].slice::<u16>()[1] = 0;
         }
     }));
-    let found = driver.certain(input(&taken(), b"name"));
+    let found = driver.certain(Input::new(&taken(), b"name", b""));
     assert_eq!(found, "certain yes\npairs 1\n<sty:r1> <sty:r1>\n");
 }

@@ -8,6 +8,7 @@
 
 use compare::buffers::{longer, shorter, Buffers, Lengths, Place, COUNT, NEEDED};
 use compare::calls::{Call, Proved};
+use compare::command::{arguments, ended, Arguments};
 use compare::driver::{Case, Driver};
 use compare::inputs::{inputs, Inputs, Room};
 use second::generate::Random;
@@ -21,25 +22,15 @@ const USAGE: &str = "usage: fuzz SECONDS [FIRST-SEED], or: fuzz one SEED";
 
 fn main() -> ExitCode {
     report_stops();
-    let arguments: Vec<String> = std::env::args().skip(1).collect();
-    let one = arguments.first().is_some_and(|word| word == "one");
-    let numbers: Option<Vec<u64>> = arguments[usize::from(one)..]
-        .iter()
-        .map(|argument| argument.parse().ok())
-        .collect();
-    let result = match (one, numbers.as_deref()) {
-        (true, Some(&[seed])) => fuzz(0, seed),
-        (false, Some(&[seconds])) => fuzz(seconds, 0),
-        (false, Some(&[seconds, first])) => fuzz(seconds, first),
-        _ => Err(USAGE.to_string()),
-    };
-    match result {
-        Ok(()) => ExitCode::SUCCESS,
-        Err(message) => {
-            println!("{message}");
-            ExitCode::FAILURE
-        }
-    }
+    ended(match arguments() {
+        Some(Arguments::One(seed)) => fuzz(0, seed),
+        Some(Arguments::Numbers(numbers)) => match numbers[..] {
+            [seconds] => fuzz(seconds, 0),
+            [seconds, first] => fuzz(seconds, first),
+            _ => Err(USAGE.to_string()),
+        },
+        None => Err(USAGE.to_string()),
+    })
 }
 
 /// At least one seed, and then as many as the time allows.
