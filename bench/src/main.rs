@@ -13,7 +13,7 @@ use std::time::{Duration, Instant};
 /// Each call is repeated so often, unless this time has passed before.
 const RUNS: usize = 200;
 const ENOUGH: Duration = Duration::from_millis(1_500);
-const LEAST_RUNS: usize = 3;
+const LEAST_RUNS: usize = 2;
 
 const PROGRAMS: [Program; 3] = [
     Program::Ours,
