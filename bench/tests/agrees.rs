@@ -1,7 +1,7 @@
 //! The ordinary program agrees with the second program, which is written from
 //! the definitions: so what the benchmark measures against is right.
 
-use bench::lent::Lent;
+use bench::lent::{Call, Lent, Program};
 use bench::ordinary::{self, Checks, Counts, Refused};
 use second::generate::{case, Case};
 use second::{Graph, Refusal};
@@ -133,5 +133,20 @@ fn the_ordinary_program_agrees_with_the_second() {
             check_pairs(checks, &case);
         });
         assert!(outcome.is_ok(), "seed {seed}, {}", case.family);
+    }
+}
+
+#[test]
+fn ours_agrees_with_the_ordinary_program() {
+    for seed in 0..4_000 {
+        let case = case(seed);
+        for call in [Call::Build, Call::YesNo, Call::Pairs] {
+            let (mut first, mut second) = (Lent::default(), Lent::default());
+            let ours = first.run(Program::Ours, call, &case.pack, &case.query);
+            let ordinary = Program::Ordinary(Checks::TwoByTwo);
+            let theirs = second.run(ordinary, call, &case.pack, &case.query);
+            assert_eq!(ours, theirs, "seed {seed}, {call:?}");
+            assert!(first.same_lists(&second), "seed {seed}, {call:?}");
+        }
     }
 }
