@@ -89,6 +89,14 @@ closed {P} {d₀} {d} {d′} a r e j = (reached-again a r .sound j, all)
 
 -- ---- what a core node leads to
 
+-- one that leads to nothing new as a set does not as a core node
+pub edge-free : {table : List (List ℕ)} (triples : List ℕ) (s : ℕ) {mask p : ℕ} {d : List ℕ} → MarksTargets table mask p d d → SeedShown table triples s mask p d d
+edge-free triples s {mask} {p} {d} m P h = record { marks = λ j. (inl, back j) }
+  where
+    back : (j : ℕ) → (getD d j 0 ≡ 1) ⊎ Lacks P triples s mask p j → getD d j 0 ≡ 1
+    back j (inl e) = e
+    back j (inr l) = m P h .marks j .1 (inr (l .leads))
+
 module _ (table : List (List ℕ)) (triples : List ℕ) (s mask p : ℕ) (has : Bool) (shown : T has ↔ HasOrigin triples (s * 16 + p)) where
   pub edge-there : has ≡ true → (d : List ℕ) → SeedShown table triples s mask p d d
   edge-there e d P h = marked-none d (λ j l. l .none (shown .0 (subst T (sym e) tt)))

@@ -1,6 +1,7 @@
 // The sets of the invented nodes, as flags by set number.
 ghost use lib.Dec.{T};
 ghost use lib.ListN.{length};
+ghost use mathlib.Core.Bool.{true};
 ghost use mathlib.Core.Logic.{_↔_};
 ghost use mathlib.Core.Path.{_≡_};
 ghost use Prim.Native.Nat.{_+_, _*_, _<_, _≤_};
@@ -8,7 +9,8 @@ ghost use Rattle.graph.specs.Input.{Placed, maxCoreNodes};
 ghost use Rattle.graph.specs.Invent.{maxSets, numberOf, maskOf, HasOrigin, Progress, MarksTargets, MarksAll, RoundShown, MarksFollowing, CloseShown, SeedShown, SeedNodeShown, SeedsShown, InventShown};
 ghost use Rattle.meaning.specs.Limits.{maxPredicates};
 ghost use Rattle.meaning.specs.Ordered.{InOrder};
-ghost use Rattle.shapes.specs.Shapes.{CodesFit};
+ghost use Rattle.meaning.specs.Pack.{requires as Requires};
+ghost use Rattle.shapes.specs.Shapes.{CodesFit, SomePasses};
 use meaning::MAX_PREDICATES;
 use sets::buffers::clear_u16;
 use sets::ordered::rank;
@@ -46,7 +48,20 @@ fn has_edge(triples: &[u64], subject: usize, p: usize) -> bool
     false
 }
 
-// Marks the p-targets of a set that requires p; says whether that is new.
+// Marks the p-targets of a set that is known to require p; says whether that is new.
+fn mark_set(shapes: [[u16; 12]; 8], mask: u16, p: usize, flags: &mut [u16]) -> bool
+    requires { ⌜ (p < maxPredicates) × (maxSets ≤ length (now flags)) × CodesFit shapes × SomePasses Requires shapes mask p true ⌝ }
+    ensures { λ r. ⌜ Progress r (now (flags .entry)) (now (flags .exit)) × MarksTargets shapes mask p (now (flags .entry)) (now (flags .exit)) ⌝ }
+{
+    let j = set_number(targets(shapes, mask, p));
+    if flags[j] == 1 {
+        return false;
+    }
+    flags[j] = 1;
+    true
+}
+
+// Marks the p-targets of a set if it requires p; says whether that is new.
 fn mark_targets(shapes: [[u16; 12]; 8], mask: u16, p: usize, flags: &mut [u16]) -> bool
     requires { ⌜ (p < maxPredicates) × (maxSets ≤ length (now flags)) × CodesFit shapes ⌝ }
     ensures { λ r. ⌜ Progress r (now (flags .entry)) (now (flags .exit)) × MarksTargets shapes mask p (now (flags .entry)) (now (flags .exit)) ⌝ }
@@ -54,12 +69,7 @@ fn mark_targets(shapes: [[u16; 12]; 8], mask: u16, p: usize, flags: &mut [u16]) 
     if !required(shapes, mask, p) {
         return false;
     }
-    let j = set_number(targets(shapes, mask, p));
-    if flags[j] == 1 {
-        return false;
-    }
-    flags[j] = 1;
-    true
+    mark_set(shapes, mask, p, flags)
 }
 
 // The same for every predicate.
@@ -128,10 +138,13 @@ fn seed_edge(
     requires { ⌜ InOrder _<_ (now triples) × (subject < maxCoreNodes) × (p < maxPredicates) × (maxSets ≤ length (now flags)) × CodesFit shapes ⌝ }
     ensures { λ _. ⌜ SeedShown shapes (now (triples .entry)) subject mask p (now (flags .entry)) (now (flags .exit)) ⌝ }
 {
+    if !required(shapes, mask, p) {
+        return;
+    }
     if has_edge(triples, subject, p) {
         return;
     }
-    mark_targets(shapes, mask, p, flags);
+    mark_set(shapes, mask, p, flags);
 }
 
 // The same for every predicate.
