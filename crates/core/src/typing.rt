@@ -59,9 +59,9 @@ fn mark_rules(
 }
 
 // Passes the subject's types along one triple; says whether that changed the object's.
-fn pass(shapes: [[u16; 12]; 8], key: u64, masks: &mut [u16]) -> bool
-    requires { ⌜ CodesFit shapes × Placed key × (maxNodes ≤ length (now masks)) ⌝ }
-    ensures { λ r. ⌜ PassedOnce shapes key (now (masks .entry)) (now (masks .exit)) × Progress r (now (masks .entry)) (now (masks .exit)) ⌝ }
+fn pass(shapes: &[[u16; 12]; 8], key: u64, masks: &mut [u16]) -> bool
+    requires { ⌜ CodesFit (now shapes) × Placed key × (maxNodes ≤ length (now masks)) ⌝ }
+    ensures { λ r. ⌜ PassedOnce (now (shapes .entry)) key (now (masks .entry)) (now (masks .exit)) × Progress r (now (masks .entry)) (now (masks .exit)) ⌝ }
 {
     let s = (key / SUBJECT_WEIGHT) as usize;
     let p = (key / PLACE_ROOM % PREDICATE_ROOM) as usize;
@@ -76,9 +76,9 @@ fn pass(shapes: [[u16; 12]; 8], key: u64, masks: &mut [u16]) -> bool
 }
 
 // Passes along every triple once; says whether anything changed.
-fn round(shapes: [[u16; 12]; 8], triples: &[u64], masks: &mut [u16]) -> bool
-    requires { ⌜ CodesFit shapes × AllPlaced (now triples) × (maxNodes ≤ length (now masks)) ⌝ }
-    ensures { λ r. ⌜ Round shapes (now (triples .entry)) r (now (masks .entry)) (now (masks .exit)) ⌝ }
+fn round(shapes: &[[u16; 12]; 8], triples: &[u64], masks: &mut [u16]) -> bool
+    requires { ⌜ CodesFit (now shapes) × AllPlaced (now triples) × (maxNodes ≤ length (now masks)) ⌝ }
+    ensures { λ r. ⌜ Round (now (shapes .entry)) (now (triples .entry)) r (now (masks .entry)) (now (masks .exit)) ⌝ }
 {
     let mut changed = false;
     for i in 0..triples.len() {
@@ -91,9 +91,9 @@ fn round(shapes: [[u16; 12]; 8], triples: &[u64], masks: &mut [u16]) -> bool
 }
 
 // Passes along the triples until a round adds nothing.
-fn spread(shapes: [[u16; 12]; 8], triples: &[u64], masks: &mut [u16])
-    requires { ⌜ CodesFit shapes × AllPlaced (now triples) × (maxNodes ≤ length (now masks)) ⌝ }
-    ensures { λ _. ⌜ SpreadFrom shapes (now (triples .entry)) (now (masks .entry)) (now (masks .exit)) ⌝ }
+fn spread(shapes: &[[u16; 12]; 8], triples: &[u64], masks: &mut [u16])
+    requires { ⌜ CodesFit (now shapes) × AllPlaced (now triples) × (maxNodes ≤ length (now masks)) ⌝ }
+    ensures { λ _. ⌜ SpreadFrom (now (shapes .entry)) (now (triples .entry)) (now (masks .entry)) (now (masks .exit)) ⌝ }
 {
     loop {
         let changed = round(shapes, triples, masks);
@@ -118,5 +118,5 @@ pub fn typing(
     ensures { λ _. ⌜ TypesAnswer shapes rules count (now (heads .entry)) counts (now (nodes .entry)) (now (triples .entry)) (now (masks .exit)) ⌝ }
 {
     mark_rules(rules, count, heads, counts, nodes, masks);
-    spread(shapes, triples, masks);
+    spread(&shapes, triples, masks);
 }

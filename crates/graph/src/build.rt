@@ -36,16 +36,16 @@ pub fn build(
     requires { ⌜ Placed (now nodes) (now triples) (now masks) × KeysSmall (now nodes) × CodesFit shapes × (maxSets ≤ length (now flags)) × (maxSets ≤ length (now places)) × (nodeListLength ≤ length (now records)) × (tripleListLength ≤ length (now edges)) ⌝ }
     ensures { λ r. ⌜ BuildShown shapes arities (now (nodes .entry)) (now (triples .entry)) (now (masks .entry)) (now (records .entry)) (now (records .exit)) (now (edges .entry)) (now (edges .exit)) r ⌝ }
 {
-    let found = find_clash(shapes, nodes, triples, masks);
+    let found = find_clash(&shapes, nodes, triples, masks);
     match found {
         Found::At(i) => return Built::Clash(i),
         Found::Nothing => {}
     }
-    invent(shapes, nodes, triples, masks, flags);
+    invent(&shapes, nodes, triples, masks, flags);
     if mixed(nodes, masks, flags) {
         return Built::Mixed;
     }
     let n = list_nodes(arities, nodes, masks, flags, places, records);
-    let t = list_triples(shapes, nodes, triples, masks, flags, places, edges);
+    let t = list_triples(&shapes, nodes, triples, masks, flags, places, edges);
     Built::Graph(n, t)
 }

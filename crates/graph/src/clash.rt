@@ -9,9 +9,9 @@ use sets::ordered::Found;
 use shapes::limited;
 
 // Looks for a clash in the order of the triples: the objects of a node and a predicate stand side by side.
-pub fn find_clash(shapes: [[u16; 12]; 8], nodes: &[u64], triples: &[u64], masks: &[u16]) -> Found
+pub fn find_clash(shapes: &[[u16; 12]; 8], nodes: &[u64], triples: &[u64], masks: &[u16]) -> Found
     requires { ⌜ Placed (now nodes) (now triples) (now masks) ⌝ }
-    ensures { λ r. ⌜ ClashShown shapes (now (nodes .entry)) (now (triples .entry)) (now (masks .entry)) r ⌝ }
+    ensures { λ r. ⌜ ClashShown (now (shapes .entry)) (now (nodes .entry)) (now (triples .entry)) (now (masks .entry)) r ⌝ }
 {
     for i in 1..triples.len() {
         let key = triples[i];

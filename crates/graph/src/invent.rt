@@ -49,9 +49,9 @@ fn has_edge(triples: &[u64], subject: usize, p: usize) -> bool
 }
 
 // Marks the p-targets of a set that is known to require p; says whether that is new.
-fn mark_set(shapes: [[u16; 12]; 8], mask: u16, p: usize, flags: &mut [u16]) -> bool
-    requires { ⌜ (p < maxPredicates) × (maxSets ≤ length (now flags)) × CodesFit shapes × SomePasses Requires shapes mask p true ⌝ }
-    ensures { λ r. ⌜ Progress r (now (flags .entry)) (now (flags .exit)) × MarksTargets shapes mask p (now (flags .entry)) (now (flags .exit)) ⌝ }
+fn mark_set(shapes: &[[u16; 12]; 8], mask: u16, p: usize, flags: &mut [u16]) -> bool
+    requires { ⌜ (p < maxPredicates) × (maxSets ≤ length (now flags)) × CodesFit (now shapes) × SomePasses Requires (now shapes) mask p true ⌝ }
+    ensures { λ r. ⌜ Progress r (now (flags .entry)) (now (flags .exit)) × MarksTargets (now (shapes .entry)) mask p (now (flags .entry)) (now (flags .exit)) ⌝ }
 {
     let j = set_number(targets(shapes, mask, p));
     if flags[j] == 1 {
@@ -62,9 +62,9 @@ fn mark_set(shapes: [[u16; 12]; 8], mask: u16, p: usize, flags: &mut [u16]) -> b
 }
 
 // Marks the p-targets of a set if it requires p; says whether that is new.
-fn mark_targets(shapes: [[u16; 12]; 8], mask: u16, p: usize, flags: &mut [u16]) -> bool
-    requires { ⌜ (p < maxPredicates) × (maxSets ≤ length (now flags)) × CodesFit shapes ⌝ }
-    ensures { λ r. ⌜ Progress r (now (flags .entry)) (now (flags .exit)) × MarksTargets shapes mask p (now (flags .entry)) (now (flags .exit)) ⌝ }
+fn mark_targets(shapes: &[[u16; 12]; 8], mask: u16, p: usize, flags: &mut [u16]) -> bool
+    requires { ⌜ (p < maxPredicates) × (maxSets ≤ length (now flags)) × CodesFit (now shapes) ⌝ }
+    ensures { λ r. ⌜ Progress r (now (flags .entry)) (now (flags .exit)) × MarksTargets (now (shapes .entry)) mask p (now (flags .entry)) (now (flags .exit)) ⌝ }
 {
     if !required(shapes, mask, p) {
         return false;
@@ -73,9 +73,9 @@ fn mark_targets(shapes: [[u16; 12]; 8], mask: u16, p: usize, flags: &mut [u16]) 
 }
 
 // The same for every predicate.
-fn mark_all(shapes: [[u16; 12]; 8], mask: u16, flags: &mut [u16]) -> bool
-    requires { ⌜ (maxSets ≤ length (now flags)) × CodesFit shapes ⌝ }
-    ensures { λ r. ⌜ Progress r (now (flags .entry)) (now (flags .exit)) × MarksAll shapes mask (now (flags .entry)) (now (flags .exit)) ⌝ }
+fn mark_all(shapes: &[[u16; 12]; 8], mask: u16, flags: &mut [u16]) -> bool
+    requires { ⌜ (maxSets ≤ length (now flags)) × CodesFit (now shapes) ⌝ }
+    ensures { λ r. ⌜ Progress r (now (flags .entry)) (now (flags .exit)) × MarksAll (now (shapes .entry)) mask (now (flags .entry)) (now (flags .exit)) ⌝ }
 {
     let mut changed = false;
     for p in 0..MAX_PREDICATES {
@@ -88,9 +88,9 @@ fn mark_all(shapes: [[u16; 12]; 8], mask: u16, flags: &mut [u16]) -> bool
 }
 
 // Marks what follows from a set, if it is marked; says whether that is new.
-fn mark_following(shapes: [[u16; 12]; 8], j: usize, flags: &mut [u16]) -> bool
-    requires { ⌜ (j < maxSets) × (maxSets ≤ length (now flags)) × CodesFit shapes ⌝ }
-    ensures { λ r. ⌜ Progress r (now (flags .entry)) (now (flags .exit)) × MarksFollowing shapes j (now (flags .entry)) (now (flags .exit)) ⌝ }
+fn mark_following(shapes: &[[u16; 12]; 8], j: usize, flags: &mut [u16]) -> bool
+    requires { ⌜ (j < maxSets) × (maxSets ≤ length (now flags)) × CodesFit (now shapes) ⌝ }
+    ensures { λ r. ⌜ Progress r (now (flags .entry)) (now (flags .exit)) × MarksFollowing (now (shapes .entry)) j (now (flags .entry)) (now (flags .exit)) ⌝ }
 {
     if flags[j] != 1 {
         return false;
@@ -99,9 +99,9 @@ fn mark_following(shapes: [[u16; 12]; 8], j: usize, flags: &mut [u16]) -> bool
 }
 
 // Marks what follows from each marked set; says whether anything is new.
-fn round(shapes: [[u16; 12]; 8], flags: &mut [u16]) -> bool
-    requires { ⌜ (maxSets ≤ length (now flags)) × CodesFit shapes ⌝ }
-    ensures { λ r. ⌜ Progress r (now (flags .entry)) (now (flags .exit)) × RoundShown shapes (now (flags .entry)) (now (flags .exit)) ⌝ }
+fn round(shapes: &[[u16; 12]; 8], flags: &mut [u16]) -> bool
+    requires { ⌜ (maxSets ≤ length (now flags)) × CodesFit (now shapes) ⌝ }
+    ensures { λ r. ⌜ Progress r (now (flags .entry)) (now (flags .exit)) × RoundShown (now (shapes .entry)) (now (flags .entry)) (now (flags .exit)) ⌝ }
 {
     let mut changed = false;
     for j in 0..MAX_SETS {
@@ -114,9 +114,9 @@ fn round(shapes: [[u16; 12]; 8], flags: &mut [u16]) -> bool
 }
 
 // Rounds until one adds nothing.
-fn close(shapes: [[u16; 12]; 8], flags: &mut [u16])
-    requires { ⌜ (maxSets ≤ length (now flags)) × CodesFit shapes ⌝ }
-    ensures { λ _. ⌜ CloseShown shapes (now (flags .entry)) (now (flags .exit)) ⌝ }
+fn close(shapes: &[[u16; 12]; 8], flags: &mut [u16])
+    requires { ⌜ (maxSets ≤ length (now flags)) × CodesFit (now shapes) ⌝ }
+    ensures { λ _. ⌜ CloseShown (now (shapes .entry)) (now (flags .entry)) (now (flags .exit)) ⌝ }
 {
     loop {
         let changed = round(shapes, flags);
@@ -128,15 +128,15 @@ fn close(shapes: [[u16; 12]; 8], flags: &mut [u16])
 
 // Marks the p-targets of a core node that requires p and has no p-edge.
 fn seed_edge(
-    shapes: [[u16; 12]; 8],
+    shapes: &[[u16; 12]; 8],
     triples: &[u64],
     subject: usize,
     mask: u16,
     p: usize,
     flags: &mut [u16],
 )
-    requires { ⌜ InOrder _<_ (now triples) × (subject < maxCoreNodes) × (p < maxPredicates) × (maxSets ≤ length (now flags)) × CodesFit shapes ⌝ }
-    ensures { λ _. ⌜ SeedShown shapes (now (triples .entry)) subject mask p (now (flags .entry)) (now (flags .exit)) ⌝ }
+    requires { ⌜ InOrder _<_ (now triples) × (subject < maxCoreNodes) × (p < maxPredicates) × (maxSets ≤ length (now flags)) × CodesFit (now shapes) ⌝ }
+    ensures { λ _. ⌜ SeedShown (now (shapes .entry)) (now (triples .entry)) subject mask p (now (flags .entry)) (now (flags .exit)) ⌝ }
 {
     if !required(shapes, mask, p) {
         return;
@@ -148,9 +148,9 @@ fn seed_edge(
 }
 
 // The same for every predicate.
-fn seed_node(shapes: [[u16; 12]; 8], triples: &[u64], subject: usize, mask: u16, flags: &mut [u16])
-    requires { ⌜ InOrder _<_ (now triples) × (subject < maxCoreNodes) × (maxSets ≤ length (now flags)) × CodesFit shapes ⌝ }
-    ensures { λ _. ⌜ SeedNodeShown shapes (now (triples .entry)) subject mask (now (flags .entry)) (now (flags .exit)) ⌝ }
+fn seed_node(shapes: &[[u16; 12]; 8], triples: &[u64], subject: usize, mask: u16, flags: &mut [u16])
+    requires { ⌜ InOrder _<_ (now triples) × (subject < maxCoreNodes) × (maxSets ≤ length (now flags)) × CodesFit (now shapes) ⌝ }
+    ensures { λ _. ⌜ SeedNodeShown (now (shapes .entry)) (now (triples .entry)) subject mask (now (flags .entry)) (now (flags .exit)) ⌝ }
 {
     for p in 0..MAX_PREDICATES {
         seed_edge(shapes, triples, subject, mask, p, flags);
@@ -158,9 +158,9 @@ fn seed_node(shapes: [[u16; 12]; 8], triples: &[u64], subject: usize, mask: u16,
 }
 
 // The same for every core node.
-fn seed(shapes: [[u16; 12]; 8], nodes: &[u64], triples: &[u64], masks: &[u16], flags: &mut [u16])
-    requires { ⌜ Placed (now nodes) (now triples) (now masks) × (maxSets ≤ length (now flags)) × CodesFit shapes ⌝ }
-    ensures { λ _. ⌜ SeedsShown shapes (now (nodes .entry)) (now (triples .entry)) (now (masks .entry)) (now (flags .entry)) (now (flags .exit)) ⌝ }
+fn seed(shapes: &[[u16; 12]; 8], nodes: &[u64], triples: &[u64], masks: &[u16], flags: &mut [u16])
+    requires { ⌜ Placed (now nodes) (now triples) (now masks) × (maxSets ≤ length (now flags)) × CodesFit (now shapes) ⌝ }
+    ensures { λ _. ⌜ SeedsShown (now (shapes .entry)) (now (nodes .entry)) (now (triples .entry)) (now (masks .entry)) (now (flags .entry)) (now (flags .exit)) ⌝ }
 {
     for s in 0..nodes.len() {
         seed_node(shapes, triples, s, masks[s], flags);
@@ -169,14 +169,14 @@ fn seed(shapes: [[u16; 12]; 8], nodes: &[u64], triples: &[u64], masks: &[u16], f
 
 // The sets of the invented nodes: what the core leads to, and what follows.
 pub fn invent(
-    shapes: [[u16; 12]; 8],
+    shapes: &[[u16; 12]; 8],
     nodes: &[u64],
     triples: &[u64],
     masks: &[u16],
     flags: &mut [u16],
 )
-    requires { ⌜ Placed (now nodes) (now triples) (now masks) × (maxSets ≤ length (now flags)) × CodesFit shapes ⌝ }
-    ensures { λ _. ⌜ InventShown shapes (now (nodes .entry)) (now (triples .entry)) (now (masks .entry)) (now (flags .exit)) ⌝ }
+    requires { ⌜ Placed (now nodes) (now triples) (now masks) × (maxSets ≤ length (now flags)) × CodesFit (now shapes) ⌝ }
+    ensures { λ _. ⌜ InventShown (now (shapes .entry)) (now (nodes .entry)) (now (triples .entry)) (now (masks .entry)) (now (flags .exit)) ⌝ }
 {
     clear_u16(flags);
     seed(shapes, nodes, triples, masks, flags);

@@ -50,7 +50,7 @@ fn list_edges(triples: &[u64], subject: usize, p: usize, first: usize, out: &mut
 
 // Writes the edges of a subject and a predicate: the core's, or else the one to the invented node of its p-targets.
 fn list_origin(
-    shapes: [[u16; 12]; 8],
+    shapes: &[[u16; 12]; 8],
     triples: &[u64],
     places: &[u16],
     subject: usize,
@@ -59,8 +59,8 @@ fn list_origin(
     first: usize,
     out: &mut [u16],
 ) -> usize
-    requires { ⌜ InOrder _<_ (now triples) × (maxSets ≤ length (now places)) × CodesFit shapes × (subject < 1024) × (p < maxPredicates) × (first + length (group (subject * 16 + p) (now triples)) + 1 ≤ maxTriples) × (tripleListLength ≤ length (now out)) ⌝ }
-    ensures { λ r. ⌜ Listed shapes (λ P. EdgeFrom P (now (triples .entry)) (now (places .entry)) subject mask p) first (now (out .entry)) (now (out .exit)) r × (r ≤ first + length (group (subject * 16 + p) (now (triples .entry))) + 1) ⌝ }
+    requires { ⌜ InOrder _<_ (now triples) × (maxSets ≤ length (now places)) × CodesFit (now shapes) × (subject < 1024) × (p < maxPredicates) × (first + length (group (subject * 16 + p) (now triples)) + 1 ≤ maxTriples) × (tripleListLength ≤ length (now out)) ⌝ }
+    ensures { λ r. ⌜ Listed (now (shapes .entry)) (λ P. EdgeFrom P (now (triples .entry)) (now (places .entry)) subject mask p) first (now (out .entry)) (now (out .exit)) r × (r ≤ first + length (group (subject * 16 + p) (now (triples .entry))) + 1) ⌝ }
 {
     let next = list_edges(triples, subject, p, first, out);
     if next != first {
@@ -76,7 +76,7 @@ fn list_origin(
 
 // The same for every predicate.
 fn list_subject(
-    shapes: [[u16; 12]; 8],
+    shapes: &[[u16; 12]; 8],
     triples: &[u64],
     places: &[u16],
     subject: usize,
@@ -84,8 +84,8 @@ fn list_subject(
     first: usize,
     out: &mut [u16],
 ) -> usize
-    requires { ⌜ InOrder _<_ (now triples) × (maxSets ≤ length (now places)) × CodesFit shapes × (subject < 1024) × (first + maxPredicates + keysBefore (subject * 16 + 16) (now triples) ≤ maxTriples + keysBefore (subject * 16) (now triples)) × (tripleListLength ≤ length (now out)) ⌝ }
-    ensures { λ r. ⌜ Listed shapes (λ P. SubjectEdge P (now (triples .entry)) (now (places .entry)) subject mask) first (now (out .entry)) (now (out .exit)) r × (r + keysBefore (subject * 16) (now (triples .entry)) ≤ first + maxPredicates + keysBefore (subject * 16 + 16) (now (triples .entry))) ⌝ }
+    requires { ⌜ InOrder _<_ (now triples) × (maxSets ≤ length (now places)) × CodesFit (now shapes) × (subject < 1024) × (first + maxPredicates + keysBefore (subject * 16 + 16) (now triples) ≤ maxTriples + keysBefore (subject * 16) (now triples)) × (tripleListLength ≤ length (now out)) ⌝ }
+    ensures { λ r. ⌜ Listed (now (shapes .entry)) (λ P. SubjectEdge P (now (triples .entry)) (now (places .entry)) subject mask) first (now (out .entry)) (now (out .exit)) r × (r + keysBefore (subject * 16) (now (triples .entry)) ≤ first + maxPredicates + keysBefore (subject * 16 + 16) (now (triples .entry))) ⌝ }
 {
     let mut next = first;
     for p in 0..MAX_PREDICATES {
@@ -96,15 +96,15 @@ fn list_subject(
 
 // Those of every IRI: literals come after all IRIs and have no edges.
 fn list_iris(
-    shapes: [[u16; 12]; 8],
+    shapes: &[[u16; 12]; 8],
     nodes: &[u64],
     triples: &[u64],
     masks: &[u16],
     places: &[u16],
     out: &mut [u16],
 ) -> usize
-    requires { ⌜ Placed (now nodes) (now triples) (now masks) × (maxSets ≤ length (now places)) × CodesFit shapes × (tripleListLength ≤ length (now out)) ⌝ }
-    ensures { λ r. ⌜ Listed shapes (IriEdge (now (nodes .entry)) (now (triples .entry)) (now (masks .entry)) (now (places .entry))) 0 (now (out .entry)) (now (out .exit)) r × (r ≤ maxCoreTriples + maxIris * maxPredicates) ⌝ }
+    requires { ⌜ Placed (now nodes) (now triples) (now masks) × (maxSets ≤ length (now places)) × CodesFit (now shapes) × (tripleListLength ≤ length (now out)) ⌝ }
+    ensures { λ r. ⌜ Listed (now (shapes .entry)) (IriEdge (now (nodes .entry)) (now (triples .entry)) (now (masks .entry)) (now (places .entry))) 0 (now (out .entry)) (now (out .exit)) r × (r ≤ maxCoreTriples + maxIris * maxPredicates) ⌝ }
 {
     let iris = rank(nodes, LITERALS);
     let mut next = 0;
@@ -116,7 +116,7 @@ fn list_iris(
 
 // Those of a set of types, if it is marked.
 fn list_set_edges(
-    shapes: [[u16; 12]; 8],
+    shapes: &[[u16; 12]; 8],
     triples: &[u64],
     flags: &[u16],
     places: &[u16],
@@ -124,8 +124,8 @@ fn list_set_edges(
     first: usize,
     out: &mut [u16],
 ) -> usize
-    requires { ⌜ SetsPlaced (now triples) (now flags) (now places) × InOrder _<_ (now triples) × (maxSets ≤ length (now flags)) × (maxSets ≤ length (now places)) × CodesFit shapes × (0 < set) × (set < 256) × (first + maxPredicates ≤ maxTriples) × (tripleListLength ≤ length (now out)) ⌝ }
-    ensures { λ r. ⌜ Listed shapes (λ P. SetEdge (now (triples .entry)) (now (flags .entry)) (now (places .entry)) P set) first (now (out .entry)) (now (out .exit)) r × (r ≤ first + maxPredicates) ⌝ }
+    requires { ⌜ SetsPlaced (now triples) (now flags) (now places) × InOrder _<_ (now triples) × (maxSets ≤ length (now flags)) × (maxSets ≤ length (now places)) × CodesFit (now shapes) × (0 < set) × (set < 256) × (first + maxPredicates ≤ maxTriples) × (tripleListLength ≤ length (now out)) ⌝ }
+    ensures { λ r. ⌜ Listed (now (shapes .entry)) (λ P. SetEdge (now (triples .entry)) (now (flags .entry)) (now (places .entry)) P set) first (now (out .entry)) (now (out .exit)) r × (r ≤ first + maxPredicates) ⌝ }
 {
     if flags[set] != 1 {
         return first;
@@ -136,15 +136,15 @@ fn list_set_edges(
 
 // Those of every marked set of types: the invented literal has no edges.
 fn list_sets_edges(
-    shapes: [[u16; 12]; 8],
+    shapes: &[[u16; 12]; 8],
     triples: &[u64],
     flags: &[u16],
     places: &[u16],
     first: usize,
     out: &mut [u16],
 ) -> usize
-    requires { ⌜ SetsPlaced (now triples) (now flags) (now places) × InOrder _<_ (now triples) × (maxSets ≤ length (now flags)) × (maxSets ≤ length (now places)) × CodesFit shapes × (first ≤ maxCoreTriples + maxIris * maxPredicates) × (tripleListLength ≤ length (now out)) ⌝ }
-    ensures { λ r. ⌜ Listed shapes (λ P. Upto (SetEdge (now (triples .entry)) (now (flags .entry)) (now (places .entry)) P) 256) first (now (out .entry)) (now (out .exit)) r × (r ≤ maxTriples) ⌝ }
+    requires { ⌜ SetsPlaced (now triples) (now flags) (now places) × InOrder _<_ (now triples) × (maxSets ≤ length (now flags)) × (maxSets ≤ length (now places)) × CodesFit (now shapes) × (first ≤ maxCoreTriples + maxIris * maxPredicates) × (tripleListLength ≤ length (now out)) ⌝ }
+    ensures { λ r. ⌜ Listed (now (shapes .entry)) (λ P. Upto (SetEdge (now (triples .entry)) (now (flags .entry)) (now (places .entry)) P) 256) first (now (out .entry)) (now (out .exit)) r × (r ≤ maxTriples) ⌝ }
 {
     let mut next = first;
     for j in 1..256 {
@@ -155,7 +155,7 @@ fn list_sets_edges(
 
 // Writes the records of all edges, ascending; returns how many there are.
 pub fn list_triples(
-    shapes: [[u16; 12]; 8],
+    shapes: &[[u16; 12]; 8],
     nodes: &[u64],
     triples: &[u64],
     masks: &[u16],
@@ -163,8 +163,8 @@ pub fn list_triples(
     places: &[u16],
     out: &mut [u16],
 ) -> usize
-    requires { ⌜ Placed (now nodes) (now triples) (now masks) × SetPlaces (now flags) (length (now nodes)) (now places) × (maxSets ≤ length (now flags)) × (maxSets ≤ length (now places)) × CodesFit shapes × (tripleListLength ≤ length (now out)) ⌝ }
-    ensures { λ r. ⌜ TriplesShown shapes (now (nodes .entry)) (now (triples .entry)) (now (masks .entry)) (now (flags .entry)) (now (places .entry)) (now (out .entry)) (now (out .exit)) r ⌝ }
+    requires { ⌜ Placed (now nodes) (now triples) (now masks) × SetPlaces (now flags) (length (now nodes)) (now places) × (maxSets ≤ length (now flags)) × (maxSets ≤ length (now places)) × CodesFit (now shapes) × (tripleListLength ≤ length (now out)) ⌝ }
+    ensures { λ r. ⌜ TriplesShown (now (shapes .entry)) (now (nodes .entry)) (now (triples .entry)) (now (masks .entry)) (now (flags .entry)) (now (places .entry)) (now (out .entry)) (now (out .exit)) r ⌝ }
 {
     let next = list_iris(shapes, nodes, triples, masks, places, out);
     list_sets_edges(shapes, triples, flags, places, next, out)

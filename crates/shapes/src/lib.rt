@@ -21,9 +21,9 @@ fn weight(cell: u16) -> u16
 }
 
 // The targets of p in the shapes of the mask's members.
-pub fn targets(shapes: [[u16; 12]; 8], mask: u16, p: usize) -> u16
-    requires { ⌜ (p < maxPredicates) × CodesFit shapes ⌝ }
-    ensures { λ r. ⌜ TargetsOf shapes mask p r ⌝ }
+pub fn targets(shapes: &[[u16; 12]; 8], mask: u16, p: usize) -> u16
+    requires { ⌜ (p < maxPredicates) × CodesFit (now shapes) ⌝ }
+    ensures { λ r. ⌜ TargetsOf (now (shapes .entry)) mask p r ⌝ }
 {
     let mut left = mask & TYPES;
     let mut all = 0u16;
@@ -36,9 +36,9 @@ pub fn targets(shapes: [[u16; 12]; 8], mask: u16, p: usize) -> u16
 }
 
 // Whether some member's shape requires p.
-pub fn required(shapes: [[u16; 12]; 8], mask: u16, p: usize) -> bool
+pub fn required(shapes: &[[u16; 12]; 8], mask: u16, p: usize) -> bool
     requires { ⌜ p < maxPredicates ⌝ }
-    ensures { λ r. ⌜ SomePasses Requires shapes mask p r ⌝ }
+    ensures { λ r. ⌜ SomePasses Requires (now (shapes .entry)) mask p r ⌝ }
 {
     let mut left = mask & TYPES;
     while left != 0 {
@@ -55,9 +55,9 @@ pub fn required(shapes: [[u16; 12]; 8], mask: u16, p: usize) -> bool
 }
 
 // Whether some member's shape limits p to one object.
-pub fn limited(shapes: [[u16; 12]; 8], mask: u16, p: usize) -> bool
+pub fn limited(shapes: &[[u16; 12]; 8], mask: u16, p: usize) -> bool
     requires { ⌜ p < maxPredicates ⌝ }
-    ensures { λ r. ⌜ SomePasses Limits shapes mask p r ⌝ }
+    ensures { λ r. ⌜ SomePasses Limits (now (shapes .entry)) mask p r ⌝ }
 {
     let mut left = mask & TYPES;
     while left != 0 {

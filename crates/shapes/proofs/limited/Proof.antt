@@ -10,10 +10,10 @@ use Rattle.shapes.proofs.limited.Statement.{statement}
 use Rattle.shapes.proofs.limited.Tie as tie
 
 abbrev Inv-loop : tie.InvT-loop
-Inv-loop mask p shapes left₀ left = Searching (Wanted limits shapes p) (typesIn mask) left
+Inv-loop shapes mask p left₀ left = Searching (Wanted limits shapes p) (typesIn mask) left
 
 abbrev μ-loop : tie.MeasureT-loop
-μ-loop mask p shapes left₀ left = ones left
+μ-loop shapes mask p left₀ left = ones left
 
 pub limited-spec : {M : Type 1} → statement M
 limited-spec =

@@ -11,10 +11,10 @@ use Rattle.shapes.proofs.targets.Statement.{statement}
 use Rattle.shapes.proofs.targets.Tie as tie
 
 abbrev Inv-loop : tie.InvT-loop
-Inv-loop mask p shapes left₀ all₀ left all = Visiting (joined (weights shapes p)) 0 (typesIn mask) left all × (all < 2 ^ 16)
+Inv-loop shapes mask p left₀ all₀ left all = Visiting (joined (weights shapes p)) 0 (typesIn mask) left all × (all < 2 ^ 16)
 
 abbrev μ-loop : tie.MeasureT-loop
-μ-loop mask p shapes left₀ all₀ left all = ones left
+μ-loop shapes mask p left₀ all₀ left all = ones left
 
 pub targets-spec : {M : Type 1} → statement M
 targets-spec =
@@ -32,4 +32,4 @@ targets-spec =
     (λ c κs. let l = c .before .before .loop in let s = c .before .before .before in s .pre .1 _ _ (visit-small (l .inv .0) (c .before .loop-test .taken) 16 8 (omega (arith, types-small (s .args .mask))) (types-small (s .args .mask))) (s .pre .0))  -- weight-requires
     (λ c. visit-less (c .before .before .before .loop .inv .0) (c .before .before .loop-test .taken))  -- loop-less
     (λ c. let l = c .before .before .before .loop in (union-again _ _ (l .inv .0) (c .before .before .loop-test .taken) (types-small (c .before .before .before .before .args .mask)) _ (c .weight .ensures), or-lt 16 _ _ (l .inv .1) (omega (arith, c .weight .ok))))  -- loop-again
-    (λ c. let s = c .before .before in let l = c .before .loop in targets-are (s .args .t1) (s .args .mask) (s .args .p) (l .all) (s .pre .0) (l .inv .1) (visit-done (l .inv .0) (c .loop-test .left))))  -- returns
+    (λ c. let s = c .before .before in let l = c .before .loop in targets-are (s .args .shapes .now) (s .args .mask) (s .args .p) (l .all) (s .pre .0) (l .inv .1) (visit-done (l .inv .0) (c .loop-test .left))))  -- returns

@@ -11,7 +11,7 @@ list-set-edges-spec =
     (tie.spec
     (λ c. search needs)  -- mul-if1
     (λ c. search needs)  -- shared-slice-read-if1
-    (λ c. let a = c .before .before .before .before .before .before .args in set-unmarked (a .shapes) (a .triples .now) (a .flags .now) (a .places .now) (a .set) (a .first) (a .out .now) (c .if1 .taken))  -- returns
+    (λ c. let a = c .before .before .before .before .before .before .args in set-unmarked (a .shapes .now) (a .triples .now) (a .flags .now) (a .places .now) (a .set) (a .first) (a .out .now) (c .if1 .taken))  -- returns
     (λ c. search needs)  -- mul-subject
     (λ c. search needs)  -- shared-slice-read-subject
     (λ c. let s = c .before .before .before .before .before .before .before in omega (arith, s .pre .0 .below (s .args .set) (s .pre .5) (s .pre .6) (c .before .if1 .left)))  -- cast-subject
@@ -20,4 +20,4 @@ list-set-edges-spec =
     (s .pre .1, s .pre .3, s .pre .4, s .pre .0 .below (a .set) (s .pre .5) (s .pre .6) f, set-room (s .pre .0) (a .set) (s .pre .5) (s .pre .6) f (a .first) (s .pre .7), s .pre .8))
     (λ c. search needs)  -- same-length
     (λ c. let s = c .before .before .before .before .before .before .before .before .before .before .before in let a = s .args in let f = c .before .before .before .before .before .if1 .left in let m = c .before .before .list-subject in  -- returns-2
-    (set-marked (a .shapes) (a .triples .now) (a .flags .now) (a .places .now) (a .set) (a .first) (s .pre .5) f (m .ensures .0), set-end (s .pre .0) (a .set) (s .pre .5) (s .pre .6) f (a .first) (m .result) (m .ensures .1))))
+    (set-marked (a .shapes .now) (a .triples .now) (a .flags .now) (a .places .now) (a .set) (a .first) (s .pre .5) f (m .ensures .0), set-end (s .pre .0) (a .set) (s .pre .5) (s .pre .6) f (a .first) (m .result) (m .ensures .1))))

@@ -25,7 +25,7 @@ list-sets-edges-spec =
     (tie.spec
     Inv-loop
     μ-loop
-    (λ c. let a = c .before .before .before .before .args in (search needs, search needs, search needs, search needs, sets-start (a .shapes) (a .triples .now) (a .flags .now) (a .places .now) 1 (a .first) _))  -- loop-holds
+    (λ c. let a = c .before .before .before .before .args in (search needs, search needs, search needs, search needs, sets-start (a .shapes .now) (a .triples .now) (a .flags .now) (a .places .now) 1 (a .first) _))  -- loop-holds
     (λ c κs. let s = c .before .before .before .before .before .before .before in let l = c .before .before .loop in  -- list-set-edges-requires
     (s .pre .0, s .pre .1, s .pre .2, s .pre .3, s .pre .4, l .inv .0, omega arith, omega (arith, l .inv .3, s .pre .5), omega (arith, s .pre .6, l .inv .2)))
     (λ c. search needs)  -- add-j
