@@ -1,4 +1,4 @@
 pub mod Accepted
-pub mod Columns
 pub mod Filling
 pub mod Found
+pub mod Keys

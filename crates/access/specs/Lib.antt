@@ -1,3 +1,4 @@
+pub mod Keys
 pub mod Places
 pub mod Rows
 pub mod Table

@@ -1,20 +1,21 @@
-// Refusal 8: rows break a dependency.
-ghost use mathlib.Core.Bool.{false, _||_};
+// Refusal 8: rows break a dependency. A row's left columns, and its right ones, are compared as one number.
+ghost use mathlib.Core.Bool.{false, not, _&&_};
 ghost use mathlib.Core.Path.{_≡_};
-ghost use Prim.Native.Nat.{_+_, _≤_, _%_};
+ghost use Prim.Native.Nat.{_+_, _≤_, _<_};
 ghost use lib.Dec.{eqb};
 ghost use lib.ListN.{length};
-ghost use Rattle.meaning.specs.Tests.{any, anyTwo};
-ghost use Rattle.meaning.specs.WellFormed.{agree, breaks, broken};
+ghost use Rattle.meaning.specs.Tests.{anyTwo};
+ghost use Rattle.meaning.specs.WellFormed.{breaks, broken, dangling};
 ghost use Rattle.pack.specs.Contents.{badSize};
-ghost use Rattle.pack.specs.Records.{row, rowOf};
-ghost use Rattle.pack.specs.Shown.{Placed, left, textAt, made};
+ghost use Rattle.pack.specs.Records.{row};
+ghost use Rattle.pack.specs.Shown.{Placed, left, textAt};
 ghost use Rattle.pack.specs.Unpack.{Decoded, Listed};
+ghost use Rattle.access.specs.Keys.{keyOf, below, differs, Even};
 ghost use Rattle.access.specs.Rows.{dependencyOf};
+use meaning::MAX_ROWS;
 use pack::contents::body;
 use pack::cursor::Cursor;
 use pack::cursor::DependencyRead;
-use pack::cursor::Tuple;
 use pack::cursor::TupleRead;
 
 // Left columns that decide right columns of a relation.
@@ -24,91 +25,74 @@ pub struct Depends {
     pub right: u8,
 }
 
-// Whether a column agrees: the mask does not name it, or its values are equal.
-fn column_agrees(mask: u8, x: u8, y: u8) -> bool
-    ensures { λ b. ⌜ b ≡ (eqb (mask % 2) 0 || eqb x y) ⌝ }
+// The columns of a row that the mask names, as one number; column 0 counts least.
+fn key(s: &[u8], mask: u8, a: usize, n: usize) -> u64
+    requires { ⌜ (a + n ≤ length (now s)) × (n ≤ 8) ⌝ }
+    ensures { λ r. ⌜ (r ≡ keyOf mask (textAt (now (s .entry)) a n)) × (r < below n) ⌝ }
 {
-    if mask % 2 == 0 {
-        return true;
+    if n == 0 {
+        return 0;
     }
-    x == y
+    let rest = key(s, mask / 2, a + 1, n - 1);
+    if mask % 2 == 0 {
+        return 256 * rest;
+    }
+    256 * rest + s[a] as u64
 }
 
-// Whether two rows are equal at every column that the mask names.
-fn rows_agree(s: &[u8], mask: u8, a: usize, n: usize, b: usize, m: usize) -> bool
-    requires { ⌜ (a + n ≤ length (now s)) × (b + m ≤ length (now s)) ⌝ }
-    ensures { λ r. ⌜ r ≡ agree mask (textAt (now (s .entry)) a n) (textAt (now (s .entry)) b m) ⌝ }
+// Whether the left keys of two rows are equal and the right ones are not.
+fn differ(x: u64, left: u64, y: u64, right: u64) -> bool
+    ensures { λ r. ⌜ r ≡ (eqb x left && not (eqb y right)) ⌝ }
 {
-    let mut rest = mask;
+    if x != left {
+        return false;
+    }
+    y != right
+}
+
+// Whether an entry of the lists has this left key and another right key.
+fn some_differs(lefts: &[u64], rights: &[u64], left: u64, right: u64) -> bool
+    requires { ⌜ length (now rights) ≡ length (now lefts) ⌝ }
+    ensures { λ r. ⌜ r ≡ differs left right (now (lefts .entry)) (now (rights .entry)) ⌝ }
+{
+    let n = lefts.len();
     let mut i = 0;
     while i < n {
-        if m <= i {
+        if differ(lefts[i], left, rights[i], right) {
             return true;
         }
-        if !column_agrees(rest, s[a + i], s[b + i]) {
-            return false;
-        }
-        rest = rest / 2;
         i += 1;
-    }
-    true
-}
-
-// Whether two rows break a dependency.
-fn pair_breaks(s: &[u8], d: Depends, x: Tuple, y: Tuple) -> bool
-    requires { ⌜ (x .start + x .len ≤ length (now s)) × (y .start + y .len ≤ length (now s)) ⌝ }
-    ensures { λ r. ⌜ r ≡ breaks (dependencyOf d) (made rowOf (now (s .entry)) x) (made rowOf (now (s .entry)) y) ⌝ }
-{
-    if x.number != d.relation {
-        return false;
-    }
-    if y.number != d.relation {
-        return false;
-    }
-    if !rows_agree(s, d.left, x.start, x.len, y.start, y.len) {
-        return false;
-    }
-    !rows_agree(s, d.right, x.start, x.len, y.start, y.len)
-}
-
-// Whether a row breaks a dependency with one from a cursor on.
-fn breaks_later(s: &[u8], d: Depends, x: Tuple, from: Cursor) -> bool
-    requires { ⌜ (x .start + x .len ≤ length (now s)) × Placed (now s) from ⌝ }
-    ensures { λ r. ⌜ Listed row (left (now (s .entry)) from) (λ rs. r ≡ any (breaks (dependencyOf d) (made rowOf (now (s .entry)) x)) rs) ⌝ }
-{
-    if x.number != d.relation {
-        return false;
-    }
-    let mut c = from;
-    while c.at < c.end {
-        match c.row(s) {
-            TupleRead::Tuple { tuple, next } => {
-                if pair_breaks(s, d, x, tuple) {
-                    return true;
-                }
-                c = next;
-            }
-            TupleRead::Bad => {
-                return false;
-            }
-        }
     }
     false
 }
 
-// Whether two rows break a dependency.
+// Whether two rows break a dependency: the keys of its relation's rows are listed, and each row is held against those before it.
 fn some_break(s: &[u8], d: Depends, rows: Cursor) -> bool
     requires { ⌜ Placed (now s) rows ⌝ }
-    ensures { λ r. ⌜ Listed row (left (now (s .entry)) rows) (λ rs. r ≡ anyTwo (breaks (dependencyOf d)) rs) ⌝ }
+    ensures { λ r. ⌜ Listed row (left (now (s .entry)) rows) (λ rs. Even (dependencyOf d) rs → r ≡ anyTwo (breaks (dependencyOf d)) rs) ⌝ }
 {
+    let mut lefts = [0u64; MAX_ROWS];
+    let mut rights = [0u64; MAX_ROWS];
+    let mut n = 0;
     let mut c = rows;
     while c.at < c.end {
         match c.row(s) {
             TupleRead::Tuple { tuple, next } => {
-                if breaks_later(s, d, tuple, next) {
+                c = next;
+                if tuple.number != d.relation {
+                    continue;
+                }
+                if MAX_ROWS <= n {
+                    return false;
+                }
+                let l = key(s, d.left, tuple.start, tuple.len);
+                let r = key(s, d.right, tuple.start, tuple.len);
+                if some_differs(&lefts[..n], &rights[..n], l, r) {
                     return true;
                 }
-                c = next;
+                lefts[n] = l;
+                rights[n] = r;
+                n += 1;
             }
             TupleRead::Bad => {
                 return false;
@@ -118,9 +102,9 @@ fn some_break(s: &[u8], d: Depends, rows: Cursor) -> bool
     false
 }
 
-// Refusal 8.
+// Refusal 8, after refusal 7.
 pub fn is_broken(s: &[u8]) -> bool
-    requires { ⌜ badSize (now s) ≡ false ⌝ }
+    requires { ⌜ (badSize (now s) ≡ false) × Decoded (now s) (λ P. dangling P ≡ false) ⌝ }
     ensures { λ r. ⌜ Decoded (now (s .entry)) (λ P. r ≡ broken P) ⌝ }
 {
     let rows = body(s, 8);

@@ -1,4 +1,4 @@
--- What refusal 4 leaves of a value, a constructor and a rule: lengths, arities and counts in bounds, variables of the 16. Assumes
+-- What refusal 4 leaves of a value, a constructor, a row and a rule: lengths, arities and counts in bounds, variables of the 16. Assumes
 -- nothing.
 use borrow.Author.Tests.{leb-true, ltb-true}
 use lib.Dec.{leb}
@@ -10,10 +10,10 @@ use mathlib.Core.Path.{_≡_, refl, sym, ap, subst, _∙_}
 use native.Mathlib.Omega.{arith}
 use Prim.Native.Nat.{ℕ, zero, suc, _≤_, _<_}
 use Rattle.meaning.specs.Member.{_∈_, here, there}
-use Rattle.meaning.specs.Pack.{Atom, Constructor, Rule, Text}
+use Rattle.meaning.specs.Pack.{Atom, Constructor, Row, Rule, Text}
 use Rattle.meaning.specs.Tests.{within}
 use Rattle.pack.specs.Readers.{Read, Reader, only, next, byte, byteIn, bytes, sized}
-use Rattle.pack.specs.Records.{atom, atoms, constructor, headOf, rule, tuple, value, variable}
+use Rattle.pack.specs.Records.{anyByte, atom, atoms, constructor, headOf, row, rule, tuple, value, variable}
 use Rattle.pack.specs.Unpack.{also, records, readAll}
 
 -- ---- what every record of a body is
@@ -144,6 +144,14 @@ atom-fine s r e =
     let b = next-some (sized variable 1 8 (a .0 .rest)) _ r (a .2) in
     let z = sized-bound variable 1 8 (a .0 .rest) (b .0) (b .1) in
     subst AtomFine (got-is (b .2)) (record { short = z .few; below = λ v m. ltb-true v 16 (z .each v m) })
+
+pub row-short : (s : List ℕ) (r : Read Row) → row s ≡ some r → length (r .got .cells) ≤ 8
+unfolding row tuple
+row-short s r e =
+    let a = next-some (byte s) _ r e in
+    let b = next-some (sized anyByte 1 8 (a .0 .rest)) _ r (a .2) in
+    let z = sized-bound anyByte 1 8 (a .0 .rest) (b .0) (b .1) in
+    subst (λ (x : Row). length (x .cells) ≤ 8) (got-is (b .2)) (z .few)
 
 pub record AtomsFine (n : ℕ) (xs : List Atom) : Type 0 where
   pub many : length xs ≡ n

@@ -15,6 +15,7 @@ use Rattle.pack.proofs.Reading.{as-dependency, no-dependency}
 use Rattle.pack.proofs.Sizes.{in-body}
 use Rattle.pack.proofs.Unpacking.{unpacked}
 use Rattle.pack.proofs.Walks.{Asked, asked-start, asked-on, asked-stop, asked-done, asked-never, less}
+use Rattle.access.proofs.Keys.{even}
 use borrow.Author.Needs.{needs}
 use Rattle.access.proofs.broken.is_broken.Statement.{statement}
 use Rattle.access.proofs.broken.is_broken.Tie as tie
@@ -40,10 +41,10 @@ is-broken-spec =
     (λ c κs. c .before .before .before .before .before .before .before .before .body .ensures .placed)  -- some-break-requires
     (λ c. λ P e.  -- returns
     asked-stop (shrinks-of Of.Dependency) (c .before .before .before .before .before .before .before .before .loop .inv .1 P e) true (as-dependency (c .before .before .before .relation .given .1) (c .before .before .before .before .before .dependency .ensures))
-    (λ ys h. rw (sym (c .before .some-break .ensures _ (in-body _ (c .before .before .before .before .before .before .before .before .before .before .body .ensures) (unpacked _ P e .rows .0))) ∙ c .if2 .taken)) _ (in-body _ (c .before .before .before .before .before .before .before .before .before .body2 .ensures) (unpacked _ P e .dependencies .0)))
+    (λ ys h. rw (sym (c .before .some-break .ensures _ (in-body _ (c .before .before .before .before .before .before .before .before .before .before .body .ensures) (unpacked _ P e .rows .0)) (even P (unpacked _ P e .values .1) _ (c .before .before .before .before .before .before .before .before .before .before .before .before .pre .1 P e) (unpacked _ P e .rows .1))) ∙ c .if2 .taken)) _ (in-body _ (c .before .before .before .before .before .before .before .before .before .body2 .ensures) (unpacked _ P e .dependencies .0)))
     (λ c. less _ (shrinks-of Of.Dependency) (c .before .before .before .before .before .before .before .before .loop .inv .0) (as-dependency (c .before .before .before .relation .given .1) (c .before .before .before .before .before .dependency .ensures)))  -- loop-less
     (λ c. let g = as-dependency (c .before .before .before .relation .given .1) (c .before .before .before .before .before .dependency .ensures) in  -- loop-again
-    (g .placed, λ P e. asked-on (shrinks-of Of.Dependency) (c .before .before .before .before .before .before .before .before .loop .inv .1 P e) _ g (λ ys h. rw (sym (c .before .some-break .ensures _ (in-body _ (c .before .before .before .before .before .before .before .before .before .before .body .ensures) (unpacked _ P e .rows .0))) ∙ c .if2 .left))))
+    (g .placed, λ P e. asked-on (shrinks-of Of.Dependency) (c .before .before .before .before .before .before .before .before .loop .inv .1 P e) _ g (λ ys h. rw (sym (c .before .some-break .ensures _ (in-body _ (c .before .before .before .before .before .before .before .before .before .before .body .ensures) (unpacked _ P e .rows .0)) (even P (unpacked _ P e .values .1) _ (c .before .before .before .before .before .before .before .before .before .before .before .before .pre .1 P e) (unpacked _ P e .rows .1))) ∙ c .if2 .left))))
     (λ c. search needs)  -- enum-told
     (λ c. λ P e. asked-never (shrinks-of Of.Dependency) (c .before .before .before .before .before .loop .inv .1 P e) (c .before .before .before .if1 .taken) (no-dependency (c .enum-told .given .1) (c .before .before .dependency .ensures)) _ (in-body _ (c .before .before .before .before .before .before .body2 .ensures) (unpacked _ P e .dependencies .0)))  -- returns-2
     (λ c. λ P e. asked-done (shrinks-of Of.Dependency) (c .before .before .loop .inv .1 P e) false (c .if1 .left) refl _ (in-body _ (c .before .before .before .body2 .ensures) (unpacked _ P e .dependencies .0))))  -- returns-3

@@ -1,24 +1,27 @@
--- `broken::some_break` meets its contract: no row before the cursor breaks the dependency with a later one. Assumes nothing.
-use mathlib.Core.Bool.{true, false}
-use mathlib.Core.Path.{refl, sym, _∙_}
+-- `broken::some_break` meets its contract: no two rows before the cursor break the dependency. Assumes nothing.
+use borrow.Author.Tests.{eq-eqb, ne-eqb}
+use lib.Seq.{length-take-le}
+use mathlib.Core.List.{List, [], _∷_, _++_}
+use mathlib.Core.Path.{sym, _∙_}
+use native.Mathlib.Omega.{arith}
 use Prim.Native.Nat.{_-_}
-use Rattle.meaning.specs.Tests.{anyTwo}
-use Rattle.meaning.specs.WellFormed.{breaks}
-use Rattle.pack.specs.Records.{row, rowOf}
+use Rattle.meaning.specs.Pack.{Row}
+use Rattle.pack.specs.Records.{rowOf}
 use Rattle.pack.specs.declared.walk.Kind.the-variants as Of
 use Rattle.pack.proofs.Bodies.{shrinks-of}
 use Rattle.pack.proofs.Reading.{as-tuple, no-tuple}
-use Rattle.pack.proofs.Walks.{Asked, asked-start, asked-on, asked-less, asked-stop, asked-done, asked-never}
+use Rattle.pack.proofs.Walks.{asked-less, asked-never}
 use Rattle.access.specs.Rows.{dependencyOf}
+use Rattle.access.proofs.Keys.{Listing, listing-start, listing-other, listing-full, listing-breaks, listing-more, listing-done, tuple-short}
 use borrow.Author.Needs.{needs}
 use Rattle.access.proofs.broken.some_break.Statement.{statement}
 use Rattle.access.proofs.broken.some_break.Tie as tie
 
 abbrev Inv-loop : tie.InvT-loop
-Inv-loop s d c₀ c = Asked row s c₀ (anyTwo (breaks (dependencyOf d))) c (anyTwo (breaks (dependencyOf d)))
+Inv-loop s d lefts₀ rights₀ n₀ c₀ lefts rights n c = (before : List Row) × Listing s (dependencyOf d) c₀ c lefts rights n before
 
 abbrev μ-loop : tie.MeasureT-loop
-μ-loop s d c₀ c = c .end - c .at
+μ-loop s d lefts₀ rights₀ n₀ c₀ lefts rights n c = c .end - c .at
 
 pub some-break-spec : {M : Type 1} → statement M
 some-break-spec =
@@ -26,13 +29,27 @@ some-break-spec =
     (tie.spec
     Inv-loop
     μ-loop
-    (λ c. asked-start _ (c .before .pre))  -- loop-holds
-    (λ c κs. c .before .before .loop .inv .placed)  -- row-requires
+    (λ c. ([], listing-start _ _ _ _ _ (c .before .pre) (search needs) (search needs)))  -- loop-holds
+    (λ c κs. c .before .before .loop .inv .1 .asked .placed)  -- row-requires
     (λ c. search needs)  -- enum-known-tuple
-    (λ c κs. let g = as-tuple (c .before .tuple .given .1) (c .before .before .before .row .ensures) in (g .inside, g .got .placed))  -- breaks-later-requires
-    (λ c. asked-stop (shrinks-of Of.Row) (c .before .before .before .before .before .before .before .before .loop .inv) true (as-tuple (c .before .before .before .tuple .given .1) (c .before .before .before .before .before .row .ensures) .got) (λ ys e. rw (sym (c .before .breaks-later .ensures ys e) ∙ c .if2 .taken)))  -- returns
-    (λ c. asked-less (shrinks-of Of.Row) (c .before .before .before .before .before .before .before .before .loop .inv) (as-tuple (c .before .before .before .tuple .given .1) (c .before .before .before .before .before .row .ensures) .got))  -- loop-less
-    (λ c. asked-on (shrinks-of Of.Row) (c .before .before .before .before .before .before .before .before .loop .inv) _ (as-tuple (c .before .before .before .tuple .given .1) (c .before .before .before .before .before .row .ensures) .got) (λ ys e. rw (sym (c .before .breaks-later .ensures ys e) ∙ c .if2 .left)))  -- loop-again
+    (λ c. asked-less (shrinks-of Of.Row) (c .before .before .before .before .before .before .before .before .before .loop .inv .1 .asked) (as-tuple (c .before .before .before .before .tuple .given .1) (c .before .before .before .before .before .before .row .ensures) .got))  -- loop-less
+    (λ c. (c .before .before .before .before .before .before .before .before .before .loop .inv .0, listing-other (c .before .before .before .before .before .before .before .before .before .loop .inv .1) (as-tuple (c .before .before .before .before .tuple .given .1) (c .before .before .before .before .before .before .row .ensures) .got) (ne-eqb _ _ (c .if2 .taken))))  -- loop-again
+    (λ c. λ xs e v. listing-full (c .before .before .before .before .before .before .before .before .before .before .loop .inv .1) (as-tuple (c .before .before .before .before .before .tuple .given .1) (c .before .before .before .before .before .before .before .row .ensures) .got) (eq-eqb _ _ (c .before .if2 .left)) (c .if3 .taken) xs e v)  -- returns
+    (λ c κs. let g = as-tuple (c .before .before .before .before .before .tuple .given .1) (c .before .before .before .before .before .before .before .row .ensures) in (g .inside, tuple-short g))  -- key-requires
+    (λ c κs. let g = as-tuple (c .before .before .before .before .before .before .tuple .given .1) (c .before .before .before .before .before .before .before .before .row .ensures) in (g .inside, tuple-short g))  -- key-requires-2
+    (λ c. search needs)  -- array-share-prefix-lefts
+    (λ c. let o = c .before .before .before .before .before .before .before .before .before .before .before .before .before .loop in omega (arith, length-take-le (o .n) (o .lefts) (omega (arith, o .inv .1 .few, o .inv .1 .lefts-long))))  -- slice-aggregate-some-differs
+    (λ c. search needs)  -- array-share-prefix-rights
+    (λ c. let o = c .before .before .before .before .before .before .before .before .before .before .before .before .before .before .loop in omega (arith, length-take-le (o .n) (o .rights) (omega (arith, o .inv .1 .few, o .inv .1 .rights-long))))  -- slice-aggregate-some-differs-2
+    (λ c κs. let o = c .before .before .before .before .before .before .before .before .before .before .before .before .before .before .loop in length-take-le (o .n) (o .rights) (omega (arith, o .inv .1 .few, o .inv .1 .rights-long)) ∙ sym (length-take-le (o .n) (o .lefts) (omega (arith, o .inv .1 .few, o .inv .1 .lefts-long))))  -- some-differs-requires
+    (λ c. λ xs e v. listing-breaks (c .before .before .before .before .before .before .before .before .before .before .before .before .before .before .before .before .loop .inv .1) (as-tuple (c .before .before .before .before .before .before .before .before .before .before .before .tuple .given .1) (c .before .before .before .before .before .before .before .before .before .before .before .before .before .row .ensures) .got) (eq-eqb _ _ (c .before .before .before .before .before .before .before .if2 .left)) _ _ (c .before .before .before .before .before .key .ensures .0) (c .before .before .before .before .key2 .ensures .0) (sym (c .if4 .taken) ∙ c .before .some-differs .ensures) xs e v)  -- returns-2
+    (λ c. search needs)  -- mul-lefts
+    (λ c. search needs)  -- array-write-lefts
+    (λ c. search needs)  -- mul-rights
+    (λ c. search needs)  -- array-write-rights
+    (λ c. search needs)  -- add-n
+    (λ c. asked-less (shrinks-of Of.Row) (c .before .before .before .before .before .before .before .before .before .before .before .before .before .before .before .before .loop .inv .1 .asked) (as-tuple (c .before .before .before .before .before .before .before .before .before .before .before .tuple .given .1) (c .before .before .before .before .before .before .before .before .before .before .before .before .before .row .ensures) .got))  -- loop-less-2
+    (λ c. (c .before .before .before .before .before .before .before .before .before .before .before .before .before .before .before .before .loop .inv .0 ++ _ ∷ [], listing-more (c .before .before .before .before .before .before .before .before .before .before .before .before .before .before .before .before .loop .inv .1) (as-tuple (c .before .before .before .before .before .before .before .before .before .before .before .tuple .given .1) (c .before .before .before .before .before .before .before .before .before .before .before .before .before .row .ensures) .got) (eq-eqb _ _ (c .before .before .before .before .before .before .before .if2 .left)) _ _ (c .before .before .before .before .before .key .ensures .0) (c .before .before .before .before .key2 .ensures .0) (c .before .before .before .before .before .before .if3 .left) (sym (c .if4 .left) ∙ c .before .some-differs .ensures)))  -- loop-again-2
     (λ c. search needs)  -- enum-told
-    (λ c. λ xs e. asked-never (shrinks-of Of.Row) (c .before .before .before .before .before .loop .inv) (c .before .before .before .if1 .taken) (no-tuple rowOf (c .enum-told .given .1) (c .before .before .row .ensures)) xs e)  -- returns-2
-    (λ c. asked-done (shrinks-of Of.Row) (c .before .before .loop .inv) false (c .if1 .left) refl))  -- returns-3
+    (λ c. λ xs e v. asked-never (shrinks-of Of.Row) (c .before .before .before .before .before .loop .inv .1 .asked) (c .before .before .before .if1 .taken) (no-tuple rowOf (c .enum-told .given .1) (c .before .before .row .ensures)) xs e)  -- returns-3
+    (λ c. λ xs e v. listing-done (c .before .before .loop .inv .1) (c .if1 .left) xs e v))  -- returns-4

@@ -1,0 +1,379 @@
+-- Laws of keys: two rows of one length agree at the columns of a mask as their keys are equal. Assumes nothing.
+use borrow.Author.Tests.{eqb-true, eqb-false, eq-eqb, ne-eqb, ltb-true, lt-ltb, not-false}
+use lib.Dec.{eqb, ltb}
+use lib.ListN.{length, drop, take, getElem?, getD, set, drop-of-length-le, length-append, length-set}
+use lib.Seq.{drop-cons, slice-empty, take-suc-set}
+use mathlib.Core.Bool.{Bool, true, false, not, _&&_, _||_}
+use mathlib.Core.List.{List, [], _∷_, _++_, map, append-assoc, append-nil}
+use mathlib.Core.Option.{Option, none, some}
+use mathlib.Core.Path.{_≡_, refl, sym, ap, subst, _∙_}
+use native.Mathlib.Numerals.{add-one}
+use native.Mathlib.Omega.{arith}
+use Prim.Native.Nat.{ℕ, zero, suc, _+_, _-_, _*_, _/_, _%_, _≤_, _<_}
+use Rattle.meaning.specs.Pack.{Pack, Dependency, Row}
+use Rattle.meaning.specs.Tests.{any, anyTwo, every, passes}
+use Rattle.meaning.specs.WellFormed.{agree, breaks, dangling, goodDependency, goodRow, goodRule, goodShape, hasArity}
+use Rattle.pack.specs.Records.{row, rowOf}
+use Rattle.pack.specs.Shown.{textAt, left, Placed, Got, TupleGot}
+use Rattle.pack.specs.Unpack.{readAll}
+use Rattle.pack.specs.declared.cursor.Cursor.{Cursor}
+use Rattle.pack.specs.declared.cursor.Tuple.{Tuple}
+use Rattle.pack.specs.declared.walk.Kind.the-variants as Of
+use Rattle.pack.proofs.Bodies.{shrinks-of}
+use Rattle.pack.proofs.Bounds.{row-short}
+use Rattle.pack.proofs.Reading.{slice-front, length-at}
+use Rattle.pack.proofs.Walks.{Asked, asked-start, asked-on, front, at-end}
+use Rattle.access.specs.Keys.{named, keyOf, below, differs, keep, ofRelation, fits, Even}
+
+-- ---- numbers
+
+pub below-le : (n m : ℕ) → n ≤ m → below n ≤ below m
+unfolding below
+below-le zero zero h = omega arith
+below-le zero (suc m) h = let k = below-le zero m (omega arith) in omega (arith, k)
+below-le (suc n) zero h = absurd (let z : ⊥ = omega arith in z)
+below-le (suc n) (suc m) h = let k = below-le n m (omega arith) in omega (arith, k)
+
+below-7 : below 7 ≡ 72057594037927936
+unfolding below
+below-7 = refl
+
+-- a key of at most seven columns leaves room for one more
+pub room : (n k : ℕ) → n ≤ 7 → k < below n → 256 * k + 255 < 18446744073709551616
+room n k h l = omega (arith, below-le n 7 h, below-7, l)
+
+and-both : (a b : Bool) → (a && b) ≡ true → (a ≡ true) × (b ≡ true)
+and-both true b h = (refl, h)
+and-both false b h = absurd (let z : _≡_ {A = ℕ} 0 1 = cc in omega arith)
+
+-- ---- equal keys
+
+one-more : (a b k l : ℕ) → a < 256 → b < 256 → eqb (256 * k + a) (256 * l + b) ≡ (eqb a b && eqb k l)
+one-more a b k l h g = go (eqb a b) (eqb k l) refl refl
+  where
+    go : (p q : Bool) → eqb a b ≡ p → eqb k l ≡ q → eqb (256 * k + a) (256 * l + b) ≡ (eqb a b && eqb k l)
+    go true true e f = rw (e, f) (eq-eqb (256 * k + a) (256 * l + b) (omega (arith, eqb-true a b e, eqb-true k l f)))
+    go true false e f = rw (e, f) (ne-eqb (256 * k + a) (256 * l + b) (λ z. eqb-false k l f (omega (arith, z, eqb-true a b e))))
+    go false q e f = rw e (ne-eqb (256 * k + a) (256 * l + b) (λ z. eqb-false a b e (omega (arith, z))))
+
+agree-column : (b : Bool) (x y : ℕ) → x < 256 → y < 256 → (k l : ℕ) → eqb (256 * k + named b x) (256 * l + named b y) ≡ ((b || eqb x y) && eqb k l)
+agree-column true x y h g k l = one-more 0 0 k l (omega arith) (omega arith)
+agree-column false x y h g k l = one-more x y k l h g
+
+pub agree-keys : (m : ℕ) (xs ys : List ℕ) → length xs ≡ length ys → every (λ v. ltb v 256) xs ≡ true → every (λ v. ltb v 256) ys ≡ true
+    → agree m xs ys ≡ eqb (keyOf m xs) (keyOf m ys)
+unfolding agree keyOf
+agree-keys m [] [] h p q = refl
+agree-keys m [] (y ∷ ys) h p q = absurd (let z : ⊥ = omega (arith, h) in z)
+agree-keys m (x ∷ xs) [] h p q = absurd (let z : ⊥ = omega (arith, h) in z)
+agree-keys m (x ∷ xs) (y ∷ ys) h p q =
+    let a = and-both (ltb x 256) _ p in
+    let b = and-both (ltb y 256) _ q in
+    ap (λ z. (eqb (m % 2) 0 || eqb x y) && z) (agree-keys (m / 2) xs ys (omega (arith, h)) (a .1) (b .1))
+    ∙ sym (agree-column (eqb (m % 2) 0) x y (ltb-true x 256 (a .0)) (ltb-true y 256 (b .0)) (keyOf (m / 2) xs) (keyOf (m / 2) ys))
+
+-- ---- a key, column by column from the last
+
+pub key-none : (s : List ℕ) (m a n : ℕ) → n ≡ 0 → (0 ≡ keyOf m (textAt s a n)) × (0 < below n)
+unfolding keyOf below
+key-none s m a n e =
+    let f : a + n ≡ a = omega arith in
+    (rw (f, slice-empty), rw e (omega arith))
+
+module _ (s : List ℕ) (m a n k : ℕ) (inside : a + n ≤ length s) (some : n ≡ 0 → ⊥) (q : (k ≡ keyOf (m / 2) (textAt s (a + 1) (n - 1))) × (k < below (n - 1))) where
+  -- one column more, in front
+  key-more : (b : Bool) → eqb (m % 2) 0 ≡ b → 256 * k + named b (getD s a 0) ≡ keyOf m (textAt s a n)
+  unfolding keyOf
+  key-more b e =
+      let f : a + 1 + (n - 1) ≡ a + n = omega (arith, some) in
+      let h : k ≡ keyOf (m / 2) (textAt s (a + 1) (n - 1)) = q .0 in
+      rw (slice-front a (a + n) s 0 (omega (arith, some)) inside, e, h, f)
+
+  below-more : (x : ℕ) → x < 256 → 256 * k + x < below n
+  unfolding below
+  below-more x h = let f : n ≡ suc (n - 1) = omega (arith, some) in rw f (omega (arith, q .1, h))
+
+  pub key-skips : m % 2 ≡ 0 → (256 * k ≡ keyOf m (textAt s a n)) × (256 * k < below n)
+  key-skips e = (omega (arith, key-more true (eq-eqb _ _ e)), omega (arith, below-more 0 (omega arith)))
+
+  pub key-takes : (m % 2 ≡ 0 → ⊥) → getD s a 0 < 256 → (256 * k + getD s a 0 ≡ keyOf m (textAt s a n)) × (256 * k + getD s a 0 < below n)
+  key-takes e h = (key-more false (ne-eqb _ _ e), below-more (getD s a 0) h)
+
+-- ---- the loop that looks for another right key
+
+pub record Looking (ls rs : List ℕ) (l r i : ℕ) : Type 0 where
+  pub same : length rs ≡ length ls
+  pub is : differs l r (drop i ls) (drop i rs) ≡ differs l r ls rs
+
+pub looking-start : (ls rs : List ℕ) (l r : ℕ) → length rs ≡ length ls → Looking ls rs l r 0
+looking-start ls rs l r h = record { same = h; is = refl }
+
+module _ {ls rs : List ℕ} {l r i : ℕ} (p : Looking ls rs l r i) (h : i < length ls) where
+  step : differs l r (drop i ls) (drop i rs) ≡ ((eqb (getD ls i 0) l && not (eqb (getD rs i 0) r)) || differs l r (drop (i + 1) ls) (drop (i + 1) rs))
+  unfolding differs
+  step = rw (drop-cons ls i 0 h, drop-cons rs i 0 (omega (arith, p .same)), add-one i)
+
+  pub looking-found : (eqb (getD ls i 0) l && not (eqb (getD rs i 0) r)) ≡ true → true ≡ differs l r ls rs
+  looking-found e = rw e at (sym step) ∙ p .is
+
+  pub looking-on : (eqb (getD ls i 0) l && not (eqb (getD rs i 0) r)) ≡ false → Looking ls rs l r (i + 1)
+  looking-on e = record { same = p .same; is = rw e at (sym step) ∙ p .is }
+
+pub looking-done : {ls rs : List ℕ} {l r i : ℕ} → Looking ls rs l r i → length ls ≤ i → false ≡ differs l r ls rs
+unfolding differs
+looking-done {ls} {rs} {l} {r} {i} p h = ap (λ z. differs l r z (drop i rs)) (sym (drop-of-length-le ls h)) ∙ p .is
+
+-- ---- rows that break a dependency with one
+
+pub differs-rows : (d : Dependency) (w : ℕ) (y : Row) → fits d w y ≡ true → (xs : List Row) → every (fits d w) xs ≡ true
+    → differs (keyOf (d .left) (y .cells)) (keyOf (d .right) (y .cells)) (map (λ (x : Row). keyOf (d .left) (x .cells)) xs) (map (λ (x : Row). keyOf (d .right) (x .cells)) xs)
+    ≡ any (λ x. breaks d x y) xs
+unfolding differs
+differs-rows d w y f [] e = refl
+differs-rows d w y f (x ∷ xs) e =
+    let a = and-both (fits d w x) _ e in
+    let b = and-both (eqb (x .relation) (d .relation)) _ (a .0) in
+    let c = and-both (eqb (length (x .cells)) w) _ (b .1) in
+    let g = and-both (eqb (y .relation) (d .relation)) _ f in
+    let h = and-both (eqb (length (y .cells)) w) _ (g .1) in
+    let n : length (x .cells) ≡ length (y .cells) = eqb-true _ w (c .0) ∙ sym (eqb-true _ w (h .0)) in
+    let p : (eqb (keyOf (d .left) (x .cells)) (keyOf (d .left) (y .cells)) && not (eqb (keyOf (d .right) (x .cells)) (keyOf (d .right) (y .cells)))) ≡ breaks d x y =
+    rw (b .0, g .0, agree-keys (d .left) (x .cells) (y .cells) n (c .1) (h .1), agree-keys (d .right) (x .cells) (y .cells) n (c .1) (h .1)) in
+    (λ i. p i || differs-rows d w y f xs (a .1) i)
+
+-- ---- pairs of a list that grows at its end
+
+or-right : (a : Bool) → (a || true) ≡ true
+or-right true = refl
+or-right false = refl
+
+module _ {A : Type 0} (f : A → A → Bool) where
+  any-at : (g : A → Bool) (xs : List A) (y : A) (zs : List A) → g y ≡ true → any g (xs ++ y ∷ zs) ≡ true
+  any-at g [] y zs e = rw e
+  any-at g (x ∷ xs) y zs e = rw (any-at g xs y zs e) (or-right (g x))
+
+  any-none : (g : A → Bool) (xs : List A) (y : A) → g y ≡ false → any g xs ≡ false → any g (xs ++ y ∷ []) ≡ false
+  any-none g [] y e h = rw e
+  any-none g (x ∷ xs) y e h = go (g x) refl (any-none g xs y e)
+    where
+      go : (b : Bool) → g x ≡ b → (any g xs ≡ false → any g (xs ++ y ∷ []) ≡ false) → any g ((x ∷ xs) ++ y ∷ []) ≡ false
+      go true q ih = absurd (let k : true ≡ false = rw q at h in let z : _≡_ {A = ℕ} 0 1 = cc in omega arith)
+      go false q ih = rw q (ih (rw q at h))
+
+  pub two-at : (xs : List A) (y : A) (zs : List A) → any (λ x. f x y) xs ≡ true → anyTwo f (xs ++ y ∷ zs) ≡ true
+  two-at [] y zs e = absurd (let z : _≡_ {A = ℕ} 0 1 = cc in omega arith)
+  two-at (x ∷ xs) y zs e = go (f x y) refl (two-at xs y zs)
+    where
+      go : (b : Bool) → f x y ≡ b → (any (λ z. f z y) xs ≡ true → anyTwo f (xs ++ y ∷ zs) ≡ true) → anyTwo f ((x ∷ xs) ++ y ∷ zs) ≡ true
+      go true q ih = rw (any-at (f x) xs y zs q)
+      go false q ih = rw (ih (rw q at e)) (or-right (any (f x) (xs ++ y ∷ zs)))
+
+  pub two-none : (xs : List A) (y : A) → anyTwo f xs ≡ false → any (λ x. f x y) xs ≡ false → anyTwo f (xs ++ y ∷ []) ≡ false
+  two-none [] y e h = refl
+  two-none (x ∷ xs) y e h = go (any (f x) xs) (f x y) refl refl (two-none xs y)
+    where
+      go : (a b : Bool) → any (f x) xs ≡ a → f x y ≡ b → (anyTwo f xs ≡ false → any (λ z. f z y) xs ≡ false → anyTwo f (xs ++ y ∷ []) ≡ false) → anyTwo f ((x ∷ xs) ++ y ∷ []) ≡ false
+      go true b p q ih = absurd (let k : true ≡ false = rw p at e in let z : _≡_ {A = ℕ} 0 1 = cc in omega arith)
+      go false true p q ih = absurd (let k : true ≡ false = rw q at h in let z : _≡_ {A = ℕ} 0 1 = cc in omega arith)
+      go false false p q ih = rw (any-none (f x) xs y q p) (ih (rw p at e) (rw q at h))
+
+-- ---- only rows of its relation break a dependency
+
+breaks-other : (d : Dependency) (r s : Row) → eqb (s .relation) (d .relation) ≡ false → breaks d r s ≡ false
+breaks-other d r s e = go (eqb (r .relation) (d .relation)) refl
+  where
+    go : (b : Bool) → eqb (r .relation) (d .relation) ≡ b → breaks d r s ≡ false
+    go true q = rw (q, e)
+    go false q = rw q
+
+any-relation : (d : Dependency) (r : Row) (xs : List Row) → any (breaks d r) xs ≡ any (breaks d r) (ofRelation d xs)
+unfolding ofRelation
+any-relation d r [] = refl
+any-relation d r (x ∷ xs) = go (eqb (x .relation) (d .relation)) refl (any-relation d r xs)
+  where
+    go : (b : Bool) → eqb (x .relation) (d .relation) ≡ b → any (breaks d r) xs ≡ any (breaks d r) (ofRelation d xs) → any (breaks d r) (x ∷ xs) ≡ any (breaks d r) (keep (eqb (x .relation) (d .relation)) x (ofRelation d xs))
+    go true q ih = ap (λ z. breaks d r x || z) ih ∙ sym (ap (λ b. any (breaks d r) (keep b x (ofRelation d xs))) q)
+    go false q ih = ap (λ z. z || any (breaks d r) xs) (breaks-other d r x q) ∙ ih ∙ sym (ap (λ b. any (breaks d r) (keep b x (ofRelation d xs))) q)
+
+pub breaks-none : (d : Dependency) (r : Row) → eqb (r .relation) (d .relation) ≡ false → (rs : List Row) → any (breaks d r) rs ≡ false
+breaks-none d r e [] = refl
+breaks-none d r e (s ∷ rs) = rw e (breaks-none d r e rs)
+
+pub two-relation : (d : Dependency) (xs : List Row) → anyTwo (breaks d) xs ≡ anyTwo (breaks d) (ofRelation d xs)
+unfolding ofRelation
+two-relation d [] = refl
+two-relation d (x ∷ xs) = go (eqb (x .relation) (d .relation)) refl (two-relation d xs)
+  where
+    go : (b : Bool) → eqb (x .relation) (d .relation) ≡ b → anyTwo (breaks d) xs ≡ anyTwo (breaks d) (ofRelation d xs) → anyTwo (breaks d) (x ∷ xs) ≡ anyTwo (breaks d) (keep (eqb (x .relation) (d .relation)) x (ofRelation d xs))
+    go true q ih = (λ i. any-relation d x xs i || ih i) ∙ sym (ap (λ b. anyTwo (breaks d) (keep b x (ofRelation d xs))) q)
+    go false q ih = ap (λ z. z || anyTwo (breaks d) xs) (breaks-none d x q xs) ∙ ih ∙ sym (ap (λ b. anyTwo (breaks d) (keep b x (ofRelation d xs))) q)
+
+-- ---- the loop that lists the keys of the rows of a relation
+
+-- the rows of the relation before the cursor: their keys are the first n of the lists, and no two of them break the dependency
+pub record Listing (s : List ℕ) (d : Dependency) (c₀ c : Cursor) (lefts rights : List ℕ) (n : ℕ) (before : List Row) : Type 0 where
+  pub asked : Asked row s c₀ (ofRelation d) c (λ ys. before ++ ofRelation d ys)
+  pub left-keys : take n lefts ≡ map (λ (x : Row). keyOf (d .left) (x .cells)) before
+  pub right-keys : take n rights ≡ map (λ (x : Row). keyOf (d .right) (x .cells)) before
+  pub none : (w : ℕ) → every (fits d w) before ≡ true → anyTwo (breaks d) before ≡ false
+  pub many : length before ≡ n
+  pub few : n ≤ 1024
+  pub lefts-long : length lefts ≡ 1024
+  pub rights-long : length rights ≡ 1024
+
+pub listing-start : (s : List ℕ) (d : Dependency) (c : Cursor) (lefts rights : List ℕ) → Placed s c → length lefts ≡ 1024 → length rights ≡ 1024
+    → Listing s d c c lefts rights 0 []
+listing-start s d c lefts rights p h g = record {
+  asked = asked-start (ofRelation d) p;
+  left-keys = refl;
+  right-keys = refl;
+  none = λ w e. refl;
+  many = refl;
+  few = omega arith;
+  lefts-long = h;
+  rights-long = g;
+}
+
+every-append : {A : Type 0} (f : A → Bool) (xs ys : List A) → every f (xs ++ ys) ≡ true → (every f xs ≡ true) × (every f ys ≡ true)
+every-append f [] ys e = (refl, e)
+every-append f (x ∷ xs) ys e =
+    let a = and-both (f x) (every f (xs ++ ys)) e in
+    let b = every-append f xs ys (a .1) in
+    (rw (a .0) (b .0), b .1)
+
+map-end : (f : Row → ℕ) (xs : List Row) (y : Row) → map f (xs ++ y ∷ []) ≡ map f xs ++ f y ∷ []
+map-end f [] y = refl
+map-end f (x ∷ xs) y = ap (λ z. f x ∷ z) (map-end f xs y)
+
+kept-few : (d : Dependency) (xs : List Row) → length (ofRelation d xs) ≤ length xs
+unfolding ofRelation
+kept-few d [] = omega arith
+kept-few d (x ∷ xs) = go (eqb (x .relation) (d .relation)) (kept-few d xs)
+  where
+    go : (b : Bool) → length (ofRelation d xs) ≤ length xs → length (keep b x (ofRelation d xs)) ≤ suc (length xs)
+    go true h = omega (arith, h)
+    go false h = omega (arith, h)
+
+module _ {s : List ℕ} {d : Dependency} {c₀ c e : Cursor} {lefts rights : List ℕ} {n : ℕ} {before : List Row} (p : Listing s d c₀ c lefts rights n before) {y : Row} (g : Got row s c y e) where
+  kept : eqb (y .relation) (d .relation) ≡ true → (ys : List Row) → ofRelation d (y ∷ ys) ≡ y ∷ ofRelation d ys
+  unfolding ofRelation
+  kept h ys = rw h
+
+  pub listing-other : eqb (y .relation) (d .relation) ≡ false → Listing s d c₀ e lefts rights n before
+  unfolding ofRelation
+  listing-other h = record {
+    asked = asked-on (shrinks-of Of.Row) (p .asked) _ g (λ ys q. rw h);
+    left-keys = p .left-keys;
+    right-keys = p .right-keys;
+    none = p .none;
+    many = p .many;
+    few = p .few;
+    lefts-long = p .lefts-long;
+    rights-long = p .rights-long;
+  }
+
+  module _ (h : eqb (y .relation) (d .relation) ≡ true) where
+    -- the rows of the relation from the cursor on start with y
+    rest : (xs : List Row) → readAll row (left s c₀) ≡ some xs → (zs : List Row) × (ofRelation d xs ≡ before ++ y ∷ zs)
+    rest xs q =
+        let a = p .asked .is xs q in
+        let b = front row (shrinks-of Of.Row) (p .asked .placed) g (a .1) in
+        (ofRelation d (b .0), sym (a .2) ∙ ap (λ z. before ++ ofRelation d z) (b .1) ∙ ap (λ z. before ++ z) (kept h (b .0)))
+
+    pub listing-full : {Q : Type 0} → 1024 ≤ n → (xs : List Row) → readAll row (left s c₀) ≡ some xs → Even d xs → Q
+    listing-full l xs q v =
+        let a = rest xs q in
+        absurd (let z : ⊥ = omega (arith, l, p .many, v .few, kept-few d xs, ap length (a .1), length-append before (y ∷ a .0)) in z)
+
+    same-test : (w : ℕ) → every (fits d w) before ≡ true → fits d w y ≡ true
+        → differs (keyOf (d .left) (y .cells)) (keyOf (d .right) (y .cells)) (take n lefts) (take n rights) ≡ any (λ x. breaks d x y) before
+    same-test w e f = rw (p .left-keys, p .right-keys) (differs-rows d w y f before e)
+
+    pub listing-breaks : (l r : ℕ) → l ≡ keyOf (d .left) (y .cells) → r ≡ keyOf (d .right) (y .cells) → true ≡ differs l r (take n lefts) (take n rights)
+        → (xs : List Row) → readAll row (left s c₀) ≡ some xs → Even d xs → true ≡ anyTwo (breaks d) xs
+    listing-breaks l r k j t xs q v =
+        let a = rest xs q in
+        let b = every-append (fits d (v .width)) before (y ∷ a .0) (subst (λ z. every (fits d (v .width)) z ≡ true) (a .1) (v .each)) in
+        let f = and-both (fits d (v .width) y) (every (fits d (v .width)) (a .0)) (b .1) .0 in
+        let u = t ∙ (λ i. differs (k i) (j i) (take n lefts) (take n rights)) in
+        sym (two-relation d xs ∙ ap (anyTwo (breaks d)) (a .1) ∙ two-at (breaks d) before y (a .0) (sym (same-test (v .width) (b .0) f) ∙ sym u))
+
+    listing-on : n < 1024 → false ≡ differs (keyOf (d .left) (y .cells)) (keyOf (d .right) (y .cells)) (take n lefts) (take n rights)
+        → Listing s d c₀ e (set lefts n (keyOf (d .left) (y .cells))) (set rights n (keyOf (d .right) (y .cells))) (n + 1) (before ++ y ∷ [])
+    listing-on l t = record {
+      asked = asked-on (shrinks-of Of.Row) (p .asked) _ g (λ ys q. ap (λ z. before ++ z) (kept h ys) ∙ sym (append-assoc before (y ∷ []) (ofRelation d ys)));
+      left-keys = rw (add-one n, take-suc-set lefts n (keyOf (d .left) (y .cells)) (omega (arith, p .lefts-long)), p .left-keys) (sym (map-end (λ (x : Row). keyOf (d .left) (x .cells)) before y));
+      right-keys = rw (add-one n, take-suc-set rights n (keyOf (d .right) (y .cells)) (omega (arith, p .rights-long)), p .right-keys) (sym (map-end (λ (x : Row). keyOf (d .right) (x .cells)) before y));
+      none = λ w v.
+          let b = every-append (fits d w) before (y ∷ []) v in
+          let f = and-both (fits d w y) true (b .1) .0 in
+          two-none (breaks d) before y (p .none w (b .0)) (sym (same-test w (b .0) f) ∙ sym t);
+      many = length-append before (y ∷ []) ∙ ap (λ z. z + 1) (p .many);
+      few = omega (arith, l);
+      lefts-long = length-set lefts n (keyOf (d .left) (y .cells)) ∙ p .lefts-long;
+      rights-long = length-set rights n (keyOf (d .right) (y .cells)) ∙ p .rights-long;
+    }
+
+    pub listing-more : (l r : ℕ) → l ≡ keyOf (d .left) (y .cells) → r ≡ keyOf (d .right) (y .cells) → n < 1024 → false ≡ differs l r (take n lefts) (take n rights)
+        → Listing s d c₀ e (set lefts n l) (set rights n r) (n + 1) (before ++ y ∷ [])
+    listing-more l r k q h t = rw (k, q) (listing-on h (t ∙ (λ i. differs (k i) (q i) (take n lefts) (take n rights))))
+
+pub listing-done : {s : List ℕ} {d : Dependency} {c₀ c : Cursor} {lefts rights : List ℕ} {n : ℕ} {before : List Row} → Listing s d c₀ c lefts rights n before
+    → c .end ≤ c .at → (xs : List Row) → readAll row (left s c₀) ≡ some xs → Even d xs → false ≡ anyTwo (breaks d) xs
+unfolding ofRelation
+listing-done {s} {d} {c₀} {c} {lefts} {rights} {n} {before} p h xs q v =
+    let a = p .asked .is xs q in
+    let b : ofRelation d xs ≡ before = sym (a .2) ∙ ap (λ z. before ++ ofRelation d z) (at-end row (shrinks-of Of.Row) (p .asked .placed) h (a .1)) ∙ append-nil before in
+    sym (two-relation d xs ∙ ap (anyTwo (breaks d)) b ∙ p .none (v .width) (subst (λ z. every (fits d (v .width)) z ≡ true) b (v .each)))
+
+-- ---- what the checks before refusal 8 leave
+
+pub tuple-short : {s : List ℕ} {c e : Cursor} {t : Tuple} → TupleGot rowOf row s c t e → t .len ≤ 8
+tuple-short {s} {c} {e} {t} g = omega (arith, row-short _ _ (g .got .reads), length-at s (t .start) (t .len) (g .inside))
+
+every-wider : (n : ℕ) → n ≤ 256 → (xs : List ℕ) → every (λ v. ltb v n) xs ≡ true → every (λ v. ltb v 256) xs ≡ true
+every-wider n h [] e = refl
+every-wider n h (x ∷ xs) e =
+    let a = and-both (ltb x n) (every (λ v. ltb v n) xs) e in
+    rw (lt-ltb x 256 (omega (arith, ltb-true x n (a .0), h))) (every-wider n h xs (a .1))
+
+widthOf : Option ℕ → ℕ
+widthOf none = 0
+widthOf (some k) = k
+
+has-width : (o : Option ℕ) (n : ℕ) → passes (eqb n) o ≡ true → eqb n (widthOf o) ≡ true
+unfolding widthOf
+has-width none n e = absurd (let z : _≡_ {A = ℕ} 0 1 = cc in omega arith)
+has-width (some k) n e = e
+
+module _ (P : Pack) (few : length (P .setting .values) ≤ 256) (d : Dependency) where
+  width : ℕ
+  width = widthOf (getElem? (P .setting .arities) (d .relation))
+
+  row-fits : (x : Row) → eqb (x .relation) (d .relation) ≡ true → goodRow P x ≡ true → fits d width x ≡ true
+  unfolding width
+  row-fits x h g =
+      let a = and-both (hasArity (P .setting .arities) (x .relation) (length (x .cells))) (every (λ v. ltb v (length (P .setting .values))) (x .cells)) g in
+      let b : hasArity (P .setting .arities) (d .relation) (length (x .cells)) ≡ true =
+      subst (λ r. hasArity (P .setting .arities) r (length (x .cells)) ≡ true) (eqb-true (x .relation) (d .relation) h) (a .0) in
+      rw (h, has-width (getElem? (P .setting .arities) (d .relation)) (length (x .cells)) b) (every-wider _ few (x .cells) (a .1))
+
+  rows-fit : (xs : List Row) → every (goodRow P) xs ≡ true → every (fits d width) (ofRelation d xs) ≡ true
+  unfolding ofRelation
+  rows-fit [] e = refl
+  rows-fit (x ∷ xs) e =
+      let a = and-both (goodRow P x) (every (goodRow P) xs) e in
+      go (eqb (x .relation) (d .relation)) refl (a .0) (rows-fit xs (a .1))
+    where
+      go : (b : Bool) → eqb (x .relation) (d .relation) ≡ b → goodRow P x ≡ true → every (fits d width) (ofRelation d xs) ≡ true
+          → every (fits d width) (keep b x (ofRelation d xs)) ≡ true
+      go true q g ih = (λ i. row-fits x q g i && ih i)
+      go false q g ih = ih
+
+  pub even : dangling P ≡ false → length (P .rows) ≤ 1024 → Even d (P .rows)
+  unfolding dangling
+  even h l = record {
+    width = width;
+    each = rows-fit (P .rows) (and-both (every (goodDependency P) (P .setting .dependencies) && every (goodShape P) (P .setting .shapes) && every (goodRule P) (P .setting .rules)) (every (goodRow P) (P .rows)) (not-false _ h) .1);
+    few = l;
+  }
