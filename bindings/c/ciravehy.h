@@ -10,7 +10,7 @@
  * its type and not null, even where its length is 0. What may be written overlaps nothing else that is lent.
  *
  * The calls keep no pointer and no state, so they may run in several threads at once, each with its own buffers. Pairs takes
- * some 170 KB of stack, the others less than half of that. */
+ * less than 200 KB of stack, the others less than half of that. */
 #ifndef CIRAVEHY_H
 #define CIRAVEHY_H
 
