@@ -66,7 +66,7 @@ fn some_differs(lefts: &[u64], rights: &[u64], left: u64, right: u64) -> bool
     false
 }
 
-// Whether two rows break a dependency: the keys of its relation's rows are listed, and each row is held against those before it.
+// Whether two rows break a dependency. The keys of its relation's rows are listed, and each row is compared with those before it.
 fn some_break(s: &[u8], d: Depends, rows: Cursor) -> bool
     requires { ⌜ Placed (now s) rows ⌝ }
     ensures { λ r. ⌜ Listed row (left (now (s .entry)) rows) (λ rs. Even (dependencyOf d) rs → r ≡ anyTwo (breaks (dependencyOf d)) rs) ⌝ }
