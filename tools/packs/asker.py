@@ -80,7 +80,7 @@ def build():
     """Proves and builds the program if it is missing, or older than a file that it is built from."""
     if os.path.exists(PROGRAM) and changed(PROGRAM) >= newest():
         return
-    say("proving and building the program with 'rt check certain'; from nothing that takes some eight minutes, "
+    say("proving and building the program with 'rt check certain'; from nothing that takes some ten minutes, "
         "more on a busy machine")
     start = time.monotonic()
     try:
