@@ -2,7 +2,7 @@
 use borrow.Author.Tests.{eqb-true, eqb-false, eq-eqb, ne-eqb, ltb-true, lt-ltb, not-false}
 use lib.Dec.{eqb, ltb}
 use lib.ListN.{length, drop, take, getElem?, getD, set, drop-of-length-le, length-append, length-set}
-use lib.Seq.{drop-cons, slice-empty, take-suc-set}
+use lib.Seq.{drop-cons, getD-take, length-take-le, slice-empty, take-suc-set}
 use mathlib.Core.Bool.{Bool, true, false, not, _&&_, _||_}
 use mathlib.Core.List.{List, [], _∷_, _++_, map, append-assoc, append-nil}
 use mathlib.Core.Option.{Option, none, some}
@@ -21,6 +21,7 @@ use Rattle.pack.specs.declared.cursor.Tuple.{Tuple}
 use Rattle.pack.specs.declared.walk.Kind.the-variants as Of
 use Rattle.pack.proofs.Bodies.{shrinks-of}
 use Rattle.pack.proofs.Bounds.{row-short}
+use Rattle.pack.proofs.Pairs.{two-at, two-none}
 use Rattle.pack.proofs.Reading.{slice-front, length-at}
 use Rattle.pack.proofs.Walks.{Asked, asked-start, asked-on, front, at-end}
 use Rattle.access.specs.Keys.{named, keyOf, below, differs, keep, ofRelation, fits, Even}
@@ -101,27 +102,35 @@ module _ (s : List ℕ) (m a n k : ℕ) (inside : a + n ≤ length s) (some : n 
 
 -- ---- the loop that looks for another right key
 
-pub record Looking (ls rs : List ℕ) (l r i : ℕ) : Type 0 where
-  pub same : length rs ≡ length ls
-  pub is : differs l r (drop i ls) (drop i rs) ≡ differs l r ls rs
+pub record Looking (ls rs : List ℕ) (l r n i : ℕ) : Type 0 where
+  pub few : n ≤ 1024
+  pub lefts-long : length ls ≡ 1024
+  pub rights-long : length rs ≡ 1024
+  pub is : differs l r (drop i (take n ls)) (drop i (take n rs)) ≡ differs l r (take n ls) (take n rs)
 
-pub looking-start : (ls rs : List ℕ) (l r : ℕ) → length rs ≡ length ls → Looking ls rs l r 0
-looking-start ls rs l r h = record { same = h; is = refl }
+pub looking-start : (ls rs : List ℕ) (l r n : ℕ) → n ≤ 1024 → length ls ≡ 1024 → length rs ≡ 1024 → Looking ls rs l r n 0
+looking-start ls rs l r n f h g = record { few = f; lefts-long = h; rights-long = g; is = refl }
 
-module _ {ls rs : List ℕ} {l r i : ℕ} (p : Looking ls rs l r i) (h : i < length ls) where
-  step : differs l r (drop i ls) (drop i rs) ≡ ((eqb (getD ls i 0) l && not (eqb (getD rs i 0) r)) || differs l r (drop (i + 1) ls) (drop (i + 1) rs))
+module _ {ls rs : List ℕ} {l r n i : ℕ} (p : Looking ls rs l r n i) (h : i < n) where
+  -- what is left of the first n entries starts with entry i
+  entry : (xs : List ℕ) → length xs ≡ 1024 → drop i (take n xs) ≡ getD xs i 0 ∷ drop (i + 1) (take n xs)
+  entry xs g = rw (drop-cons (take n xs) i 0 (omega (arith, length-take-le n xs (omega (arith, p .few, g)), h)), getD-take n xs i 0 h, add-one i)
+
+  step : differs l r (drop i (take n ls)) (drop i (take n rs)) ≡ ((eqb (getD ls i 0) l && not (eqb (getD rs i 0) r)) || differs l r (drop (i + 1) (take n ls)) (drop (i + 1) (take n rs)))
   unfolding differs
-  step = rw (drop-cons ls i 0 h, drop-cons rs i 0 (omega (arith, p .same)), add-one i)
+  step = rw (entry ls (p .lefts-long), entry rs (p .rights-long))
 
-  pub looking-found : (eqb (getD ls i 0) l && not (eqb (getD rs i 0) r)) ≡ true → true ≡ differs l r ls rs
+  pub looking-found : (eqb (getD ls i 0) l && not (eqb (getD rs i 0) r)) ≡ true → true ≡ differs l r (take n ls) (take n rs)
   looking-found e = rw e at (sym step) ∙ p .is
 
-  pub looking-on : (eqb (getD ls i 0) l && not (eqb (getD rs i 0) r)) ≡ false → Looking ls rs l r (i + 1)
-  looking-on e = record { same = p .same; is = rw e at (sym step) ∙ p .is }
+  pub looking-on : (eqb (getD ls i 0) l && not (eqb (getD rs i 0) r)) ≡ false → Looking ls rs l r n (i + 1)
+  looking-on e = record { few = p .few; lefts-long = p .lefts-long; rights-long = p .rights-long; is = rw e at (sym step) ∙ p .is }
 
-pub looking-done : {ls rs : List ℕ} {l r i : ℕ} → Looking ls rs l r i → length ls ≤ i → false ≡ differs l r ls rs
+pub looking-done : {ls rs : List ℕ} {l r n i : ℕ} → Looking ls rs l r n i → n ≤ i → false ≡ differs l r (take n ls) (take n rs)
 unfolding differs
-looking-done {ls} {rs} {l} {r} {i} p h = ap (λ z. differs l r z (drop i rs)) (sym (drop-of-length-le ls h)) ∙ p .is
+looking-done {ls} {rs} {l} {r} {n} {i} p h =
+    let g : length (take n ls) ≤ i = omega (arith, length-take-le n ls (omega (arith, p .few, p .lefts-long)), h) in
+    ap (λ z. differs l r z (drop i (take n rs))) (sym (drop-of-length-le (take n ls) g)) ∙ p .is
 
 -- ---- rows that break a dependency with one
 
@@ -140,42 +149,6 @@ differs-rows d w y f (x ∷ xs) e =
     let p : (eqb (keyOf (d .left) (x .cells)) (keyOf (d .left) (y .cells)) && not (eqb (keyOf (d .right) (x .cells)) (keyOf (d .right) (y .cells)))) ≡ breaks d x y =
     rw (b .0, g .0, agree-keys (d .left) (x .cells) (y .cells) n (c .1) (h .1), agree-keys (d .right) (x .cells) (y .cells) n (c .1) (h .1)) in
     (λ i. p i || differs-rows d w y f xs (a .1) i)
-
--- ---- pairs of a list that grows at its end
-
-or-right : (a : Bool) → (a || true) ≡ true
-or-right true = refl
-or-right false = refl
-
-module _ {A : Type 0} (f : A → A → Bool) where
-  any-at : (g : A → Bool) (xs : List A) (y : A) (zs : List A) → g y ≡ true → any g (xs ++ y ∷ zs) ≡ true
-  any-at g [] y zs e = rw e
-  any-at g (x ∷ xs) y zs e = rw (any-at g xs y zs e) (or-right (g x))
-
-  any-none : (g : A → Bool) (xs : List A) (y : A) → g y ≡ false → any g xs ≡ false → any g (xs ++ y ∷ []) ≡ false
-  any-none g [] y e h = rw e
-  any-none g (x ∷ xs) y e h = go (g x) refl (any-none g xs y e)
-    where
-      go : (b : Bool) → g x ≡ b → (any g xs ≡ false → any g (xs ++ y ∷ []) ≡ false) → any g ((x ∷ xs) ++ y ∷ []) ≡ false
-      go true q ih = absurd (let k : true ≡ false = rw q at h in let z : _≡_ {A = ℕ} 0 1 = cc in omega arith)
-      go false q ih = rw q (ih (rw q at h))
-
-  pub two-at : (xs : List A) (y : A) (zs : List A) → any (λ x. f x y) xs ≡ true → anyTwo f (xs ++ y ∷ zs) ≡ true
-  two-at [] y zs e = absurd (let z : _≡_ {A = ℕ} 0 1 = cc in omega arith)
-  two-at (x ∷ xs) y zs e = go (f x y) refl (two-at xs y zs)
-    where
-      go : (b : Bool) → f x y ≡ b → (any (λ z. f z y) xs ≡ true → anyTwo f (xs ++ y ∷ zs) ≡ true) → anyTwo f ((x ∷ xs) ++ y ∷ zs) ≡ true
-      go true q ih = rw (any-at (f x) xs y zs q)
-      go false q ih = rw (ih (rw q at e)) (or-right (any (f x) (xs ++ y ∷ zs)))
-
-  pub two-none : (xs : List A) (y : A) → anyTwo f xs ≡ false → any (λ x. f x y) xs ≡ false → anyTwo f (xs ++ y ∷ []) ≡ false
-  two-none [] y e h = refl
-  two-none (x ∷ xs) y e h = go (any (f x) xs) (f x y) refl refl (two-none xs y)
-    where
-      go : (a b : Bool) → any (f x) xs ≡ a → f x y ≡ b → (anyTwo f xs ≡ false → any (λ z. f z y) xs ≡ false → anyTwo f (xs ++ y ∷ []) ≡ false) → anyTwo f ((x ∷ xs) ++ y ∷ []) ≡ false
-      go true b p q ih = absurd (let k : true ≡ false = rw p at e in let z : _≡_ {A = ℕ} 0 1 = cc in omega arith)
-      go false true p q ih = absurd (let k : true ≡ false = rw q at h in let z : _≡_ {A = ℕ} 0 1 = cc in omega arith)
-      go false false p q ih = rw (any-none (f x) xs y q p) (ih (rw p at e) (rw q at h))
 
 -- ---- only rows of its relation break a dependency
 

@@ -3,7 +3,7 @@ ghost use mathlib.Core.Bool.{false, not, _&&_};
 ghost use mathlib.Core.Path.{_≡_};
 ghost use Prim.Native.Nat.{_+_, _≤_, _<_};
 ghost use lib.Dec.{eqb};
-ghost use lib.ListN.{length};
+ghost use lib.ListN.{length, take};
 ghost use Rattle.meaning.specs.Tests.{anyTwo};
 ghost use Rattle.meaning.specs.WellFormed.{breaks, broken, dangling};
 ghost use Rattle.pack.specs.Contents.{badSize};
@@ -50,12 +50,17 @@ fn differ(x: u64, left: u64, y: u64, right: u64) -> bool
     y != right
 }
 
-// Whether an entry of the lists has this left key and another right key.
-fn some_differs(lefts: &[u64], rights: &[u64], left: u64, right: u64) -> bool
-    requires { ⌜ length (now rights) ≡ length (now lefts) ⌝ }
-    ensures { λ r. ⌜ r ≡ differs left right (now (lefts .entry)) (now (rights .entry)) ⌝ }
+// Whether one of the first n entries of the lists has this left key and another right key.
+fn some_differs(
+    lefts: &[u64; MAX_ROWS],
+    rights: &[u64; MAX_ROWS],
+    n: usize,
+    left: u64,
+    right: u64,
+) -> bool
+    requires { ⌜ (n ≤ 1024) × (length (now lefts) ≡ 1024) × (length (now rights) ≡ 1024) ⌝ }
+    ensures { λ r. ⌜ r ≡ differs left right (take n (now (lefts .entry))) (take n (now (rights .entry))) ⌝ }
 {
-    let n = lefts.len();
     let mut i = 0;
     while i < n {
         if differ(lefts[i], left, rights[i], right) {
@@ -66,13 +71,17 @@ fn some_differs(lefts: &[u64], rights: &[u64], left: u64, right: u64) -> bool
     false
 }
 
-// Whether two rows break a dependency. The keys of its relation's rows are listed, and each row is compared with those before it.
-fn some_break(s: &[u8], d: Depends, rows: Cursor) -> bool
-    requires { ⌜ Placed (now s) rows ⌝ }
-    ensures { λ r. ⌜ Listed row (left (now (s .entry)) rows) (λ rs. Even (dependencyOf d) rs → r ≡ anyTwo (breaks (dependencyOf d)) rs) ⌝ }
+// Whether two rows break a dependency. The keys of its relation's rows are listed in the lent arrays, and each row is compared with those before it.
+fn some_break(
+    s: &[u8],
+    d: Depends,
+    rows: Cursor,
+    lefts: &mut [u64; MAX_ROWS],
+    rights: &mut [u64; MAX_ROWS],
+) -> bool
+    requires { ⌜ Placed (now s) rows × (length (now lefts) ≡ 1024) × (length (now rights) ≡ 1024) ⌝ }
+    ensures { λ r. ⌜ Listed row (left (now (s .entry)) rows) (λ rs. Even (dependencyOf d) rs → r ≡ anyTwo (breaks (dependencyOf d)) rs) × (length (now (lefts .exit)) ≡ 1024) × (length (now (rights .exit)) ≡ 1024) ⌝ }
 {
-    let mut lefts = [0u64; MAX_ROWS];
-    let mut rights = [0u64; MAX_ROWS];
     let mut n = 0;
     let mut c = rows;
     while c.at < c.end {
@@ -87,7 +96,7 @@ fn some_break(s: &[u8], d: Depends, rows: Cursor) -> bool
                 }
                 let l = key(s, d.left, tuple.start, tuple.len);
                 let r = key(s, d.right, tuple.start, tuple.len);
-                if some_differs(&lefts[..n], &rights[..n], l, r) {
+                if some_differs(lefts, rights, n, l, r) {
                     return true;
                 }
                 lefts[n] = l;
@@ -107,6 +116,8 @@ pub fn is_broken(s: &[u8]) -> bool
     requires { ⌜ (badSize (now s) ≡ false) × Decoded (now s) (λ P. dangling P ≡ false) ⌝ }
     ensures { λ r. ⌜ Decoded (now (s .entry)) (λ P. r ≡ broken P) ⌝ }
 {
+    let mut lefts = [0u64; MAX_ROWS];
+    let mut rights = [0u64; MAX_ROWS];
     let rows = body(s, 8);
     let mut c = body(s, 2);
     while c.at < c.end {
@@ -122,7 +133,7 @@ pub fn is_broken(s: &[u8]) -> bool
                     left,
                     right,
                 };
-                if some_break(s, d, rows) {
+                if some_break(s, d, rows, &mut lefts, &mut rights) {
                     return true;
                 }
                 c = next;

@@ -3,7 +3,7 @@
 use borrow.Author.Tests.{leb-true, ltb-true}
 use lib.Dec.{leb}
 use lib.ListN.{length}
-use mathlib.Core.Bool.{Bool, true, false, _&&_}
+use mathlib.Core.Bool.{Bool, true, false}
 use mathlib.Core.List.{List, [], _∷_}
 use mathlib.Core.Option.{Option, none, some, Option·none-ne-some, Option·some-injective}
 use mathlib.Core.Path.{_≡_, refl, sym, ap, subst, _∙_}
@@ -15,6 +15,7 @@ use Rattle.meaning.specs.Tests.{within}
 use Rattle.pack.specs.Readers.{Read, Reader, only, next, byte, byteIn, bytes, sized}
 use Rattle.pack.specs.Records.{anyByte, atom, atoms, constructor, headOf, row, rule, tuple, value, variable}
 use Rattle.pack.specs.Unpack.{also, records, readAll}
+use Rattle.pack.proofs.Reading.{and-both}
 
 -- ---- what every record of a body is
 
@@ -57,10 +58,6 @@ next-some (some q) f r e = (q, refl, e)
 only-some : {A : Type 0} (b : Bool) (a : A) (s : List ℕ) (r : Read A) → only b a s ≡ some r → (b ≡ true) × (r .got ≡ a)
 only-some true a s r e = (refl, ap (λ (x : Read _). x .got) (sym (Option·some-injective _ r e)))
 only-some false a s r e = absurd (Option·none-ne-some r e)
-
-and-both : (a b : Bool) → (a && b) ≡ true → (a ≡ true) × (b ≡ true)
-and-both true b h = (refl, h)
-and-both false b h = absurd (let z : _≡_ {A = ℕ} 0 1 = cc in omega arith)
 
 got-is : {A : Type 0} {r q : Read A} → _≡_ {A = Option (Read A)} (some r) (some q) → r .got ≡ q .got
 got-is e = ap (λ (x : Read _). x .got) (Option·some-injective _ _ e)

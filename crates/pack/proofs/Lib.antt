@@ -6,6 +6,9 @@ pub mod Sizes
 pub mod Unpacking
 pub mod Walks
 pub mod Texts
+pub mod Eights
+pub mod Pairs
+pub mod Clashes
 pub mod Naming
 pub mod Atoms
 pub mod Order

@@ -34,6 +34,10 @@ pub case-on : {P : Type 0} (b : Bool) → (b ≡ true → P) → (b ≡ false �
 case-on true f g = f refl
 case-on false f g = g refl
 
+pub and-both : (a b : Bool) → (a && b) ≡ true → (a ≡ true) × (b ≡ true)
+and-both true b h = (refl, h)
+and-both false b h = absurd (let z : _≡_ {A = ℕ} 0 1 = cc in omega arith)
+
 -- ---- parts of a list
 
 module _ {A : Type 0} where

@@ -3,7 +3,7 @@ use borrow.Author.Tests.{leb-true, eqb-true, not-false}
 use lib.Dec.{leb, eqb}
 use lib.ListN.{length}
 use lib.Seq.{slice}
-use mathlib.Core.Bool.{Bool, true, false, _&&_}
+use mathlib.Core.Bool.{false}
 use mathlib.Core.List.{List}
 use mathlib.Core.Option.{some}
 use mathlib.Core.Path.{_≡_, refl, sym, ap, _∙_}
@@ -17,7 +17,7 @@ use Rattle.pack.specs.Readers.{Reader}
 use Rattle.pack.specs.Shown.{left, BodyAt}
 use Rattle.pack.specs.Unpack.{readAll}
 use Rattle.pack.specs.declared.cursor.Cursor.{Cursor}
-use Rattle.pack.proofs.Reading.{slice-by}
+use Rattle.pack.proofs.Reading.{and-both, slice-by}
 
 -- the lengths before i are added
 pub record Summed (s : List ℕ) (i at : ℕ) : Type 0 where
@@ -37,10 +37,6 @@ summed-on {s} {i} {at} {w} p e h = record {
 
 pub summed-done : {s : List ℕ} {i at : ℕ} (k : ℕ) → Summed s i at → i ≤ k → k ≤ i → at ≡ startOf s k
 summed-done {s} {i} k p h l = p .is ∙ ap (startOf s) (omega arith)
-
-and-both : (a b : Bool) → (a && b) ≡ true → (a ≡ true) × (b ≡ true)
-and-both true b h = (refl, h)
-and-both false b h = absurd (let z : _≡_ {A = ℕ} 0 1 = cc in omega arith)
 
 -- what the size says
 pub record Sized (s : List ℕ) : Type 0 where

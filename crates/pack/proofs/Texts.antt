@@ -1,19 +1,21 @@
 -- Laws of texts that are compared, and of the records whose keys they are. Assumes nothing.
-use borrow.Author.Tests.{eq-eqb, ne-eqb}
+use borrow.Author.Tests.{eq-eqb, ne-eqb, eqb-true}
 use lib.Dec.{eqb}
-use lib.ListN.{length, getD}
-use lib.Seq.{slice, slice-empty, length-slice}
+use lib.ListN.{length, getD, take}
+use lib.Seq.{slice, slice-empty, length-slice, getD-drop, getD-take}
 use mathlib.Core.Bool.{Bool, true, false, _&&_, _||_}
 use mathlib.Core.List.{List, [], _∷_, map}
 use mathlib.Core.Option.{Option, none, some, Option·map, Option·some-injective}
 use mathlib.Core.Path.{_≡_, refl, sym, ap, ap₂, _∙_}
 use native.Mathlib.Nat.{not-suc-le-zero, le-of-suc-le-suc}
+use native.Mathlib.Numerals.{add-one}
 use native.Mathlib.Omega.{arith}
-use Prim.Native.Nat.{ℕ, zero, suc, _+_, _≤_, _<_}
+use Prim.Native.Nat.{ℕ, zero, suc, _+_, _-_, _≤_, _<_}
 use Rattle.meaning.specs.Pack.{Text, ShapeRecord, Constructor}
 use Rattle.meaning.specs.Tests.{any, anyTwo, sameText, begins}
 use Rattle.meaning.specs.WellFormed.{sameCell}
 use Rattle.pack.specs.Keys.{mapped, cellOf, prefixOf, keyReader}
+use Rattle.pack.specs.Places.{SameBytes}
 use Rattle.pack.specs.Readers.{Read, Reader, give, next, _>>=_}
 use Rattle.pack.specs.Records.{value, name, shape, constructor}
 use Rattle.pack.specs.Shown.{Not, textAt, TextGot, ShapeGot, ConstructorGot}
@@ -23,7 +25,7 @@ use Rattle.pack.specs.declared.clash.Key.{Key}
 use Rattle.pack.specs.declared.clash.Key.the-variants as K
 use Rattle.pack.specs.declared.walk.Kind.the-variants as Of
 use Rattle.pack.proofs.Bodies.{Shrinks, shrinks-of}
-use Rattle.pack.proofs.Reading.{slice-front, then-got, then-not, give-got}
+use Rattle.pack.proofs.Reading.{case-on, and-both, slice-front, then-got, then-not, give-got}
 
 -- ---- texts
 
@@ -52,6 +54,16 @@ same-long (x ∷ xs) (y ∷ ys) h = go (eqb x y) (same-long xs ys (λ e. h (ap s
     go true e = e
     go false e = refl
 
+same-at : (xs ys : List ℕ) (k : ℕ) → true ≡ sameText xs ys → getD xs k 0 ≡ getD ys k 0
+same-at [] [] k e = refl
+same-at [] (y ∷ ys) k e = absurd (let z : _≡_ {A = ℕ} 0 1 = cc in omega arith)
+same-at (x ∷ xs) [] k e = absurd (let z : _≡_ {A = ℕ} 0 1 = cc in omega arith)
+same-at (x ∷ xs) (y ∷ ys) zero e = eqb-true x y (and-both (eqb x y) (sameText xs ys) (sym e) .0)
+same-at (x ∷ xs) (y ∷ ys) (suc k) e = same-at xs ys k (sym (and-both (eqb x y) (sameText xs ys) (sym e) .1))
+
+byte-of : (s : List ℕ) (a n k : ℕ) → k < n → getD (textAt s a n) k 0 ≡ getD s (a + k) 0
+byte-of s a n k h = getD-drop a (take (a + n) s) k 0 ∙ getD-take (a + n) s (a + k) 0 (omega arith)
+
 -- texts by their places
 module _ (s : List ℕ) (a n b m : ℕ) (p : a + n ≤ length s) (q : b + m ≤ length s) where
   long-a : length (textAt s a n) ≡ n
@@ -69,6 +81,17 @@ module _ (s : List ℕ) (a n b m : ℕ) (p : a + n ≤ length s) (q : b + m ≤ 
 
   pub not-as-long : (n ≡ m → ⊥) → false ≡ sameText (textAt s a n) (textAt s b m)
   not-as-long h = same-long (textAt s a n) (textAt s b m) (λ (e : length (textAt s a n) ≡ length (textAt s b m)). h (omega (arith, e, long-a, long-b)))
+
+  pub both-empty : n ≡ m → n ≡ 0 → true ≡ sameText (textAt s a n) (textAt s b m)
+  both-empty e h =
+      let x : a + n ≡ a = omega arith in
+      let y : b + m ≡ b = omega arith in
+      rw (x, y, slice-empty a s, slice-empty b s)
+
+  pub differ-last : n ≡ m → (n ≡ 0 → ⊥) → (getD s (a + (n - 1)) 0 ≡ getD s (b + (n - 1)) 0 → ⊥) → false ≡ sameText (textAt s a n) (textAt s b m)
+  differ-last e h ne = case-on (sameText (textAt s a n) (textAt s b m))
+      (λ t. absurd (ne (sym (byte-of s a n (n - 1) (omega arith)) ∙ same-at (textAt s a n) (textAt s b m) (n - 1) (sym t) ∙ byte-of s b m (n - 1) (omega arith))))
+      (λ t. sym t)
 
 -- the first i bytes agree
 pub record Agreeing (s : List ℕ) (a n b m i : ℕ) : Type 0 where
@@ -106,6 +129,12 @@ module _ {s : List ℕ} {a n b m i : ℕ} (p : Agreeing s a n b m i) where
 
   pub agreeing-done : n ≤ i → true ≡ begins (textAt s a n) (textAt s b m)
   agreeing-done h = let e : i ≡ n = omega (arith, p .within) in rw (e, slice-empty) at (p .is)
+
+-- as many bytes as are the same
+pub agreeing-from : {s : List ℕ} {a n b m : ℕ} → Agreeing s a n b m 0 → (i : ℕ) → i ≤ n → SameBytes s a b i → Agreeing s a n b m i
+agreeing-from p zero h e = p
+agreeing-from {s} {a} {n} {b} {m} p (suc i) h e =
+    rw (sym (add-one i)) (agreeing-on (agreeing-from p i (omega arith) (λ k l. e k (omega arith))) (omega arith) (e i (omega arith)))
 
 -- ---- keys
 

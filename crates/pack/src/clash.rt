@@ -3,17 +3,22 @@ ghost use mathlib.Core.Bool.{false};
 ghost use mathlib.Core.Path.{_≡_};
 ghost use Prim.Native.Nat.{_+_, _≤_};
 ghost use lib.ListN.{length};
-ghost use Rattle.meaning.specs.Tests.{any, anyTwo, begins, sameText};
+ghost use Rattle.meaning.specs.Limits.{maxValues};
+ghost use Rattle.meaning.specs.Tests.{any, anyTwo};
 ghost use Rattle.meaning.specs.WellFormed.{duplicates, prefixClash};
 ghost use Rattle.pack.specs.Contents.{badSize};
 ghost use Rattle.pack.specs.Keys.{keyReader, clashes};
+ghost use Rattle.pack.specs.Places.{textsAt, TextsInside};
 ghost use Rattle.pack.specs.Shown.{Placed, left, textAt, TextShown};
 ghost use Rattle.pack.specs.Unpack.{Listed, Decoded};
+use crate::compare::begins_at;
+use crate::compare::same_at;
 use crate::contents::body;
 use crate::cursor::ConstructorRead;
 use crate::cursor::Cursor;
 use crate::cursor::ShapeRead;
 use crate::cursor::TextRead;
+use meaning::MAX_VALUES;
 
 // What is compared of a record.
 pub enum Key {
@@ -57,34 +62,6 @@ fn key_at(c: Cursor, s: &[u8], key: Key) -> TextRead
     }
 }
 
-// Whether the text at a begins the text at b, or equals it.
-pub fn begins_at(s: &[u8], a: usize, n: usize, b: usize, m: usize) -> bool
-    requires { ⌜ (a + n ≤ length (now s)) × (b + m ≤ length (now s)) ⌝ }
-    ensures { λ r. ⌜ r ≡ begins (textAt (now (s .entry)) a n) (textAt (now (s .entry)) b m) ⌝ }
-{
-    if m < n {
-        return false;
-    }
-    let mut i = 0;
-    while i < n {
-        if s[a + i] != s[b + i] {
-            return false;
-        }
-        i += 1;
-    }
-    true
-}
-
-fn same_at(s: &[u8], a: usize, n: usize, b: usize, m: usize) -> bool
-    requires { ⌜ (a + n ≤ length (now s)) × (b + m ≤ length (now s)) ⌝ }
-    ensures { λ r. ⌜ r ≡ sameText (textAt (now (s .entry)) a n) (textAt (now (s .entry)) b m) ⌝ }
-{
-    if n != m {
-        return false;
-    }
-    begins_at(s, a, n, b, m)
-}
-
 // Whether the two texts are what the refusal forbids.
 fn clash_at(s: &[u8], key: Key, a: usize, n: usize, b: usize, m: usize) -> bool
     requires { ⌜ (a + n ≤ length (now s)) × (b + m ≤ length (now s)) ⌝ }
@@ -103,44 +80,40 @@ fn clash_at(s: &[u8], key: Key, a: usize, n: usize, b: usize, m: usize) -> bool
     }
 }
 
-// Whether a text clashes with the key of a record from a cursor on.
-fn clash_later(s: &[u8], key: Key, start: usize, len: usize, from: Cursor) -> bool
-    requires { ⌜ (start + len ≤ length (now s)) × Placed (now s) from ⌝ }
-    ensures { λ r. ⌜ Listed (keyReader key) (left (now (s .entry)) from) (λ ks. r ≡ any (clashes key (textAt (now (s .entry)) start len)) ks) ⌝ }
+// Whether one of the texts at the places clashes with the text at b.
+fn clash_before(s: &[u8], key: Key, starts: &[usize], lens: &[usize], b: usize, m: usize) -> bool
+    requires { ⌜ TextsInside (now s) (now starts) (now lens) × (b + m ≤ length (now s)) ⌝ }
+    ensures { λ r. ⌜ r ≡ any (λ t. clashes key t (textAt (now (s .entry)) b m)) (textsAt (now (s .entry)) (now (starts .entry)) (now (lens .entry))) ⌝ }
 {
-    let mut c = from;
-    while c.at < c.end {
-        match key_at(c, s, key) {
-            TextRead::Text {
-                start: b,
-                len: m,
-                next,
-            } => {
-                if clash_at(s, key, start, len, b, m) {
-                    return true;
-                }
-                c = next;
-            }
-            TextRead::Bad => {
-                return false;
-            }
+    for i in 0..starts.len() {
+        if clash_at(s, key, starts[i], lens[i], b, m) {
+            return true;
         }
     }
     false
 }
 
-// Whether the keys of two records of a body clash.
+// Whether the keys of two records of a body clash. The places of the keys are listed, and each key is compared with those before it.
 fn clash(s: &[u8], key: Key, body: Cursor) -> bool
     requires { ⌜ Placed (now s) body ⌝ }
-    ensures { λ r. ⌜ Listed (keyReader key) (left (now (s .entry)) body) (λ ks. r ≡ anyTwo (clashes key) ks) ⌝ }
+    ensures { λ r. ⌜ Listed (keyReader key) (left (now (s .entry)) body) (λ ks. length ks ≤ maxValues → r ≡ anyTwo (clashes key) ks) ⌝ }
 {
+    let mut starts = [0usize; MAX_VALUES];
+    let mut lens = [0usize; MAX_VALUES];
+    let mut n = 0;
     let mut c = body;
     while c.at < c.end {
         match key_at(c, s, key) {
             TextRead::Text { start, len, next } => {
-                if clash_later(s, key, start, len, next) {
+                if MAX_VALUES <= n {
+                    return false;
+                }
+                if clash_before(s, key, &starts[..n], &lens[..n], start, len) {
                     return true;
                 }
+                starts[n] = start;
+                lens[n] = len;
+                n += 1;
                 c = next;
             }
             TextRead::Bad => {

@@ -10,7 +10,7 @@ use meaning::CONTENTS_BYTES;
 use meaning::MAX_PACK_BYTES;
 
 // The 32-bit number at a place, lowest byte first.
-fn word(s: &[u8], i: usize) -> u64
+pub fn word(s: &[u8], i: usize) -> u64
     requires { ⌜ i + 3 < length (now s) ⌝ }
     ensures { λ r. ⌜ (r ≡ word (now (s .entry)) i) × (r < 4294967296) ⌝ }
 {

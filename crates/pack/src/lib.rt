@@ -2,6 +2,7 @@
 pub mod bytes;
 pub mod check;
 pub mod clash;
+pub mod compare;
 pub mod contents;
 pub mod cursor;
 pub mod names;

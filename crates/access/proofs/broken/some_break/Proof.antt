@@ -1,9 +1,7 @@
 -- `broken::some_break` meets its contract: no two rows before the cursor break the dependency. Assumes nothing.
 use borrow.Author.Tests.{eq-eqb, ne-eqb}
-use lib.Seq.{length-take-le}
 use mathlib.Core.List.{List, [], _∷_, _++_}
 use mathlib.Core.Path.{sym, _∙_}
-use native.Mathlib.Omega.{arith}
 use Prim.Native.Nat.{_-_}
 use Rattle.meaning.specs.Pack.{Row}
 use Rattle.pack.specs.Records.{rowOf}
@@ -29,27 +27,23 @@ some-break-spec =
     (tie.spec
     Inv-loop
     μ-loop
-    (λ c. ([], listing-start _ _ _ _ _ (c .before .pre) (search needs) (search needs)))  -- loop-holds
+    (λ c. ([], listing-start _ _ _ _ _ (c .before .pre .0) (c .before .pre .1) (c .before .pre .2)))  -- loop-holds
     (λ c κs. c .before .before .loop .inv .1 .asked .placed)  -- row-requires
     (λ c. search needs)  -- enum-known-tuple
     (λ c. asked-less (shrinks-of Of.Row) (c .before .before .before .before .before .before .before .before .before .loop .inv .1 .asked) (as-tuple (c .before .before .before .before .tuple .given .1) (c .before .before .before .before .before .before .row .ensures) .got))  -- loop-less
     (λ c. (c .before .before .before .before .before .before .before .before .before .loop .inv .0, listing-other (c .before .before .before .before .before .before .before .before .before .loop .inv .1) (as-tuple (c .before .before .before .before .tuple .given .1) (c .before .before .before .before .before .before .row .ensures) .got) (ne-eqb _ _ (c .if2 .taken))))  -- loop-again
-    (λ c. λ xs e v. listing-full (c .before .before .before .before .before .before .before .before .before .before .loop .inv .1) (as-tuple (c .before .before .before .before .before .tuple .given .1) (c .before .before .before .before .before .before .before .row .ensures) .got) (eq-eqb _ _ (c .before .if2 .left)) (c .if3 .taken) xs e v)  -- returns
+    (λ c. let p = c .before .before .before .before .before .before .before .before .before .before .loop .inv .1 in (λ xs e v. listing-full p (as-tuple (c .before .before .before .before .before .tuple .given .1) (c .before .before .before .before .before .before .before .row .ensures) .got) (eq-eqb _ _ (c .before .if2 .left)) (c .if3 .taken) xs e v, p .lefts-long, p .rights-long))  -- returns
     (λ c κs. let g = as-tuple (c .before .before .before .before .before .tuple .given .1) (c .before .before .before .before .before .before .before .row .ensures) in (g .inside, tuple-short g))  -- key-requires
     (λ c κs. let g = as-tuple (c .before .before .before .before .before .before .tuple .given .1) (c .before .before .before .before .before .before .before .before .row .ensures) in (g .inside, tuple-short g))  -- key-requires-2
-    (λ c. search needs)  -- array-share-prefix-lefts
-    (λ c. let o = c .before .before .before .before .before .before .before .before .before .before .before .before .before .loop in omega (arith, length-take-le (o .n) (o .lefts) (omega (arith, o .inv .1 .few, o .inv .1 .lefts-long))))  -- slice-aggregate-some-differs
-    (λ c. search needs)  -- array-share-prefix-rights
-    (λ c. let o = c .before .before .before .before .before .before .before .before .before .before .before .before .before .before .loop in omega (arith, length-take-le (o .n) (o .rights) (omega (arith, o .inv .1 .few, o .inv .1 .rights-long))))  -- slice-aggregate-some-differs-2
-    (λ c κs. let o = c .before .before .before .before .before .before .before .before .before .before .before .before .before .before .loop in length-take-le (o .n) (o .rights) (omega (arith, o .inv .1 .few, o .inv .1 .rights-long)) ∙ sym (length-take-le (o .n) (o .lefts) (omega (arith, o .inv .1 .few, o .inv .1 .lefts-long))))  -- some-differs-requires
-    (λ c. λ xs e v. listing-breaks (c .before .before .before .before .before .before .before .before .before .before .before .before .before .before .before .before .loop .inv .1) (as-tuple (c .before .before .before .before .before .before .before .before .before .before .before .tuple .given .1) (c .before .before .before .before .before .before .before .before .before .before .before .before .before .row .ensures) .got) (eq-eqb _ _ (c .before .before .before .before .before .before .before .if2 .left)) _ _ (c .before .before .before .before .before .key .ensures .0) (c .before .before .before .before .key2 .ensures .0) (sym (c .if4 .taken) ∙ c .before .some-differs .ensures) xs e v)  -- returns-2
+    (λ c κs. let p = c .before .before .before .before .before .before .before .before .before .before .before .before .before .before .loop .inv .1 in (p .few, p .lefts-long, p .rights-long))  -- some-differs-requires
+    (λ c. let p = c .before .before .before .before .before .before .before .before .before .before .before .before .before .before .before .before .loop .inv .1 in (λ xs e v. listing-breaks p (as-tuple (c .before .before .before .before .before .before .before .before .before .before .before .tuple .given .1) (c .before .before .before .before .before .before .before .before .before .before .before .before .before .row .ensures) .got) (eq-eqb _ _ (c .before .before .before .before .before .before .before .if2 .left)) _ _ (c .before .before .before .before .before .key .ensures .0) (c .before .before .before .before .key2 .ensures .0) (sym (c .if4 .taken) ∙ c .before .some-differs .ensures) xs e v, p .lefts-long, p .rights-long))  -- returns-2
     (λ c. search needs)  -- mul-lefts
-    (λ c. search needs)  -- array-write-lefts
+    (λ c. search needs)  -- element-write-lefts
     (λ c. search needs)  -- mul-rights
-    (λ c. search needs)  -- array-write-rights
+    (λ c. search needs)  -- element-write-rights
     (λ c. search needs)  -- add-n
     (λ c. asked-less (shrinks-of Of.Row) (c .before .before .before .before .before .before .before .before .before .before .before .before .before .before .before .before .loop .inv .1 .asked) (as-tuple (c .before .before .before .before .before .before .before .before .before .before .before .tuple .given .1) (c .before .before .before .before .before .before .before .before .before .before .before .before .before .row .ensures) .got))  -- loop-less-2
     (λ c. (c .before .before .before .before .before .before .before .before .before .before .before .before .before .before .before .before .loop .inv .0 ++ _ ∷ [], listing-more (c .before .before .before .before .before .before .before .before .before .before .before .before .before .before .before .before .loop .inv .1) (as-tuple (c .before .before .before .before .before .before .before .before .before .before .before .tuple .given .1) (c .before .before .before .before .before .before .before .before .before .before .before .before .before .row .ensures) .got) (eq-eqb _ _ (c .before .before .before .before .before .before .before .if2 .left)) _ _ (c .before .before .before .before .before .key .ensures .0) (c .before .before .before .before .key2 .ensures .0) (c .before .before .before .before .before .before .if3 .left) (sym (c .if4 .left) ∙ c .before .some-differs .ensures)))  -- loop-again-2
     (λ c. search needs)  -- enum-told
-    (λ c. λ xs e v. asked-never (shrinks-of Of.Row) (c .before .before .before .before .before .loop .inv .1 .asked) (c .before .before .before .if1 .taken) (no-tuple rowOf (c .enum-told .given .1) (c .before .before .row .ensures)) xs e)  -- returns-3
-    (λ c. λ xs e v. listing-done (c .before .before .loop .inv .1) (c .if1 .left) xs e v))  -- returns-4
+    (λ c. let p = c .before .before .before .before .before .loop .inv .1 in (λ xs e v. asked-never (shrinks-of Of.Row) (p .asked) (c .before .before .before .if1 .taken) (no-tuple rowOf (c .enum-told .given .1) (c .before .before .row .ensures)) xs e, p .lefts-long, p .rights-long))  -- returns-3
+    (λ c. let p = c .before .before .loop .inv .1 in (λ xs e v. listing-done p (c .if1 .left) xs e v, p .lefts-long, p .rights-long)))  -- returns-4

@@ -1,9 +1,9 @@
--- `clash::begins_at` meets its contract: the first i bytes agree. Assumes nothing.
+-- `compare::begins_at` meets its contract: the first i bytes agree. Assumes nothing.
 use Prim.Native.Nat.{_-_}
-use Rattle.pack.proofs.Texts.{Agreeing, too-long, agreeing-start, agreeing-on, agreeing-stops, agreeing-done}
+use Rattle.pack.proofs.Texts.{Agreeing, too-long, agreeing-start, agreeing-from, agreeing-on, agreeing-stops, agreeing-done}
 use borrow.Author.Needs.{needs}
-use Rattle.pack.proofs.clash.begins_at.Statement.{statement}
-use Rattle.pack.proofs.clash.begins_at.Tie as tie
+use Rattle.pack.proofs.compare.begins_at.Statement.{statement}
+use Rattle.pack.proofs.compare.begins_at.Tie as tie
 
 abbrev Inv-loop : tie.InvT-loop
 Inv-loop s a n b m i₀ i = Agreeing s a n b m i
@@ -17,8 +17,9 @@ begins-at-spec =
     (tie.spec
     Inv-loop
     μ-loop
-    (λ c. too-long _ _ _ _ _ (c .before .pre .0) (c .before .pre .1) (c .if1 .taken))  -- returns
-    (λ c. agreeing-start _ _ _ _ _ (c .if1 .left) (c .before .pre .0) (c .before .pre .1))  -- loop-holds
+    (λ c. too-long _ _ _ _ _ (c .before .before .pre .0) (c .before .before .pre .1) (c .if1 .taken))  -- returns
+    (λ c κs. search needs)  -- agreeing-requires
+    (λ c. agreeing-from (agreeing-start _ _ _ _ _ (c .before .if1 .left) (c .before .before .before .pre .0) (c .before .before .before .pre .1)) _ (c .agreeing .ensures .0) (c .agreeing .ensures .1))  -- loop-holds
     (λ c. search needs)  -- add-if2
     (λ c. search needs)  -- shared-slice-read-if2
     (λ c. search needs)  -- add-if2-2
