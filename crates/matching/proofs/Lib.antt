@@ -5,6 +5,7 @@ pub mod Columns
 pub mod Bounds
 pub mod Rows
 pub mod RowKey
+pub mod FirstColumn
 pub mod Cells
 pub mod Marked
 pub mod Collect

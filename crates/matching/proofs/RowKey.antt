@@ -9,35 +9,34 @@ use Prim.Native.Nat.{ℕ, suc, _+_, _*_, _-_, _^_, _≤_, _<_}
 use Rattle.meaning.specs.Core.{Assignment}
 use Rattle.meaning.specs.Limits.{unused}
 use Rattle.sets.proofs.Ascending.{∈-at}
-use Rattle.matching.specs.Plan.{stacked, masked, bindingOf, AllBound, Variables8, Bindings}
+use Rattle.matching.specs.Plan.{stacked, masked, Variables8, Bindings, ColumnsBytes, ColumnsAre, KeyFrom}
 use Rattle.matching.proofs.Bytes.{pow-next, seven, stacked-drop}
 
 -- the key of the columns from c on
-pub record Keying (start env vs : List ℕ) (c key : ℕ) : Type 0 where
+pub record Keying (rows : List ℕ) (place : ℕ) (vs cols start : List ℕ) (c key : ℕ) : Type 0 where
   pub within : c ≤ length vs
   pub small : key < 256 ^ (length vs - c)
-  pub is : key ≡ stacked (map (masked start (bindingOf env)) (drop c vs))
+  pub is : (σ : Assignment) → ColumnsAre rows place vs cols σ → key ≡ stacked (map (masked start σ) (drop c vs))
 
 none : (σ : Assignment) (vs : List ℕ) → vs ≡ [] → stacked (map σ vs) ≡ 0
 unfolding stacked
 none σ vs e = rw e
 
-pub keying-start : (start env vs : List ℕ) → Keying start env vs (length vs) 0
-keying-start start env vs =
+pub keying-start : (rows : List ℕ) (place : ℕ) (vs cols start : List ℕ) → Keying rows place vs cols start (length vs) 0
+keying-start rows place vs cols start =
     let e : length vs - length vs ≡ 0 = omega arith in
     record {
       within = le-refl (length vs);
       small = rw e (omega arith);
-      is = sym (none (masked start (bindingOf env)) (drop (length vs) vs) (drop-of-length-le vs (le-refl (length vs))));
+      is = λ σ f. sym (none (masked start σ) (drop (length vs) vs) (drop-of-length-le vs (le-refl (length vs))));
     }
 
-module _ {start env vs : List ℕ} {c key : ℕ} (i : Keying start env vs c key) (h : 0 < c) where
-  next : stacked (map (masked start (bindingOf env)) (drop (c - 1) vs))
-      ≡ stacked (map (masked start (bindingOf env)) (drop c vs)) * 256 + masked start (bindingOf env) (getD vs (c - 1) 0)
-  next =
+module _ {rows : List ℕ} {place : ℕ} {vs cols start : List ℕ} {c key : ℕ} (i : Keying rows place vs cols start c key) (h : 0 < c) where
+  next : (σ : Assignment) → stacked (map σ (drop (c - 1) vs)) ≡ stacked (map σ (drop c vs)) * 256 + σ (getD vs (c - 1) 0)
+  next σ =
       let e : suc (c - 1) ≡ c = omega arith in
-      subst (λ n. stacked (map (masked start (bindingOf env)) (drop (c - 1) vs)) ≡ stacked (map (masked start (bindingOf env)) (drop n vs)) * 256 + masked start (bindingOf env) (getD vs (c - 1) 0)) e
-      (stacked-drop (masked start (bindingOf env)) vs (c - 1) (omega (arith, i .within)))
+      subst (λ n. stacked (map σ (drop (c - 1) vs)) ≡ stacked (map σ (drop n vs)) * 256 + σ (getD vs (c - 1) 0)) e
+      (stacked-drop σ vs (c - 1) (omega (arith, i .within)))
 
   pub keying-room : Variables8 vs → key < 72057594037927936
   keying-room v = seven (length vs - c) key (i .small) (omega (arith, v .short, i .within))
@@ -45,27 +44,30 @@ module _ {start env vs : List ℕ} {c key : ℕ} (i : Keying start env vs c key)
   pub keying-variable : Variables8 vs → getD vs (c - 1) 0 < 16
   keying-variable v = v .below (getD vs (c - 1) 0) (∈-at vs (c - 1) (omega (arith, i .within)))
 
-  pub keying-cell : Bindings env → AllBound vs env → getD env (getD vs (c - 1) 0) 0 < 256
-  keying-cell g b = g .small (getD vs (c - 1) 0) (b (getD vs (c - 1) 0) (∈-at vs (c - 1) (omega (arith, i .within))))
+  pub keying-within : ColumnsBytes rows place cols (length vs) → place + getD cols (c - 1) 0 < length rows
+  keying-within b = b .within (c - 1) (omega (arith, i .within))
 
-  pow-is : 256 ^ (length vs - (c - 1)) ≡ 256 ^ (length vs - c) * 256
-  pow-is = let e : length vs - (c - 1) ≡ length vs - c + 1 = omega (arith, i .within) in rw e (pow-next (length vs - c))
+  pub keying-cell : ColumnsBytes rows place cols (length vs) → getD rows (place + getD cols (c - 1) 0) 0 < 256
+  keying-cell b = b .small (c - 1) (omega (arith, i .within))
 
-  pub keying-open : Bindings env → AllBound vs env → getD start (getD vs (c - 1) 0) 0 ≡ unused → Keying start env vs (c - 1) (key * 256 + getD env (getD vs (c - 1) 0) 0)
-  keying-open g b e = record {
+  -- a byte x for the column before
+  step : (x : ℕ) → x < 256 → ((σ : Assignment) → ColumnsAre rows place vs cols σ → masked start σ (getD vs (c - 1) 0) ≡ x) → Keying rows place vs cols start (c - 1) (key * 256 + x)
+  step x b e = record {
     within = omega (arith, i .within);
-    small = omega (arith, i .small, pow-is, keying-cell g b);
-    is = sym (rw (eq-eqb _ _ e, ← (i .is)) at next);
+    small =
+        let q : length vs - (c - 1) ≡ length vs - c + 1 = omega (arith, i .within) in
+        rw q (omega (arith, i .small, pow-next (length vs - c), b));
+    is = λ σ f. omega (arith, i .is σ f, next (masked start σ), e σ f);
   }
 
-  pub keying-bound : Bindings start → (getD start (getD vs (c - 1) 0) 0 ≡ unused → ⊥) → Keying start env vs (c - 1) (key * 256 + getD start (getD vs (c - 1) 0) 0)
-  keying-bound g n = record {
-    within = omega (arith, i .within);
-    small = omega (arith, i .small, pow-is, g .small (getD vs (c - 1) 0) n);
-    is = sym (rw (ne-eqb _ _ n, ← (i .is)) at next);
-  }
+  pub keying-open : ColumnsBytes rows place cols (length vs) → getD start (getD vs (c - 1) 0) 0 ≡ unused
+      → Keying rows place vs cols start (c - 1) (key * 256 + getD rows (place + getD cols (c - 1) 0) 0)
+  keying-open b e = step _ (keying-cell b) (λ σ f. rw (eq-eqb _ _ e) (sym (f (c - 1) (omega (arith, i .within)))))
 
-pub keying-done : {start env vs : List ℕ} {c key : ℕ} → Keying start env vs c key → c ≤ 0 → key ≡ stacked (map (masked start (bindingOf env)) vs)
-keying-done {start} {env} {vs} {c} i z =
+  pub keying-bound : Bindings start → (getD start (getD vs (c - 1) 0) 0 ≡ unused → ⊥) → Keying rows place vs cols start (c - 1) (key * 256 + getD start (getD vs (c - 1) 0) 0)
+  keying-bound g n = step _ (g .small _ n) (λ σ f. rw (ne-eqb _ _ n))
+
+pub keying-done : {rows : List ℕ} {place : ℕ} {vs cols start : List ℕ} {c key : ℕ} → Keying rows place vs cols start c key → c ≤ 0 → KeyFrom key rows place vs cols start
+keying-done {vs = vs} {start = start} {c = c} i z σ f =
     let e : c ≡ 0 = omega arith in
-    i .is ∙ ap (λ n. stacked (map (masked start (bindingOf env)) (drop n vs))) e
+    i .is σ f ∙ ap (λ n. stacked (map (masked start σ) (drop n vs))) e

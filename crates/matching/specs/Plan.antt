@@ -101,6 +101,28 @@ Among xs ys = (x : ℕ) → x ∈ xs → x ∈ ys
 abbrev pub CellsAre : List ℕ → ℕ → List ℕ → Assignment → Type 0
 CellsAre rows place own σ = (c : ℕ) → c < length own → getD rows (place + c) 0 ≡ σ (getD own c 0)
 
+-- the first column that has the variable; the count of the columns where none has
+unfoldable pub columnOf : List ℕ → ℕ → ℕ
+columnOf [] v = 0
+columnOf (w ∷ own) v = cond (eqb w v) 0 (suc (columnOf own v))
+
+-- the first column of each of the variables
+pub record FirstColumns (own vars cols : List ℕ) : Type 0 where
+  pub are : (i : ℕ) → i < length vars → getD cols i 0 ≡ columnOf own (getD vars i 0)
+
+-- the first n columns have bytes, from a place on
+pub record ColumnsBytes (rows : List ℕ) (place : ℕ) (cols : List ℕ) (n : ℕ) : Type 0 where
+  pub within : (i : ℕ) → i < n → place + getD cols i 0 < length rows
+  pub small : (i : ℕ) → i < n → getD rows (place + getD cols i 0) 0 < 256
+
+-- the variables' columns, from a place on, have their values under the assignment
+abbrev pub ColumnsAre : List ℕ → ℕ → List ℕ → List ℕ → Assignment → Type 0
+ColumnsAre rows place vars cols σ = (i : ℕ) → i < length vars → getD rows (place + getD cols i 0) 0 ≡ σ (getD vars i 0)
+
+-- the key of the values that the columns have, whatever assignment they are of
+abbrev pub KeyFrom : ℕ → List ℕ → ℕ → List ℕ → List ℕ → List ℕ → Type 0
+KeyFrom key rows place order cols start = (σ : Assignment) → ColumnsAre rows place order cols σ → key ≡ stacked (map (masked start σ) order)
+
 -- a row of the relation that is the atom's under an assignment, by the key of its values
 pub record Candidate (rows : List ℕ) (relation : ℕ) (own order start : List ℕ) (key : ℕ) : Type 0 where
   pub index : ℕ
@@ -132,6 +154,11 @@ AtomsBytes rows atoms count = (j : ℕ) → j < count → RowsBytes rows (getD a
 pub record Prepared (rows atoms orders start : List ℕ) (count : ℕ) (cands counts : List ℕ) : Type 0 where
   pub counted : (j : ℕ) → j < count → getD counts j 0 ≤ maxRows
   pub list : (j : ℕ) → j < count → ListOf _<_ (Candidate rows (getD atoms (j * 10) 0) (variablesAt atoms j) (variablesAt orders j) start) (candidatesAt cands counts j)
+
+-- an atom of these has no candidate; else nothing is said
+abbrev pub Unmatched : Bool → List ℕ → ℕ → Type 0
+Unmatched true counts count = (j : ℕ) × (j < count) × (getD counts j 0 ≡ 0)
+Unmatched false counts count = Unit {0}
 
 -- ---- what is found
 

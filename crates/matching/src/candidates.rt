@@ -4,27 +4,51 @@ use crate::UNBOUND;
 use sets::ordered;
 use sets::ordered::Inserted;
 ghost use lib.ListN.{length, take};
-ghost use mathlib.Core.List.{map};
 ghost use mathlib.Core.Path.{_≡_};
 ghost use Prim.Native.Nat.{_≤_, _<_, _+_, _*_};
 ghost use mathlib.Core.Logic.{_⊎_};
 ghost use Rattle.meaning.specs.Member.{_∈_};
 ghost use Rattle.meaning.specs.Ordered.{InOrder, ListOf};
-ghost use Rattle.matching.specs.Plan.{stacked, masked, bindingOf, AllBound, Among, Variables8, Bindings, RowsBytes, Candidate, AtomsBelow, AtomsBytes, SameVariables, Prepared};
+ghost use Rattle.matching.specs.Plan.{Among, Variables8, Bindings, columnOf, FirstColumns, ColumnsBytes, KeyFrom, RowsBytes, Candidate, AtomsBelow, AtomsBytes, SameVariables, Prepared, Unmatched};
 
-// The key of a row's bindings: the first variable has the lowest weight, and those bound from the start have their values.
-fn row_key(order: &[u8], start: [u16; 16], env: [u16; 16]) -> u64
-    requires { ⌜ Variables8 (now order) × Bindings start × Bindings env × AllBound (now order) env ⌝ }
-    ensures { λ r. ⌜ r ≡ stacked (map (masked start (bindingOf env)) (now (order .entry))) ⌝ }
+// The first column that has the variable; the count of the columns where none has.
+fn column_of(own: &[u8], v: u8) -> usize
+    ensures { λ r. ⌜ r ≡ columnOf (now (own .entry)) v ⌝ }
+{
+    for c in 0..own.len() {
+        if own[c] == v {
+            return c;
+        }
+    }
+    own.len()
+}
+
+// The first column of each of the variables.
+fn columns(own: &[u8], vars: &[u8]) -> [usize; 8]
+    requires { ⌜ length (now vars) ≤ 8 ⌝ }
+    ensures { λ r. ⌜ FirstColumns (now (own .entry)) (now (vars .entry)) r ⌝ }
+{
+    let mut cols = [0usize; 8];
+    for i in 0..vars.len() {
+        let c = column_of(own, vars[i]);
+        cols[i] = c;
+    }
+    cols
+}
+
+// The key of the row whose cells start at a place: the first variable has the lowest weight, and those bound from the start
+// have their values.
+fn row_key(rows: &[u16], at: usize, order: &[u8], cols: [usize; 8], start: [u16; 16]) -> u64
+    requires { ⌜ Variables8 (now order) × Bindings start × ColumnsBytes (now rows) at cols (length (now order)) ⌝ }
+    ensures { λ r. ⌜ KeyFrom r (now (rows .entry)) at (now (order .entry)) cols start ⌝ }
 {
     let mut key: u64 = 0;
     let mut c = order.len();
     while c > 0 {
         c -= 1;
-        let v = order[c] as usize;
-        let x = start[v];
+        let x = start[order[c] as usize];
         if x == UNBOUND {
-            key = key * 256 + env[v] as u64;
+            key = key * 256 + rows[at + cols[c]] as u64;
         } else {
             key = key * 256 + x as u64;
         }
@@ -44,6 +68,19 @@ pub fn store(out: &mut [u64], n: usize, key: u64) -> usize
     }
 }
 
+// The same, where the key is most often the last that was added.
+fn store_next(out: &mut [u64], n: usize, last: u64, key: u64) -> usize
+    requires { ⌜ (n < length (now out)) × InOrder _<_ (take n (now out)) × (0 < n → last ∈ take n (now out)) ⌝ }
+    ensures { λ m. ⌜ (m ≤ n + 1) × ListOf _<_ (λ k. (k ≡ key) ⊎ (k ∈ take n (now (out .entry)))) (take m (now (out .exit))) ⌝ }
+{
+    if n > 0 {
+        if key == last {
+            return n;
+        }
+    }
+    store(out, n, key)
+}
+
 // The set of the keys of a relation's rows.
 fn candidates(
     rows: &[u16],
@@ -56,24 +93,23 @@ fn candidates(
     requires { ⌜ Variables8 (now own) × Variables8 (now order) × Among (now order) (now own) × Bindings start × RowsBytes (now rows) relation (length (now own)) × (length (now rows) ≤ length (now out) * 9) ⌝ }
     ensures { λ n. ⌜ (n ≤ length (now (out .entry))) × ListOf _<_ (Candidate (now (rows .entry)) relation (now (own .entry)) (now (order .entry)) start) (take n (now (out .exit))) ⌝ }
 {
+    let firsts = columns(own, own);
+    let cols = columns(own, order);
     let mut n = 0;
+    let mut last: u64 = 0;
     'rows: for r in 0..rows.len() / 9 {
         if rows[r * 9] != relation {
             continue 'rows;
         }
-        let mut env = [UNBOUND; 16];
+        let at = r * 9 + 1;
         for c in 0..own.len() {
-            let v = own[c] as usize;
-            let x = rows[r * 9 + 1 + c];
-            if env[v] != UNBOUND {
-                if env[v] != x {
-                    continue 'rows;
-                }
+            if rows[at + c] != rows[at + firsts[c]] {
+                continue 'rows;
             }
-            env[v] = x;
         }
-        let key = row_key(order, start, env);
-        n = store(out, n, key);
+        let key = row_key(rows, at, order, cols, start);
+        n = store_next(out, n, last, key);
+        last = key;
     }
     n
 }
@@ -108,4 +144,17 @@ pub fn all_candidates(
         counts[j] = n as u16;
     }
     counts
+}
+
+// Whether one of the atoms has no candidate.
+pub fn unmatched(counts: [u16; 3], count: usize) -> bool
+    requires { ⌜ count ≤ 3 ⌝ }
+    ensures { λ r. ⌜ Unmatched r counts count ⌝ }
+{
+    for j in 0..count {
+        if counts[j] == 0 {
+            return true;
+        }
+    }
+    false
 }

@@ -7,6 +7,7 @@ mod candidates; // an atom's candidate rows
 mod orders; // the order of an atom's variables
 
 use crate::candidates::all_candidates;
+use crate::candidates::unmatched;
 use crate::marks::fresh;
 use crate::orders::all_orders;
 use crate::search::add_heads;
@@ -39,6 +40,9 @@ pub fn rule_heads(
     let orders = all_orders(&atoms[..], atom_count, work);
     let start = fresh(&orders[..], atom_count, &vars[..var_count]);
     let counts = all_candidates(rows, &atoms[..], &orders[..], atom_count, start, work);
+    if unmatched(counts, atom_count) {
+        return Heads::Listed(0);
+    }
     add_heads(
         &orders[..],
         atom_count,
