@@ -2,25 +2,23 @@
 use borrow.Author.Tests.{ltb-true, ltb-false}
 use lib.Dec.{ltb}
 use lib.ListN.{drop, getElem?}
+use lib.Seq.{drop-drop}
 use mathlib.Core.List.{List, []}
-use mathlib.Core.Option.{none, some}
-use mathlib.Core.Path.{_≡_}
-use Prim.Native.Nat.{ℕ}
-use Rattle.meaning.specs.Pack.{Text, Constructor, Rule}
+use mathlib.Core.Option.{Option, none, some}
+use mathlib.Core.Path.{_≡_, sym, ap, _∙_}
+use Prim.Native.Nat.{ℕ, _+_}
+use Rattle.meaning.specs.Pack.{Text, Constructor}
 use Rattle.pack.specs.Kinds.{Sought}
 use Rattle.pack.specs.Readers.{Reader}
-use Rattle.pack.specs.Records.{constructor, rule}
-use Rattle.pack.specs.Shown.{left, Got, Not, TextGot, ConstructorGot, RuleShown}
+use Rattle.pack.specs.Records.{constructor}
+use Rattle.pack.specs.Shown.{left, Placed, Got, Not, TextGot, ConstructorGot}
 use Rattle.pack.specs.Unpack.{readAll, Listed}
 use Rattle.pack.specs.declared.cursor.Cursor.{Cursor}
-use Rattle.pack.specs.declared.cursor.RuleRead.{RuleRead}
-use Rattle.pack.specs.declared.cursor.RuleRead.the-variants.{Rule as ARule, Bad as NoRule}
-use Rattle.pack.specs.declared.walk.Kind.the-variants as Of
-use Rattle.pack.proofs.Bodies.{Shrinks, shrinks-of}
+use Rattle.pack.proofs.Bodies.{Shrinks}
 use Rattle.pack.proofs.Naming.{entry-front, entry-past}
 use Rattle.pack.proofs.Reading.{case-on, slice-by}
 use Rattle.pack.proofs.Walks.{front, at-end, not-stuck}
-use Rattle.access.specs.Places.{TextAt, ConstructorAt, RulePlaced}
+use Rattle.access.specs.Places.{TextAt, ConstructorAt}
 
 pub sought-stuck : {A : Type 0} (reader : Reader A) (s : List ℕ) (c : Cursor) {xs : List A} → readAll reader (left s c) ≡ some xs → (k : ℕ)
     → Listed reader (left s c) (λ ys. drop k ys ≡ []) → getElem? xs k ≡ none
@@ -37,6 +35,22 @@ module _ {A : Type 0} {reader : Reader A} (shrinks : Shrinks reader) {s : List �
   pub sought-there : {d e : Cursor} {a : A} → Sought reader s c k d → Got reader s d a e → getElem? xs k ≡ some a
   sought-there q g = entry-front xs k (front reader shrinks (q .placed) g (q .is xs listed) .1)
 
+-- ---- one record after another
+
+pub sought-start : {A : Type 0} {reader : Reader A} {s : List ℕ} {c : Cursor} → Placed s c → Sought reader s c 0 c
+sought-start p = record { placed = p; is = λ xs e. e }
+
+pub sought-on : {A : Type 0} {reader : Reader A} (shrinks : Shrinks reader) {s : List ℕ} {c : Cursor} {k : ℕ} {d e : Cursor} {a : A} → Sought reader s c k d → Got reader s d a e
+    → Sought reader s c (k + 1) e
+sought-on {A} {reader} shrinks {k = k} q g = record {
+  placed = g .placed;
+  is = λ xs h.
+      let f = front reader shrinks (q .placed) g (q .is xs h) in
+      f .2 ∙ ap {B = Option (List A)} some (sym (ap (drop 1) (f .1)) ∙ drop-drop 1 k xs);
+}
+
+-- ---- texts and constructors
+
 pub text-there : {reader : Reader Text} (shrinks : Shrinks reader) {s : List ℕ} {c : Cursor} {xs : List Text} → readAll reader (left s c) ≡ some xs → (k : ℕ)
     → {d e : Cursor} {start len : ℕ} → Sought reader s c k d → TextGot reader s d start len e → TextAt s (getElem? xs k) start len
 text-there shrinks {s} listed k {start} {len} q g = record { is = rw (slice-by start len s) (sought-there shrinks listed k q (g .got)); inside = g .inside }
@@ -44,18 +58,3 @@ text-there shrinks {s} listed k {start} {len} q g = record { is = rw (slice-by s
 pub constructor-there : (shrinks : Shrinks constructor) {s : List ℕ} {c : Cursor} {xs : List Constructor} → readAll constructor (left s c) ≡ some xs → (k : ℕ)
     → {d e : Cursor} {arity start len : ℕ} → Sought constructor s c k d → ConstructorGot s d arity start len e → ConstructorAt s (getElem? xs k) arity start len
 constructor-there shrinks {s} listed k {start} {len} q g = record { is = rw (slice-by start len s) (sought-there shrinks listed k q (g .got)); inside = g .inside }
-
-pub rule-there : {s : List ℕ} {c : Cursor} {xs : List Rule} → readAll rule (left s c) ≡ some xs → (k : ℕ) → {d : Cursor} → Sought rule s c k d → (r : RuleRead)
-    → RuleShown s d r → RulePlaced s (getElem? xs k) r
-rule-there listed k q (ARule n f kind t l u e) g = record {
-  list = g .list;
-  past = g .past;
-  listed = g .listed;
-  is = sought-there (shrinks-of Of.Rule) listed k q (g .got);
-  subject-inside = g .subject-inside;
-  object-inside = g .object-inside;
-  first-placed = g .first-placed;
-  few = g .few;
-  kinds = g .kinds;
-}
-rule-there listed k q NoRule n = sought-past (shrinks-of Of.Rule) listed k q n

@@ -2,9 +2,9 @@
 ghost use Rattle.access.specs.Places.{IsWellFormed};
 ghost use Rattle.graph.specs.Records.{Arities};
 ghost use Rattle.rules.specs.Answer.{OfPack};
-use access::ConstructorPlace;
-use access::constructor_place;
 use meaning::MAX_CONSTRUCTORS;
+use pack::contents::body;
+use pack::cursor::ConstructorRead;
 
 // The arity of each constructor, by its number.
 pub fn arities(s: &[u8]) -> [u8; MAX_CONSTRUCTORS]
@@ -12,12 +12,21 @@ pub fn arities(s: &[u8]) -> [u8; MAX_CONSTRUCTORS]
     ensures { λ r. ⌜ OfPack (now (s .entry)) (λ P. Arities P r) ⌝ }
 {
     let mut arities = [0u8; MAX_CONSTRUCTORS];
-    for c in 0..MAX_CONSTRUCTORS {
-        match constructor_place(s, c) {
-            ConstructorPlace::At { arity, start, len } => {
-                arities[c] = arity;
+    let mut n = 0;
+    let mut c = body(s, 6);
+    while c.at < c.end {
+        match c.constructor(s) {
+            ConstructorRead::Constructor {
+                arity,
+                start: _,
+                len: _,
+                next,
+            } => {
+                arities[n] = arity;
+                n += 1;
+                c = next;
             }
-            ConstructorPlace::Nothing => {
+            ConstructorRead::Bad => {
                 return arities;
             }
         }

@@ -6,15 +6,14 @@ ghost use Rattle.access.specs.Places.{IsWellFormed};
 ghost use Rattle.meaning.specs.Limits.{maxValues, maxConstructors};
 ghost use Rattle.readback.specs.Answer.{Answers, refusal, read};
 ghost use Rattle.readback.specs.Held.{OfPack, TextsHeld, ConstructorsHeld, SamePlace};
-use access::ConstructorPlace;
-use access::Place;
-use access::constructor_place;
-use access::value_place;
 use meaning::MAX_ARGUMENTS;
 use meaning::MAX_CONSTRUCTORS;
 use meaning::MAX_VALUES;
 use meaning::UNUSED;
 use pack::check::first_refusal;
+use pack::contents::body;
+use pack::cursor::ConstructorRead;
+use pack::cursor::TextRead;
 use spelling::iri::IriRead;
 use spelling::iri::read_iri;
 
@@ -68,14 +67,16 @@ pub fn value_places(s: &[u8], starts: &mut [u16], lens: &mut [u16]) -> usize
     ensures { λ n. ⌜ OfPack (now (s .entry)) (λ P. TextsHeld (now (s .entry)) (now (starts .exit)) (now (lens .exit)) n (P .setting .values)) ⌝ }
 {
     let mut v = 0;
-    while v < MAX_VALUES {
-        match value_place(s, v) {
-            Place::At { start, len } => {
+    let mut c = body(s, 0);
+    while c.at < c.end {
+        match c.value(s) {
+            TextRead::Text { start, len, next } => {
                 starts[v] = place(start, len);
                 lens[v] = len as u16;
                 v += 1;
+                c = next;
             }
-            Place::Nothing => {
+            TextRead::Bad => {
                 return v;
             }
         }
@@ -93,21 +94,28 @@ pub fn constructor_places(
     requires { ⌜ IsWellFormed (now s) × (length (now arities) ≡ maxConstructors) × (length (now starts) ≡ maxConstructors) × (length (now lens) ≡ maxConstructors) ⌝ }
     ensures { λ n. ⌜ OfPack (now (s .entry)) (λ P. ConstructorsHeld (now (s .entry)) (now (arities .exit)) (now (starts .exit)) (now (lens .exit)) n (P .setting .constructors)) ⌝ }
 {
-    let mut c = 0;
-    while c < MAX_CONSTRUCTORS {
-        match constructor_place(s, c) {
-            ConstructorPlace::At { arity, start, len } => {
-                arities[c] = arity as u16;
-                starts[c] = place(start, len);
-                lens[c] = len as u16;
-                c += 1;
+    let mut n = 0;
+    let mut c = body(s, 6);
+    while c.at < c.end {
+        match c.constructor(s) {
+            ConstructorRead::Constructor {
+                arity,
+                start,
+                len,
+                next,
+            } => {
+                arities[n] = arity as u16;
+                starts[n] = place(start, len);
+                lens[n] = len as u16;
+                n += 1;
+                c = next;
             }
-            ConstructorPlace::Nothing => {
-                return c;
+            ConstructorRead::Bad => {
+                return n;
             }
         }
     }
-    c
+    n
 }
 
 // The constructor and the values whose IRI the text is.

@@ -20,8 +20,8 @@ use Rattle.meaning.specs.Ordered.{ListOf, Over as OverSet}
 use Rattle.meaning.specs.Pack.{Pack, Rule}
 use Rattle.pack.specs.Checked.{wellFormed, accepted}
 use Rattle.rules.proofs.Over.{too-large}
-use Rattle.rules.specs.Answer.{HeadsAnswer, OfPack, RuleAnswer}
-use Rattle.rules.proofs.OneRule.{CountFrom, is-rule}
+use Rattle.rules.specs.Answer.{HeadsAnswer, OfPack}
+use Rattle.rules.proofs.OneRule.{CountFrom, RuleAnswer, is-rule}
 
 -- what stands before place j stays
 kept-front : (a n j : ℕ) (xs zs : List ℕ) → a + n ≤ j → j ≤ length xs → take n (drop a (take j xs ++ zs)) ≡ take n (drop a xs)

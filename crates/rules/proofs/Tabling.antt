@@ -13,9 +13,8 @@ use Rattle.meaning.proofs.Lists.Places.{inside}
 use Rattle.meaning.specs.Pack.{Pack, Rule}
 use Rattle.pack.specs.Checked.{wellFormed, accepted}
 use Rattle.rules.specs.Answer.{OfPack, TableFrom}
-use Rattle.rules.specs.Numbers.{NumberedFrom}
 use Rattle.rules.specs.declared.numbers.RuleNumbers.{RuleNumbers}
-use Rattle.rules.proofs.OneRule.{CountFrom}
+use Rattle.rules.proofs.OneRule.{CountFrom, NumberedFrom}
 
 -- those of the first r rules are put
 pub record Tabling (s : List ℕ) (count r : ℕ) (rules : List (List ℕ)) : Type 0 where

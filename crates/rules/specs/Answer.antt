@@ -1,13 +1,11 @@
 -- The heads of all rules of a pack: six numbers a head, and the keys of its matches. Assumes nothing.
-use lib.ListN.{length, getElem?, getD}
+use lib.ListN.{getElem?, getD}
 use mathlib.Core.Bool.{Bool, true, false}
 use mathlib.Core.List.{List, []}
 use mathlib.Core.Option.{some}
 use mathlib.Core.Path.{_≡_}
 use Prim.Native.Nat.{ℕ, _≤_, _<_}
-use Rattle.core.specs.Heads.{HeadsHeld, headArguments, headNumbers, keysPerRule}
-use Rattle.matching.specs.Rule.{Answers, HeadKey}
-use Rattle.matching.specs.declared.Heads.{Heads}
+use Rattle.core.specs.Heads.{HeadsHeld, headNumbers, keysPerRule}
 use Rattle.meaning.specs.Limits.{maxRules}
 use Rattle.meaning.specs.NoGraph.{TooLarge}
 use Rattle.meaning.specs.Pack.{Pack, Rule}
@@ -18,9 +16,6 @@ use Rattle.rules.specs.declared.heads.AllHeads.{AllHeads}
 -- what holds of the pack that the bytes are
 abbrev pub OfPack : List ℕ → (Pack → Type 0) → Type 0
 OfPack s Q = (P : Pack) → wellFormed s ≡ accepted P → Q P
-
-abbrev pub IsRule : List ℕ → ℕ → Type 0
-IsRule s r = OfPack s (λ P. r < length (P .setting .rules))
 
 abbrev pub RowsFrom : List ℕ → List ℕ → Type 0
 RowsFrom s numbers = OfPack s (λ P. RowsHeld (P .rows) numbers)
@@ -34,11 +29,6 @@ abbrev pub TableFrom : List ℕ → List (List ℕ) → Type 0
 TableFrom s rules = OfPack s (λ P. HeadTable P rules)
 
 -- ---- the keys
-
--- of rule r: listed, or more than the slice holds
-abbrev pub RuleAnswer : List ℕ → ℕ → Heads → List ℕ → Type 0
-RuleAnswer s r h keys =
-    OfPack s (λ P. (rule : Rule) → getElem? (P .setting .rules) r ≡ some rule → Answers h keys (HeadKey (P .rows) (rule .atoms) (headArguments (rule .head))))
 
 -- of all rules: with the table of their heads they are held
 pub record HeadsFound (P : Pack) (a : AllHeads) (heads : List ℕ) : Type 0 where

@@ -1,14 +1,14 @@
 -- One rule of a pack as numbers (document 01, "The pack", 8). Assumes nothing.
-use lib.ListN.{length, getElem?, take, replicate}
+use lib.ListN.{length, take, replicate}
 use mathlib.Core.List.{List, _++_}
-use mathlib.Core.Option.{some}
 use mathlib.Core.Path.{_≡_}
 use Prim.Native.Nat.{ℕ, _+_, _≤_}
 use Rattle.core.specs.Heads.{headArguments, headNumbers}
 use Rattle.matching.specs.Rule.{AtomsHeld}
-use Rattle.meaning.specs.Pack.{Pack, Rule}
-use Rattle.pack.specs.Checked.{wellFormed, accepted}
-use Rattle.pack.specs.Shown.{headAt}
+use Rattle.meaning.specs.Pack.{Rule}
+use Rattle.pack.specs.Records.{rule}
+use Rattle.pack.specs.Shown.{Got, Not, Placed, headAt}
+use Rattle.pack.specs.declared.cursor.Cursor.{Cursor}
 use Rattle.pack.specs.declared.cursor.Tuple.{Tuple}
 use Rattle.rules.specs.declared.numbers.RuleNumbers.{RuleNumbers}
 
@@ -18,16 +18,23 @@ padded vs = vs ++ replicate 8 0
 
 -- The numbers are those of the rule: ten an atom; its head's variables in eight places, 0 where unused, since a head has at
 -- most two terms of four; its head.
-pub record Numbered (rule : Rule) (n : RuleNumbers) : Type 0 where
-  pub atoms : AtomsHeld (rule .atoms) (n .atoms)
-  pub atoms-counted : n .«atom_count» ≡ length (rule .atoms)
-  pub vars : n .vars ≡ take 8 (padded (headArguments (rule .head)))
-  pub vars-counted : n .«var_count» ≡ length (headArguments (rule .head))
-  pub head : n .head ≡ headNumbers (rule .head)
+pub record Numbered (it : Rule) (n : RuleNumbers) : Type 0 where
+  pub atoms : AtomsHeld (it .atoms) (n .atoms)
+  pub atoms-counted : n .«atom_count» ≡ length (it .atoms)
+  pub vars : n .vars ≡ take 8 (padded (headArguments (it .head)))
+  pub vars-counted : n .«var_count» ≡ length (headArguments (it .head))
+  pub head : n .head ≡ headNumbers (it .head)
 
--- so they are for rule r of the pack that the bytes are
-abbrev pub NumberedFrom : List ℕ → ℕ → RuleNumbers → Type 0
-NumberedFrom s r n = (P : Pack) → wellFormed s ≡ accepted P → (rule : Rule) → getElem? (P .setting .rules) r ≡ some rule → Numbered rule n
+-- a rule stands at the cursor
+pub record RuleThere (s : List ℕ) (c : Cursor) : Type 0 where
+  pub placed : Placed s c
+  pub there : Not rule s c → ⊥
+
+-- so the numbers are of the rule at the cursor, and the next rule stands behind it
+pub record NumberedAt (s : List ℕ) (c : Cursor) (n : RuleNumbers) : Type 0 where
+  pub it : Rule
+  pub got : Got rule s c it (n .next)
+  pub numbered : Numbered it n
 
 -- ---- a head by the places of its parts
 

@@ -2,11 +2,14 @@
 ghost use Prim.Native.Nat.{_≤_};
 ghost use lib.ListN.{length};
 ghost use Rattle.access.specs.Places.{IsWellFormed};
-ghost use Rattle.rules.specs.Answer.{IsRule, RowsFrom, RuleAnswer, HeadsAnswer, TableFrom};
+ghost use Rattle.matching.specs.Rule.{RuleGiven, RuleHeads};
+ghost use Rattle.rules.specs.Answer.{RowsFrom, HeadsAnswer, TableFrom};
+use crate::numbers::RuleNumbers;
 use crate::numbers::rule_numbers;
 use access::rule_count;
 use matching::Heads;
 use matching::rule_heads;
+use pack::contents::body;
 
 // How many rules there are and how many keys each has; or that the core is too large.
 pub struct AllHeads {
@@ -15,15 +18,22 @@ pub struct AllHeads {
     pub counts: [usize; 32],
 }
 
-// The keys of rule r's heads, ascending at the front of keys.
-fn heads_of(s: &[u8], r: usize, rows: &[u16], keys: &mut [u64], work: &mut [u64]) -> Heads
-    requires { ⌜ IsWellFormed (now s) × IsRule (now s) r × RowsFrom (now s) (now rows) × (3072 ≤ length (now work)) ⌝ }
-    ensures { λ h. ⌜ RuleAnswer (now (s .entry)) r h (now (keys .exit)) ⌝ }
+// The keys of a rule's heads, ascending at the front of keys.
+fn heads_of(rule: RuleNumbers, rows: &[u16], keys: &mut [u64], work: &mut [u64]) -> Heads
+    requires { ⌜ RuleGiven (now rows) (rule .atoms) (rule .«atom_count») (rule .vars) (rule .«var_count») × (3072 ≤ length (now work)) ⌝ }
+    ensures { λ h. ⌜ RuleHeads h (now (rows .entry)) (rule .atoms) (rule .«atom_count») (rule .vars) (rule .«var_count») (now (keys .exit)) ⌝ }
 {
-    let n = rule_numbers(s, r);
-    let atoms = n.atoms;
-    let vars = n.vars;
-    rule_heads(rows, atoms, n.atom_count, vars, n.var_count, keys, work)
+    let atoms = rule.atoms;
+    let vars = rule.vars;
+    rule_heads(
+        rows,
+        atoms,
+        rule.atom_count,
+        vars,
+        rule.var_count,
+        keys,
+        work,
+    )
 }
 
 // The keys of all rules' heads, rule r's from r * 1,024 on.
@@ -33,10 +43,12 @@ pub fn all_heads(s: &[u8], rows: &[u16], heads: &mut [u64], work: &mut [u64]) ->
 {
     let count = rule_count(s);
     let mut counts = [0usize; 32];
+    let mut c = body(s, 7);
     for r in 0..count {
+        let rule = rule_numbers(s, c);
         let start = r * 1024;
         let end = start + 1024;
-        let found = heads_of(s, r, rows, &mut heads[start..end], work);
+        let found = heads_of(rule, rows, &mut heads[start..end], work);
         match found {
             Heads::Over => {
                 return AllHeads {
@@ -49,6 +61,7 @@ pub fn all_heads(s: &[u8], rows: &[u16], heads: &mut [u64], work: &mut [u64]) ->
                 counts[r] = n;
             }
         }
+        c = rule.next;
     }
     AllHeads {
         too_large: false,
@@ -64,10 +77,12 @@ pub fn head_table(s: &[u8]) -> [[u64; 6]; 32]
 {
     let count = rule_count(s);
     let mut rules = [[0u64; 6]; 32];
+    let mut c = body(s, 7);
     for rule in 0..count {
-        let n = rule_numbers(s, rule);
+        let n = rule_numbers(s, c);
         let head = n.head;
         rules[rule] = head;
+        c = n.next;
     }
     rules
 }

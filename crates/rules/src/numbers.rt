@@ -9,20 +9,20 @@ ghost use Rattle.matching.specs.Rule.{atomNumbers, AtomsHeld};
 ghost use Rattle.pack.specs.Named.{AtomsAt};
 ghost use Rattle.pack.specs.Records.{atomOf};
 ghost use Rattle.pack.specs.Shown.{Placed, made, headAt};
-ghost use Rattle.rules.specs.Numbers.{InBytes, Inside, NumberedFrom, argumentsAt, argumentPlaces};
-use access::rule_parts;
+ghost use Rattle.rules.specs.Numbers.{InBytes, Inside, RuleThere, NumberedAt, argumentsAt, argumentPlaces};
 use pack::cursor::Cursor;
 use pack::cursor::RuleRead;
 use pack::cursor::Tuple;
 use pack::cursor::TupleRead;
 
-// A rule: ten numbers an atom; the head's variables, 0 where unused; six numbers of the head.
+// A rule: ten numbers an atom; the head's variables, 0 where unused; six numbers of the head. And where the next rule is.
 pub struct RuleNumbers {
     pub atoms: [u8; 30],
     pub atom_count: usize,
     pub vars: [u8; 8],
     pub var_count: usize,
     pub head: [u64; 6],
+    pub next: Cursor,
 }
 
 // Number i of an atom's ten: its relation, how many variables, the variables, 0 where unused.
@@ -150,12 +150,12 @@ fn head_numbers(kind: u8, subject: Tuple, label: u8, object: Tuple) -> [u64; 6]
     [2, constructor, arguments, named, 0, 1]
 }
 
-// Rule r as numbers.
-pub fn rule_numbers(s: &[u8], r: usize) -> RuleNumbers
-    requires { ⌜ IsWellFormed (now s) ⌝ }
-    ensures { λ n. ⌜ NumberedFrom (now (s .entry)) r n ⌝ }
+// The rule at a cursor as numbers.
+pub fn rule_numbers(s: &[u8], at: Cursor) -> RuleNumbers
+    requires { ⌜ IsWellFormed (now s) × RuleThere (now s) at ⌝ }
+    ensures { λ n. ⌜ NumberedAt (now (s .entry)) at n ⌝ }
 {
-    match rule_parts(s, r) {
+    match at.rule(s) {
         RuleRead::Rule {
             count,
             first,
@@ -163,7 +163,7 @@ pub fn rule_numbers(s: &[u8], r: usize) -> RuleNumbers
             subject,
             label,
             object,
-            next: _,
+            next,
         } => {
             let atom_count = count as usize;
             let atoms = rule_atoms(s, first, atom_count);
@@ -176,6 +176,7 @@ pub fn rule_numbers(s: &[u8], r: usize) -> RuleNumbers
                 vars,
                 var_count,
                 head,
+                next,
             }
         }
         RuleRead::Bad => RuleNumbers {
@@ -184,6 +185,7 @@ pub fn rule_numbers(s: &[u8], r: usize) -> RuleNumbers
             vars: [0; 8],
             var_count: 0,
             head: [0; 6],
+            next: at,
         },
     }
 }
