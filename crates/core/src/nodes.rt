@@ -1,8 +1,10 @@
 // The nodes of all heads, as an ordered set of keys.
 use crate::KEYS_PER_RULE;
 use crate::counted::Counted;
+use crate::counted::add_at;
 use crate::heads::FIRST_LITERAL;
 use crate::heads::KIND;
+use sets::ordered::rank_near;
 ghost use mathlib.Core.Path.{_≡_};
 ghost use Prim.Native.Nat.{_≤_, _<_};
 ghost use lib.ListN.{length, take};
@@ -12,13 +14,16 @@ ghost use Rattle.core.specs.Bounds.{HeadFits, KeyFits, KeysFit, HeadsFit
 ghost use Rattle.core.specs.Outcomes.{NodesAnswer};
 ghost use Rattle.core.specs.Collected.{Adding, FromKeys, FromRules, nodeKeys};
 
-// Adds the nodes of one match: the subject, and the object unless the head gives a type.
-fn add_match(head: [u64; 6], k: u64, nodes: &mut [u64], n: usize) -> Counted
+// Adds the nodes of one match: the subject, and the object unless the head gives a type. near holds where
+// the last subject and object stood: each is looked for there first.
+fn add_match(head: [u64; 6], k: u64, near: &mut [usize; 2], nodes: &mut [u64], n: usize) -> Counted
     requires { ⌜ HeadFits head × KeyFits head k × (n ≤ length (now nodes)) × InOrder _<_ (take n (now nodes)) ⌝ }
     ensures { λ r. ⌜ Adding r (λ y. y ∈ nodeKeys head k) n (now (nodes .entry)) (now (nodes .exit)) ⌝ }
 {
     let subject = crate::keys::subject_key(head, k);
-    let added = crate::counted::add(nodes, n, subject);
+    let s = rank_near(&nodes[..n], near[0], subject);
+    near[0] = s;
+    let added = add_at(nodes, n, s, subject);
     match added {
         Counted::TooLarge => Counted::TooLarge,
         Counted::Count(m) => {
@@ -26,7 +31,9 @@ fn add_match(head: [u64; 6], k: u64, nodes: &mut [u64], n: usize) -> Counted
                 return Counted::Count(m);
             }
             let object = crate::keys::object_key(head, k);
-            crate::counted::add(nodes, m, object)
+            let o = rank_near(&nodes[..m], near[1], object);
+            near[1] = o;
+            add_at(nodes, m, o, object)
         }
     }
 }
@@ -36,9 +43,10 @@ fn add_rule(head: [u64; 6], keys: &[u64], nodes: &mut [u64], n: usize) -> Counte
     requires { ⌜ HeadFits head × KeysFit head (now keys) × (n ≤ length (now nodes)) × InOrder _<_ (take n (now nodes)) ⌝ }
     ensures { λ r. ⌜ Adding r (FromKeys (λ k y. y ∈ nodeKeys head k) (now (keys .entry))) n (now (nodes .entry)) (now (nodes .exit)) ⌝ }
 {
+    let mut near = [0usize; 2];
     let mut m = n;
     for i in 0..keys.len() {
-        let added = add_match(head, keys[i], nodes, m);
+        let added = add_match(head, keys[i], &mut near, nodes, m);
         match added {
             Counted::TooLarge => return Counted::TooLarge,
             Counted::Count(more) => {

@@ -1,8 +1,10 @@
 // The triples of all heads, as an ordered set of keys by the places of their nodes.
 use crate::KEYS_PER_RULE;
 use crate::counted::Counted;
+use crate::counted::add_at;
 use crate::heads::KIND;
 use crate::heads::NAMED;
+use sets::ordered::rank_near;
 ghost use mathlib.Core.Path.{_≡_};
 ghost use Prim.Native.Nat.{_≤_, _<_};
 ghost use lib.ListN.{length, take};
@@ -20,8 +22,16 @@ pub const PREDICATE_ROOM: u64 = 16;
 
 pub const SUBJECT_WEIGHT: u64 = 16384; // the product of both
 
-// Adds the triple of one match, unless the head gives a type.
-fn add_match(head: [u64; 6], k: u64, nodes: &[u64], triples: &mut [u64], n: usize) -> Counted
+// Adds the triple of one match, unless the head gives a type. near holds where the last subject, object and triple stood:
+// each is looked for there first.
+fn add_match(
+    head: [u64; 6],
+    k: u64,
+    nodes: &[u64],
+    near: &mut [usize; 3],
+    triples: &mut [u64],
+    n: usize,
+) -> Counted
     requires { ⌜ HeadFits head × KeyFits head k × InOrder _<_ (now nodes) × (length (now nodes) ≤ maxNodes) × (n ≤ length (now triples)) × InOrder _<_ (take n (now triples)) ⌝ }
     ensures { λ r. ⌜ Adding r (λ y. y ∈ tripleKeys (now (nodes .entry)) head k) n (now (triples .entry)) (now (triples .exit)) ⌝ }
 {
@@ -30,13 +40,14 @@ fn add_match(head: [u64; 6], k: u64, nodes: &[u64], triples: &mut [u64], n: usiz
     }
     let subject = crate::keys::subject_key(head, k);
     let object = crate::keys::object_key(head, k);
-    let s = sets::ordered::rank(nodes, subject) as u64;
-    let o = sets::ordered::rank(nodes, object) as u64;
-    crate::counted::add(
-        triples,
-        n,
-        (s * PREDICATE_ROOM + head[NAMED]) * PLACE_ROOM + o,
-    )
+    let s = rank_near(nodes, near[0], subject);
+    let o = rank_near(nodes, near[1], object);
+    let key = (s as u64 * PREDICATE_ROOM + head[NAMED]) * PLACE_ROOM + o as u64;
+    let at = rank_near(&triples[..n], near[2], key);
+    near[0] = s;
+    near[1] = o;
+    near[2] = at;
+    add_at(triples, n, at, key)
 }
 
 // Adds those of all matches of one rule.
@@ -44,9 +55,10 @@ fn add_rule(head: [u64; 6], keys: &[u64], nodes: &[u64], triples: &mut [u64], n:
     requires { ⌜ HeadFits head × KeysFit head (now keys) × InOrder _<_ (now nodes) × (length (now nodes) ≤ maxNodes) × (n ≤ length (now triples)) × InOrder _<_ (take n (now triples)) ⌝ }
     ensures { λ r. ⌜ Adding r (FromKeys (λ k y. y ∈ tripleKeys (now (nodes .entry)) head k) (now (keys .entry))) n (now (triples .entry)) (now (triples .exit)) ⌝ }
 {
+    let mut near = [0usize; 3];
     let mut m = n;
     for i in 0..keys.len() {
-        let added = add_match(head, keys[i], nodes, triples, m);
+        let added = add_match(head, keys[i], nodes, &mut near, triples, m);
         match added {
             Counted::TooLarge => return Counted::TooLarge,
             Counted::Count(more) => {

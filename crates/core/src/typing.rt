@@ -16,17 +16,19 @@ ghost use Rattle.core.specs.Collected.{FromKeys, FromRules, KnownMatch, 
 ghost use Rattle.core.specs.Outcomes.{TypesAnswer};
 ghost use Rattle.core.specs.Spread.{AllPlaced, PassedOnce, Placed, Progress, Round, SpreadFrom};
 
-// Marks the type of one match, if the head gives one.
-fn mark_match(head: [u64; 6], k: u64, nodes: &[u64], masks: &mut [u16])
+// Marks the type of one match, if the head gives one. Looks for the subject at near first, and answers its place, or near
+// if there is no type.
+fn mark_match(head: [u64; 6], k: u64, nodes: &[u64], near: usize, masks: &mut [u16]) -> usize
     requires { ⌜ HeadFits head × KeyFits head k × InOrder _<_ (now nodes) × KnownMatch (now nodes) head k × (length (now nodes) ≤ length (now masks)) ⌝ }
     ensures { λ _. ⌜ Marked (TypeFact (now (nodes .entry)) head k) (now (masks .entry)) (now (masks .exit)) ⌝ }
 {
     if head[KIND] != 0 {
-        return;
+        return near;
     }
     let subject = crate::keys::subject_key(head, k);
-    let at = sets::ordered::rank(nodes, subject);
+    let at = sets::ordered::rank_near(nodes, near, subject);
     masks[at] |= 1u16 << head[NAMED];
+    at
 }
 
 // Marks those of all matches of one rule.
@@ -34,8 +36,9 @@ fn mark_rule(head: [u64; 6], keys: &[u64], nodes: &[u64], masks: &mut [u16])
     requires { ⌜ HeadFits head × KeysFit head (now keys) × InOrder _<_ (now nodes) × KnownKeys (now nodes) head (now keys) × (length (now nodes) ≤ length (now masks)) ⌝ }
     ensures { λ _. ⌜ Marked (FromKeys (TypeFact (now (nodes .entry)) head) (now (keys .entry))) (now (masks .entry)) (now (masks .exit)) ⌝ }
 {
+    let mut near = 0;
     for i in 0..keys.len() {
-        mark_match(head, keys[i], nodes, masks);
+        near = mark_match(head, keys[i], nodes, near, masks);
     }
 }
 
@@ -59,15 +62,15 @@ fn mark_rules(
 }
 
 // Passes the subject's types along one triple; says whether that changed the object's.
-fn pass(shapes: &[[u16; 12]; 8], key: u64, masks: &mut [u16]) -> bool
-    requires { ⌜ CodesFit (now shapes) × Placed key × (maxNodes ≤ length (now masks)) ⌝ }
-    ensures { λ r. ⌜ PassedOnce (now (shapes .entry)) key (now (masks .entry)) (now (masks .exit)) × Progress r (now (masks .entry)) (now (masks .exit)) ⌝ }
+fn pass(sets: &[u16; 4096], key: u64, masks: &mut [u16]) -> bool
+    requires { ⌜ Placed key × (maxNodes ≤ length (now masks)) ⌝ }
+    ensures { λ r. ⌜ PassedOnce (now (sets .entry)) key (now (masks .entry)) (now (masks .exit)) × Progress r (now (masks .entry)) (now (masks .exit)) ⌝ }
 {
     let s = (key / SUBJECT_WEIGHT) as usize;
     let p = (key / PLACE_ROOM % PREDICATE_ROOM) as usize;
     let o = (key % PLACE_ROOM) as usize;
     let old = masks[o];
-    let new = old | shapes::targets(shapes, masks[s], p);
+    let new = old | shapes::table::targets(sets, masks[s], p);
     if new == old {
         return false;
     }
@@ -76,13 +79,13 @@ fn pass(shapes: &[[u16; 12]; 8], key: u64, masks: &mut [u16]) -> bool
 }
 
 // Passes along every triple once; says whether anything changed.
-fn round(shapes: &[[u16; 12]; 8], triples: &[u64], masks: &mut [u16]) -> bool
-    requires { ⌜ CodesFit (now shapes) × AllPlaced (now triples) × (maxNodes ≤ length (now masks)) ⌝ }
-    ensures { λ r. ⌜ Round (now (shapes .entry)) (now (triples .entry)) r (now (masks .entry)) (now (masks .exit)) ⌝ }
+fn round(sets: &[u16; 4096], triples: &[u64], masks: &mut [u16]) -> bool
+    requires { ⌜ AllPlaced (now triples) × (maxNodes ≤ length (now masks)) ⌝ }
+    ensures { λ r. ⌜ Round (now (sets .entry)) (now (triples .entry)) r (now (masks .entry)) (now (masks .exit)) ⌝ }
 {
     let mut changed = false;
     for i in 0..triples.len() {
-        let more = pass(shapes, triples[i], masks);
+        let more = pass(sets, triples[i], masks);
         if more {
             changed = true;
         }
@@ -91,12 +94,12 @@ fn round(shapes: &[[u16; 12]; 8], triples: &[u64], masks: &mut [u16]) -> bool
 }
 
 // Passes along the triples until a round adds nothing.
-fn spread(shapes: &[[u16; 12]; 8], triples: &[u64], masks: &mut [u16])
-    requires { ⌜ CodesFit (now shapes) × AllPlaced (now triples) × (maxNodes ≤ length (now masks)) ⌝ }
-    ensures { λ _. ⌜ SpreadFrom (now (shapes .entry)) (now (triples .entry)) (now (masks .entry)) (now (masks .exit)) ⌝ }
+fn spread(sets: &[u16; 4096], triples: &[u64], masks: &mut [u16])
+    requires { ⌜ AllPlaced (now triples) × (maxNodes ≤ length (now masks)) ⌝ }
+    ensures { λ _. ⌜ SpreadFrom (now (sets .entry)) (now (triples .entry)) (now (masks .entry)) (now (masks .exit)) ⌝ }
 {
     loop {
-        let changed = round(shapes, triples, masks);
+        let changed = round(sets, triples, masks);
         if !changed {
             return;
         }
@@ -118,5 +121,6 @@ pub fn typing(
     ensures { λ _. ⌜ TypesAnswer shapes rules count (now (heads .entry)) counts (now (nodes .entry)) (now (triples .entry)) (now (masks .exit)) ⌝ }
 {
     mark_rules(rules, count, heads, counts, nodes, masks);
-    spread(&shapes, triples, masks);
+    let sets = shapes::table::sets_table(&shapes);
+    spread(&sets, triples, masks);
 }

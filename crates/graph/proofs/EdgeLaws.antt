@@ -1,136 +1,47 @@
 -- The edges of one subject and predicate, and the order of edges. Assumes nothing.
-use borrow.Author.Tests.{eq-eqb, eqb-true, le-ltb, lt-ltb, ne-eqb}
-use lib.Dec.{T, eqb, ltb}
+use borrow.Author.Tests.{eqb-true}
+use lib.Dec.{T, eqb}
 use lib.ListN.{getD, length, length-map}
 use mathlib.Core.Bool.{Bool, true, false, cond}
 use mathlib.Core.List.{List, [], _∷_, map, Memᴰ·map as ∈-map, flatten}
 use mathlib.Core.Path.{_≡_, refl, sym, ap, subst, subst₂, _∙_}
-use native.Mathlib.Decide.{decLt, ℕ-discrete}
 use native.Mathlib.Omega.{arith}
-use Prim.Native.Nat.{ℕ, _+_, _*_, _^_, _<_, _≤_}
-use Rattle.graph.specs.Input.{objectOf, originOf}
+use Prim.Native.Nat.{ℕ, _+_, _*_, _-_, _^_, _<_, _≤_}
+use Rattle.graph.specs.Input.{keysBefore, objectOf, originOf}
 use Rattle.graph.specs.Invent.{HasOrigin, Upto, numberOf}
 use Rattle.graph.specs.Records.{overwritten}
-use Rattle.graph.specs.Triples.{EdgeFrom, EdgesListed, Listed, SetEdge, SetsPlaced, SubjectEdge, edgeRecord, edgeRecords, gotten, group, keysBefore, present}
+use Rattle.graph.specs.Triples.{EdgeFrom, EdgesListed, Listed, SetEdge, SetsPlaced, SubjectEdge, edgeRecord, edgeRecords, gotten, group, present}
 use Rattle.graph.proofs.ListedLaws.{listed-iff, listed-none, nothing-written}
 use Rattle.graph.proofs.Marks.{only, targets-set}
+use Rattle.graph.proofs.Origin.{group-in, group-only, keys-all, keys-le, keys-mono, keys-next, origin-none, origin-some}
 use Rattle.graph.proofs.SetNumbers.{number-lt}
 use Rattle.graph.proofs.Shaped.{requires-shape}
 use Rattle.meaning.proofs.Lists.Members.{∈-map⁻¹}
 use Rattle.meaning.specs.Member.{_∈_, here, there}
 use Rattle.meaning.specs.Ordered.{InOrder, _≺_, before, empty, equal, less}
-use Rattle.meaning.specs.Pack.{Pack, requires}
-use Rattle.shapes.specs.Shapes.{SomePasses, Tabled, TargetsOf}
-
--- ---- the keys of one origin, and those before it
-
-module _ (q : ℕ) where
-  group-only : (ks : List ℕ) (k : ℕ) → k ∈ group q ks → (k ∈ ks) × (originOf k ≡ q)
-  unfolding group
-  group-only [] k m = elim m [ ]
-  group-only (x ∷ xs) k m = go (eqb (originOf x) q) refl m (group-only xs k)
-    where
-      first : originOf x ≡ q → (k ∈ group q xs → (k ∈ xs) × (originOf k ≡ q)) → k ∈ (x ∷ group q xs) → (k ∈ (x ∷ xs)) × (originOf k ≡ q)
-      first e rest (here p) = (here p, subst (λ y. originOf y ≡ q) (sym p) e)
-      first e rest (there i) = let r = rest i in (there (r .0), r .1)
-
-      go : (b : Bool) → eqb (originOf x) q ≡ b → k ∈ cond b (x ∷ group q xs) (group q xs) → (k ∈ group q xs → (k ∈ xs) × (originOf k ≡ q)) → (k ∈ (x ∷ xs)) × (originOf k ≡ q)
-      go true e i rest = first (eqb-true (originOf x) q e) rest i
-      go false e i rest = let r = rest i in (there (r .0), r .1)
-
-  group-in : {ks : List ℕ} {k : ℕ} → k ∈ ks → originOf k ≡ q → k ∈ group q ks
-  unfolding group
-  group-in {ks} {k} (here {x = x} {xs = xs} p) e = rw (eq-eqb (originOf x) q (subst (λ y. originOf y ≡ q) p e)) (here p)
-  group-in {ks} {k} (there {x = x} {xs = xs} m) e = keep (eqb (originOf x) q) (group-in m e)
-    where
-      keep : (b : Bool) → k ∈ group q xs → k ∈ cond b (x ∷ group q xs) (group q xs)
-      keep true i = there i
-      keep false i = i
-
-  pub keys-next : (ks : List ℕ) → keysBefore (q + 1) ks ≡ keysBefore q ks + length (group q ks)
-  unfolding group keysBefore
-  keys-next [] = refl
-  keys-next (k ∷ ks) = go (decLt (originOf k) q) (ℕ-discrete (originOf k) q) (keys-next ks)
-    where
-      go : Dec (originOf k < q) → Dec (originOf k ≡ q) → keysBefore (q + 1) ks ≡ keysBefore q ks + length (group q ks)
-          → cond (ltb (originOf k) (q + 1)) 1 0 + keysBefore (q + 1) ks ≡ cond (ltb (originOf k) q) 1 0 + keysBefore q ks + length (cond (eqb (originOf k) q) (k ∷ group q ks) (group q ks))
-      go (yes l) d ih = rw (lt-ltb (originOf k) (q + 1) (omega arith), lt-ltb (originOf k) q l, ne-eqb (originOf k) q (λ e. omega arith)) (omega arith)
-      go (no l) (yes e) ih = rw (lt-ltb (originOf k) (q + 1) (omega arith), le-ltb (originOf k) q (omega arith), eq-eqb (originOf k) q e) (omega arith)
-      go (no l) (no e) ih = rw (le-ltb (originOf k) (q + 1) (omega arith), le-ltb (originOf k) q (omega arith), ne-eqb (originOf k) q e) (omega arith)
-
-keys-cons : (k q r : ℕ) → q ≤ r → cond (ltb (originOf k) q) 1 0 ≤ cond (ltb (originOf k) r) 1 0
-keys-cons k q r h = go (decLt (originOf k) q)
-  where
-    zero-or : (b : Bool) → 0 ≤ cond b 1 0
-    zero-or true = omega arith
-    zero-or false = omega arith
-
-    go : Dec (originOf k < q) → cond (ltb (originOf k) q) 1 0 ≤ cond (ltb (originOf k) r) 1 0
-    go (yes l) = rw (lt-ltb (originOf k) q l, lt-ltb (originOf k) r (omega arith)) (omega arith)
-    go (no l) = rw (le-ltb (originOf k) q (omega arith)) (zero-or (ltb (originOf k) r))
-
-pub keys-mono : (q r : ℕ) → q ≤ r → (ks : List ℕ) → keysBefore q ks ≤ keysBefore r ks
-unfolding keysBefore
-keys-mono q r h [] = omega arith
-keys-mono q r h (k ∷ ks) = let a = keys-cons k q r h in let b = keys-mono q r h ks in omega arith
-
-pub keys-le : (q : ℕ) (ks : List ℕ) → keysBefore q ks ≤ length ks
-unfolding keysBefore
-keys-le q [] = omega arith
-keys-le q (k ∷ ks) = let b = keys-le q ks in go (ltb (originOf k) q) b
-  where
-    go : (b : Bool) → keysBefore q ks ≤ length ks → cond b 1 0 + keysBefore q ks ≤ length (k ∷ ks)
-    go true h = omega arith
-    go false h = omega arith
-
--- past all subjects there are no more keys
-pub keys-all : (q : ℕ) (ks : List ℕ) → ((k : ℕ) → k ∈ ks → originOf k < q) → keysBefore q ks ≡ length ks
-unfolding keysBefore
-keys-all q [] f = refl
-keys-all q (k ∷ ks) f = rw (lt-ltb (originOf k) q (f k (here refl))) (let r = keys-all q ks (λ j m. f j (there m)) in omega arith)
+use Rattle.meaning.specs.Pack.{Pack}
+use Rattle.shapes.specs.Sets.{RequiredBy, SetsTabled, TargetsOf}
 
 -- ---- room: each origin has the core's edges, or one more
 
-module _ (ks : List ℕ) (s first : ℕ) where
-  pub subject-start : first + keysBefore (s * 16) ks ≤ first + 0 + keysBefore (s * 16 + 0) ks
-  subject-start = let e : s * 16 + 0 ≡ s * 16 = omega arith in rw e (omega arith)
+module _ (ks : List ℕ) (s p triple at first from : ℕ) (h : p < 12) (l : triple + from ≤ first + p + at) (room : first + 12 + keysBefore (s * 16 + 12) ks ≤ 10228 + from) where
+  pub origin-room : triple + keysBefore (s * 16 + p + 1) ks + 1 ≤ 10228 + at
+  origin-room = let m = keys-mono (s * 16 + p + 1) (s * 16 + 12) (omega arith) ks in omega arith
 
-  module _ (p next : ℕ) where
-    pub origin-room : p < 12 → next + keysBefore (s * 16) ks ≤ first + p + keysBefore (s * 16 + p) ks
-        → first + 12 + keysBefore (s * 16 + 16) ks ≤ 10228 + keysBefore (s * 16) ks → next + length (group (s * 16 + p) ks) + 1 ≤ 10228
-    origin-room h l room = let n = keys-next (s * 16 + p) ks in let m = keys-mono (s * 16 + p + 1) (s * 16 + 16) (omega arith) ks in omega arith
+  pub origin-number : at ≡ keysBefore (s * 16 + p) ks → triple ≤ 10228
+  origin-number e = let m = keys-mono (s * 16 + p) (s * 16 + 12) (omega arith) ks in omega arith
 
-    pub origin-after : (r : ℕ) → next + keysBefore (s * 16) ks ≤ first + p + keysBefore (s * 16 + p) ks → r ≤ next + length (group (s * 16 + p) ks) + 1
-        → r + keysBefore (s * 16) ks ≤ first + (p + 1) + keysBefore (s * 16 + (p + 1)) ks
-    origin-after r l h = let n = keys-next (s * 16 + p) ks in let e : s * 16 + p + 1 ≡ s * 16 + (p + 1) = omega arith in rw (← e) (omega arith)
+module _ (ks : List ℕ) (few : length ks ≤ 1024) (s triple at : ℕ) (l : triple ≤ s * 12 + at) where
+  pub iri-room : s < 512 → triple + 12 + keysBefore (s * 16 + 12) ks ≤ 10228 + at
+  iri-room h = let k = keys-le (s * 16 + 12) ks in omega arith
 
-    pub subject-end : p ≤ 12 → next + keysBefore (s * 16) ks ≤ first + p + keysBefore (s * 16 + p) ks → next + keysBefore (s * 16) ks ≤ first + 12 + keysBefore (s * 16 + 16) ks
-    subject-end h l = let m = keys-mono (s * 16 + p) (s * 16 + 16) (omega arith) ks in omega arith
-
-module _ (ks : List ℕ) (few : length ks ≤ 1024) (s next : ℕ) (h : next ≤ s * 12 + keysBefore (s * 16) ks) where
-  pub iri-room : s < 512 → next + 12 + keysBefore (s * 16 + 16) ks ≤ 10228 + keysBefore (s * 16) ks
-  iri-room l = let k = keys-le (s * 16 + 16) ks in omega arith
-
-  pub iri-after : (r : ℕ) → r + keysBefore (s * 16) ks ≤ next + 12 + keysBefore (s * 16 + 16) ks → r ≤ (s + 1) * 12 + keysBefore ((s + 1) * 16) ks
-  iri-after r l = let e : (s + 1) * 16 ≡ s * 16 + 16 = omega arith in rw e (omega arith)
-
-  pub iri-end : s ≤ 512 → next ≤ 1024 + 512 * 12
-  iri-end l = let k = keys-le (s * 16) ks in omega arith
+  pub iri-end : s ≤ 512 → at ≡ keysBefore (s * 16) ks → triple ≤ 1024 + 512 * 12
+  iri-end h e = let k = keys-le (s * 16) ks in omega arith
 
 -- an invented subject has none of the core's
 module _ {triples flags places : List ℕ} (pl : SetsPlaced triples flags places) (j : ℕ) (p : 0 < j) (h : j < 256) (m : getD flags j 0 ≡ 1) where
-  pub set-room : (first : ℕ) → first + 12 ≤ 10228
-      → first + 12 + keysBefore (getD places j 0 * 16 + 16) triples ≤ 10228 + keysBefore (getD places j 0 * 16) triples
-  set-room first l =
-      let a = keys-all (getD places j 0 * 16) triples (λ k i. let s = pl .above j k p h m i in omega arith) in
-      let b = keys-le (getD places j 0 * 16 + 16) triples in
-      omega arith
-
-  pub set-end : (first r : ℕ) → r + keysBefore (getD places j 0 * 16) triples ≤ first + 12 + keysBefore (getD places j 0 * 16 + 16) triples → r ≤ first + 12
-  set-end first r l =
-      let a = keys-all (getD places j 0 * 16) triples (λ k i. let s = pl .above j k p h m i in omega arith) in
-      let b = keys-le (getD places j 0 * 16 + 16) triples in
-      omega arith
+  pub set-at : length triples ≡ keysBefore (getD places j 0 * 16) triples
+  set-at = sym (keys-all (getD places j 0 * 16) triples (λ k i. let s = pl .above j k p h m i in omega arith))
 
 -- ---- order
 
@@ -171,19 +82,15 @@ unfolding flatten
 edges-flat s p [] = refl
 edges-flat s p (k ∷ ks) = let r = edges-flat s p ks in omega arith
 
-module _ (table : List (List ℕ)) (triples places : List ℕ) (a : InOrder _<_ triples) (s mask p first : ℕ) (out out₁ : List ℕ) (next : ℕ) (e : EdgesListed triples s p first out out₁ next) where
+module _ (table triples places : List ℕ) (a : InOrder _<_ triples) (s mask p from first : ℕ) (f : from ≡ keysBefore (s * 16 + p) triples) (out out₁ : List ℕ) (at : ℕ) (e : EdgesListed triples s p from first out out₁ at) where
   abbrev Edge : Pack → List ℕ → Type 0
   Edge P = EdgeFrom P triples places s mask p
 
-  some-key : (length (group (s * 16 + p) triples) ≡ 0 → ⊥) → HasOrigin triples (s * 16 + p)
-  some-key n = go (group (s * 16 + p) triples) refl n
-    where
-      go : (g : List ℕ) → group (s * 16 + p) triples ≡ g → (length g ≡ 0 → ⊥) → HasOrigin triples (s * 16 + p)
-      go [] q k = absurd (k refl)
-      go (x ∷ xs) q k = let r = group-only (s * 16 + p) triples x (subst (λ l. x ∈ l) (sym q) (here refl)) in record { key = x; listed = r .0; is = r .1 }
+  passed : at ≡ keysBefore (s * 16 + p + 1) triples
+  passed = let c = e .count in let k = keys-next (s * 16 + p) triples in omega arith
 
   -- there are some
-  pub origin-present : (next ≡ first → ⊥) → Listed table Edge first out out₁ next × (next ≤ first + length (group (s * 16 + p) triples) + 1)
+  pub origin-present : (at ≡ from → ⊥) → Listed table Edge first out out₁ (first + (at - from)) × (first + (at - from) + from ≤ first + 1 + at) × (at ≡ keysBefore (s * 16 + p + 1) triples)
   origin-present n = (
     record {
       records = edgeRecords s p triples;
@@ -195,24 +102,21 @@ module _ (table : List (List ℕ)) (triples places : List ℕ) (a : InOrder _<_ 
         );
       };
       long = edges-flat s p (group (s * 16 + p) triples);
-      count = e .count ∙ ap (λ (l : ℕ). first + l) (sym (length-map (group (s * 16 + p) triples) (edgeRecord s p)));
+      count = let c = e .count in let n = length-map (group (s * 16 + p) triples) (edgeRecord s p) in omega arith;
       written = e .edges;
     },
     (let c = e .count in omega arith),
+    passed,
   )
     where
       back : (P : Pack) (x : List ℕ) → Edge P x → x ∈ edgeRecords s p triples
       back P x (present k m o q) = subst (λ y. y ∈ edgeRecords s p triples) (sym q) (∈-map (edgeRecord s p) (group-in (s * 16 + p) m o))
-      back P x (gotten j l q) = absurd (l .none (some-key (λ z. n (let c = e .count in omega arith))))
+      back P x (gotten j l q) = absurd (l .none (origin-some triples (s * 16 + p) from at f passed n))
 
   -- there are none
-  module _ (n : next ≡ first) where
+  module _ (n : at ≡ from) where
     no-origin : ¬ HasOrigin triples (s * 16 + p)
-    no-origin o = go (group (s * 16 + p) triples) (group-in (s * 16 + p) (o .listed) (o .is)) (let c = e .count in omega arith)
-      where
-        go : (g : List ℕ) → o .key ∈ g → length g ≡ 0 → ⊥
-        go [] m z = elim m [ ]
-        go (x ∷ xs) m z = omega arith
+    no-origin = origin-none triples (s * 16 + p) from at f passed n
 
     out-same : out₁ ≡ out
     unfolding flatten
@@ -222,16 +126,16 @@ module _ (table : List (List ℕ)) (triples places : List ℕ) (a : InOrder _<_ 
         go [] z = sym (nothing-written (first * 3) out)
         go (x ∷ xs) z = absurd (let y : ⊥ = omega arith in y)
 
-    pub origin-free : (r : Bool) → r ≡ false → SomePasses requires table mask p r → Listed table Edge first out out₁ first × (first ≤ first + length (group (s * 16 + p) triples) + 1)
-    origin-free r f shown = (subst (λ o. Listed table Edge first out o first) (sym out-same) (listed-none first out none), omega arith)
+    pub origin-free : (r : Bool) → r ≡ false → RequiredBy table mask p r → Listed table Edge first out out₁ first × (first + from ≤ first + 1 + from) × (from ≡ keysBefore (s * 16 + p + 1) triples)
+    origin-free r f shown = (subst (λ o. Listed table Edge first out o first) (sym out-same) (listed-none first out none), omega arith, sym n ∙ passed)
       where
-        none : (P : Pack) → Tabled (P .setting) table → (x : List ℕ) → ¬ Edge P x
+        none : (P : Pack) → SetsTabled (P .setting) table → (x : List ℕ) → ¬ Edge P x
         none P h x (present k m o q) = no-origin (record { key = k; listed = m; is = o })
         none P h x (gotten j l q) = subst T f (shown (P .setting) h .1 (requires-shape P mask p .1 (l .leads .needs)))
 
-    pub origin-gets : (r : Bool) → r ≡ true → SomePasses requires table mask p r → (m : ℕ) → m < 2 ^ 16 → TargetsOf table mask p m → (set : ℕ) → set ≡ numberOf m
+    pub origin-gets : (r : Bool) → r ≡ true → RequiredBy table mask p r → (m : ℕ) → m < 2 ^ 16 → TargetsOf table mask p m → (set : ℕ) → set ≡ numberOf m
         → (out₂ : List ℕ) → out₂ ≡ overwritten (first * 3) (s ∷ p ∷ getD places set 0 ∷ []) out₁
-        → Listed table Edge first out out₂ (first + 1) × (first + 1 ≤ first + length (group (s * 16 + p) triples) + 1)
+        → Listed table Edge first out out₂ (first + 1) × (first + 1 + from ≤ first + 1 + at) × (at ≡ keysBefore (s * 16 + p + 1) triples)
     unfolding flatten
     origin-gets r t shown m small ts set is out₂ w = (
       record {
@@ -242,9 +146,10 @@ module _ (table : List (List ℕ)) (triples places : List ℕ) (a : InOrder _<_ 
         written = w ∙ rw out-same refl;
       },
       omega arith,
+      passed,
     )
       where
-        forth : (P : Pack) → Tabled (P .setting) table → (x : List ℕ) → x ∈ ((s ∷ p ∷ getD places set 0 ∷ []) ∷ []) → Edge P x
+        forth : (P : Pack) → SetsTabled (P .setting) table → (x : List ℕ) → x ∈ ((s ∷ p ∷ getD places set 0 ∷ []) ∷ []) → Edge P x
         forth P h x (here q) =
             gotten (numberOf m) (record {
               none = no-origin;
@@ -257,7 +162,7 @@ module _ (table : List (List ℕ)) (triples places : List ℕ) (a : InOrder _<_ 
             (q ∙ ap (λ (j : ℕ). s ∷ p ∷ getD places j 0 ∷ []) is)
         forth P h x (there i) = elim i [ ]
 
-        back : (P : Pack) → Tabled (P .setting) table → (x : List ℕ) → Edge P x → x ≡ s ∷ p ∷ getD places set 0 ∷ []
+        back : (P : Pack) → SetsTabled (P .setting) table → (x : List ℕ) → Edge P x → x ≡ s ∷ p ∷ getD places set 0 ∷ []
         back P h x (present k i o q) = absurd (no-origin (record { key = k; listed = i; is = o }))
         back P h x (gotten j l q) =
             let n = only table mask p [] r t shown m small ts P h j (l .leads) in
@@ -265,7 +170,7 @@ module _ (table : List (List ℕ)) (triples places : List ℕ) (a : InOrder _<_ 
 
 -- ---- the edges of a set
 
-module _ (table : List (List ℕ)) (triples flags places : List ℕ) (j first : ℕ) where
+module _ (table triples flags places : List ℕ) (j first : ℕ) where
   pub set-unmarked : (out : List ℕ) → (getD flags j 0 ≡ 1 → ⊥) → Listed table (λ P. SetEdge triples flags places P j) first out out first × (first ≤ first + 12)
   set-unmarked out n = (listed-none first out (λ P h x e. n (e .marked)), omega arith)
 

@@ -8,19 +8,18 @@ use mathlib.Core.Bool.{Bool, true, false, cond}
 use mathlib.Core.List.{List, [], _∷_, _++_, map}
 use mathlib.Core.Logic.{_≢_}
 use mathlib.Core.Path.{_≡_, refl, sym, ap, subst, _∙_}
-use native.Mathlib.Decide.{decLt}
 use native.Mathlib.Nat.{le-refl}
 use native.Mathlib.Numerals.{add-one}
 use native.Mathlib.Omega.{arith}
-use Prim.Native.Nat.{ℕ, zero, suc, _+_, _*_, _<_, _≤_}
-use Rattle.graph.specs.Input.{objectOf, originOf}
+use Prim.Native.Nat.{ℕ, zero, suc, _+_, _*_, _-_, _<_, _≤_}
+use Rattle.graph.specs.Input.{keysBefore, objectOf, originOf}
 use Rattle.graph.specs.Records.{overwritten}
 use Rattle.graph.specs.Triples.{EdgesListed, edgeRecord, edgeRecords, group}
 use Rattle.graph.proofs.CoreList.{Records, records-again, records-done, records-start}
+use Rattle.graph.proofs.Origin.{keys-next, keys-rank, not-earlier, pass}
 use Rattle.meaning.specs.Member.{_∈_, here, there}
 use Rattle.meaning.specs.Ordered.{InOrder, before}
 use Rattle.sets.proofs.Cases.{case-on}
-use Rattle.sets.proofs.Rank.{rank-above}
 use Rattle.sets.specs.Ordered.{rankOf}
 
 module _ (q : ℕ) where
@@ -60,7 +59,7 @@ module _ (xs : List ℕ) (a : InOrder _<_ xs) (q : ℕ) where
   unfolding group
   group-next i h e = rw (drop-cons xs i 0 h, add-one i, eq-eqb (originOf (getD xs i 0)) q e) refl
 
-  group-stop : (i : ℕ) → q * 1024 ≤ getD xs i 0 → originOf (getD xs i 0) ≢ q → group q (drop i xs) ≡ []
+  group-stop : (i : ℕ) → q ≤ originOf (getD xs i 0) → originOf (getD xs i 0) ≢ q → group q (drop i xs) ≡ []
   group-stop i l n = group-none q (drop i xs) (λ k m o. let h = from-place xs a i k m in let z : ⊥ = omega arith in z)
 
   group-end : (i : ℕ) → length xs ≤ i → group q (drop i xs) ≡ []
@@ -68,43 +67,57 @@ module _ (xs : List ℕ) (a : InOrder _<_ xs) (q : ℕ) where
   group-end i h = rw (drop-of-length-le xs h) refl
 
 -- the edges before place i of the list are written
-pub record Edging (triples : List ℕ) (s p first i next : ℕ) (out₀ out : List ℕ) : Type 0 where
-  pub low : (j : ℕ) → i ≤ j → j < length triples → (s * 16 + p) * 1024 ≤ getD triples j 0
-  pub count : next + length (group (s * 16 + p) (drop i triples)) ≡ first + length (group (s * 16 + p) triples)
-  pub records : Records 3 first next (map (edgeRecord s p) (group (s * 16 + p) (drop i triples))) (edgeRecords s p triples) out₀ out
+pub record Edging (triples : List ℕ) (s p from first i : ℕ) (out₀ out : List ℕ) : Type 0 where
+  pub start : from ≡ keysBefore (s * 16 + p) triples
+  pub low : from ≤ i
+  pub count : i + length (group (s * 16 + p) (drop i triples)) ≡ from + length (group (s * 16 + p) triples)
+  pub records : Records 3 first (first + (i - from)) (map (edgeRecord s p) (group (s * 16 + p) (drop i triples))) (edgeRecords s p triples) out₀ out
 
-pub edging-start : (triples : List ℕ) → InOrder _<_ triples → (s p first r : ℕ) (out : List ℕ) → r ≡ rankOf ((s * 16 + p) * 1024) triples → Edging triples s p first r first out out
-edging-start triples a s p first r out e = record {
-  low = λ j h l. go j h l (decLt (getD triples j 0) ((s * 16 + p) * 1024));
-  count = ap (λ (l : List ℕ). first + length l) (group-start triples a (s * 16 + p) r e);
-  records = subst (λ l. Records 3 first first (map (edgeRecord s p) l) (edgeRecords s p triples) out out) (sym (group-start triples a (s * 16 + p) r e)) (records-start 3 first (edgeRecords s p triples) out);
-}
-  where
-    go : (j : ℕ) → r ≤ j → j < length triples → Dec (getD triples j 0 < (s * 16 + p) * 1024) → (s * 16 + p) * 1024 ≤ getD triples j 0
-    go j h l (yes b) = absurd (let k = rank-above ((s * 16 + p) * 1024) triples j b a l in let z : ⊥ = omega arith in z)
-    go j h l (no n) = omega arith
+pub edging-start : (triples : List ℕ) → InOrder _<_ triples → (s p from first : ℕ) (out : List ℕ) → from ≡ keysBefore (s * 16 + p) triples → Edging triples s p from first from out out
+edging-start triples a s p from first out e =
+    let g = group-start triples a (s * 16 + p) from (e ∙ keys-rank (s * 16 + p) triples a) in
+    let n : first + (from - from) ≡ first = omega arith in
+    record {
+      start = e;
+      low = le-refl from;
+      count = ap (λ (l : List ℕ). from + length l) g;
+      records = rw (n, g) (records-start 3 first (edgeRecords s p triples) out);
+    }
 
-module _ {triples : List ℕ} {s p first i next : ℕ} {out₀ out : List ℕ} (e : Edging triples s p first i next out₀ out) (a : InOrder _<_ triples) where
-  pub edging-done : group (s * 16 + p) (drop i triples) ≡ [] → first ≤ next → next * 3 ≤ length out₀ → EdgesListed triples s p first out₀ out next
-  edging-done g f h = record {
-    count = let c = e .count in let l : length (group (s * 16 + p) (drop i triples)) ≡ 0 = ap length g in omega arith;
-    edges = records-done (subst (λ l. Records 3 first next (map (edgeRecord s p) l) (edgeRecords s p triples) out₀ out) g (e .records)) (omega arith) h;
-  }
+module _ {triples : List ℕ} {s p from first i : ℕ} {out₀ out : List ℕ} (e : Edging triples s p from first i out₀ out) (a : InOrder _<_ triples)
+    (room : first + keysBefore (s * 16 + p + 1) triples ≤ 10228 + from) (long : 30684 ≤ length out₀) where
+  edging-done : group (s * 16 + p) (drop i triples) ≡ [] → EdgesListed triples s p from first out₀ out i
+  edging-done g =
+      let c = e .count in
+      let b = e .start in
+      let l : length (group (s * 16 + p) (drop i triples)) ≡ 0 = ap length g in
+      let k = keys-next (s * 16 + p) triples in
+      record {
+        count = omega arith;
+        edges = records-done (rw g at (e .records)) (omega arith) (omega arith);
+      }
 
-  pub edging-other : i < length triples → originOf (getD triples i 0) ≢ s * 16 + p → group (s * 16 + p) (drop i triples) ≡ []
-  edging-other h n = group-stop triples a (s * 16 + p) i (e .low i (le-refl i) h) n
+  pub edging-other : i < length triples → originOf (getD triples i 0) ≢ s * 16 + p → EdgesListed triples s p from first out₀ out i
+  edging-other h n = let b = e .start in let l = e .low in edging-done (group-stop triples a (s * 16 + p) i (not-earlier triples a (s * 16 + p) i h (omega arith)) n)
 
-  pub edging-end : length triples ≤ i → group (s * 16 + p) (drop i triples) ≡ []
-  edging-end h = group-end triples a (s * 16 + p) i h
+  pub edging-end : length triples ≤ i → EdgesListed triples s p from first out₀ out i
+  edging-end h = edging-done (group-end triples a (s * 16 + p) i h)
 
   module _ (h : i < length triples) (o : originOf (getD triples i 0) ≡ s * 16 + p) where
-    pub edging-room : next + 1 ≤ first + length (group (s * 16 + p) triples)
-    edging-room = let c = e .count in let l : length (group (s * 16 + p) (drop i triples)) ≡ suc (length (group (s * 16 + p) (drop (i + 1) triples))) = ap length (group-next triples a (s * 16 + p) i h o) in omega arith
+    pub edging-room : first + (i - from) < 10228
+    edging-room = let b = e .low in let k = pass triples a (s * 16 + p) i h o in omega arith
 
-    pub edging-again : next * 3 + 3 ≤ length out₀ → Edging triples s p first (i + 1) (next + 1) out₀ (overwritten (next * 3) (s ∷ p ∷ objectOf (getD triples i 0) ∷ []) out)
-    edging-again room = record {
-      low = λ j g l. e .low j (omega arith) l;
-      count = let c = e .count in let l : length (group (s * 16 + p) (drop i triples)) ≡ suc (length (group (s * 16 + p) (drop (i + 1) triples))) = ap length (group-next triples a (s * 16 + p) i h o) in omega arith;
-      records = records-again (edgeRecord s p (getD triples i 0))
-          (subst (λ l. Records 3 first next (map (edgeRecord s p) l) (edgeRecords s p triples) out₀ out) (group-next triples a (s * 16 + p) i h o) (e .records)) refl room;
-    }
+    pub edging-again : Edging triples s p from first (i + 1) out₀ (overwritten ((first + (i - from)) * 3) (s ∷ p ∷ objectOf (getD triples i 0) ∷ []) out)
+    edging-again =
+        let b = e .low in
+        let c = e .count in
+        let g = group-next triples a (s * 16 + p) i h o in
+        let l : length (group (s * 16 + p) (drop i triples)) ≡ suc (length (group (s * 16 + p) (drop (i + 1) triples))) = ap length g in
+        let n : first + (i + 1 - from) ≡ first + (i - from) + 1 = omega arith in
+        let m = edging-room in
+        record {
+          start = e .start;
+          low = omega arith;
+          count = omega arith;
+          records = rw n (records-again (edgeRecord s p (getD triples i 0)) (rw g at (e .records)) refl (omega arith));
+        }

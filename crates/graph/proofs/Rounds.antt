@@ -1,10 +1,8 @@
 -- Rounds over the marked sets: what follows from them is marked, and nothing else. Assumes nothing.
-use lib.Dec.{T}
 use lib.ListN.{getD}
-use mathlib.Core.Bool.{Bool, true, false}
 use mathlib.Core.List.{List}
 use mathlib.Core.Logic.{_↔_, _⊎_, inl, inr}
-use mathlib.Core.Path.{_≡_, sym, subst}
+use mathlib.Core.Path.{_≡_, subst}
 use native.Mathlib.Decide.{ℕ-discrete}
 use native.Mathlib.Omega.{arith}
 use Prim.Native.Nat.{ℕ, _+_, _*_, _<_, _≤_}
@@ -57,11 +55,11 @@ pub rounding-done : {P : Pack} {d₀ d : List ℕ} {n : ℕ} → Rounding P d₀
 rounding-done r h = record { sound = r .sound; keeps = r .keeps; passes = λ i p j k. r .passes i p j (omega arith) }
 
 -- what a set leads to, by its mask, if it is marked
-pub following : (table : List (List ℕ)) (n m : ℕ) → n < maxSets → m ≡ maskOf n → (d d′ : List ℕ) → getD d n 0 ≡ 1 → MarksAll table m d d′ → MarksFollowing table n d d′
+pub following : (table : List ℕ) (n m : ℕ) → n < maxSets → m ≡ maskOf n → (d d′ : List ℕ) → getD d n 0 ≡ 1 → MarksAll table m d d′ → MarksFollowing table n d d′
 following table n m h e d d′ q a P s = marked-iff (λ j. (λ u. (q, u), λ (u : (getD d n 0 ≡ 1) × Upto (Leads P (invented (setAt n))) maxPredicates j). u .1))
     (subst (λ X. Marked (Upto (Leads P (invented X)) maxPredicates) d d′) (mask-set n h) ((rw e at a) P s))
 
-pub not-following : (table : List (List ℕ)) (n : ℕ) (d : List ℕ) → (getD d n 0 ≡ 1 → ⊥) → MarksFollowing table n d d
+pub not-following : (table : List ℕ) (n : ℕ) (d : List ℕ) → (getD d n 0 ≡ 1 → ⊥) → MarksFollowing table n d d
 not-following table n d k P s = marked-none d (λ j u. k (u .0))
 
 -- ---- rounds
@@ -89,17 +87,9 @@ closed {P} {d₀} {d} {d′} a r e j = (reached-again a r .sound j, all)
 
 -- ---- what a core node leads to
 
--- one that leads to nothing new as a set does not as a core node
-pub edge-free : {table : List (List ℕ)} (triples : List ℕ) (s : ℕ) {mask p : ℕ} {d : List ℕ} → MarksTargets table mask p d d → SeedShown table triples s mask p d d
-edge-free triples s {mask} {p} {d} m P h = record { marks = λ j. (inl, back j) }
-  where
-    back : (j : ℕ) → (getD d j 0 ≡ 1) ⊎ Lacks P triples s mask p j → getD d j 0 ≡ 1
-    back j (inl e) = e
-    back j (inr l) = m P h .marks j .1 (inr (l .leads))
+module _ (table : List ℕ) (triples : List ℕ) (s mask p : ℕ) where
+  pub edge-there : HasOrigin triples (s * 16 + p) → (d : List ℕ) → SeedShown table triples s mask p d d
+  edge-there o d P h = marked-none d (λ j l. l .none o)
 
-module _ (table : List (List ℕ)) (triples : List ℕ) (s mask p : ℕ) (has : Bool) (shown : T has ↔ HasOrigin triples (s * 16 + p)) where
-  pub edge-there : has ≡ true → (d : List ℕ) → SeedShown table triples s mask p d d
-  edge-there e d P h = marked-none d (λ j l. l .none (shown .0 (subst T (sym e) tt)))
-
-  pub edge-missing : has ≡ false → (d d′ : List ℕ) → MarksTargets table mask p d d′ → SeedShown table triples s mask p d d′
-  edge-missing e d d′ m P h = marked-iff (λ j. (λ l. record { none = λ o. subst T e (shown .1 o); leads = l }, λ (l : Lacks P triples s mask p j). l .leads)) (m P h)
+  pub edge-missing : ¬ HasOrigin triples (s * 16 + p) → (d d′ : List ℕ) → MarksTargets table mask p d d′ → SeedShown table triples s mask p d d′
+  edge-missing n d d′ m P h = marked-iff (λ j. (λ l. record { none = n; leads = l }, λ (l : Lacks P triples s mask p j). l .leads)) (m P h)

@@ -18,7 +18,7 @@ use Rattle.graph.proofs.Keys.{iri-key-lt, key-one}
 use Rattle.graph.proofs.EdgeLaws.{by-subject}
 use Rattle.graph.proofs.ListedLaws.{listed-join}
 use Rattle.graph.proofs.Order.{all-nodes, inOrder, nodes-in-order, setNode}
-use Rattle.graph.proofs.Places.{at-is, edge-at, edge-key, masked, masked-targets, node-at, place-of, place-small, predicate-small, requires-masked, shaped, targets-masked, well}
+use Rattle.graph.proofs.Places.{at-is, edge-at, edge-key, masked, masked-targets, node-at, place-of, place-small, predicate-small, requires-masked, targets-masked, well}
 use Rattle.graph.proofs.Proper.{proper, subject-iri}
 use Rattle.graph.proofs.SetNumbers.{mask-set}
 use Rattle.graph.proofs.SetOrder.{set-above}
@@ -39,6 +39,7 @@ use Rattle.meaning.specs.Tables.{setOfMask}
 use Rattle.meaning.specs.TypeSet.{TypeSet, _∈ₜ_}
 use Rattle.sets.proofs.Rank.{rank-above, rank-le}
 use Rattle.sets.specs.Ordered.{rankOf}
+use Rattle.shapes.specs.Sets.{SetsTabled}
 
 -- the element at a place of the first of two lists
 at-front : {A : Type 0} (xs ys : List A) (i : ℕ) (x : A) → getElem? xs i ≡ some x → getElem? (xs ++ ys) i ≡ some x
@@ -71,7 +72,7 @@ parts s p o h l = (omega arith, omega arith)
 in-core : {P : Pack} {n : Node} → IsBuilt P (core n) → CoreNode P n
 in-core (inCore c) = c
 
-module _ {P : Pack} {table : List (List ℕ)} {nodes triples masks flags : List ℕ} (I : Input P table nodes triples masks) (sets : InventedSets P flags) (clean : ¬ MixedKinds P)
+module _ {P : Pack} {shapes : List (List ℕ)} {nodes triples masks flags : List ℕ} (I : Input P shapes nodes triples masks) (sets : InventedSets P flags) (clean : ¬ MixedKinds P)
     (bs : List BuiltNode) (ordered : NodesInOrder P bs) where
   -- ---- the places of core nodes
 
@@ -301,9 +302,9 @@ module _ {P : Pack} {table : List (List ℕ)} {nodes triples masks flags : List 
         let r = rank-le firstLiteral nodes in
         by-subject (omega arith) x y (u .holds) (v .holds .edge)
 
-    pub triples-listed : SetPlaces flags (length nodes) places → {next r : ℕ} {out out₁ out₂ : List ℕ} → Listed table (IriEdge nodes triples masks places) 0 out out₁ next
+    pub triples-listed : {table : List ℕ} → SetsTabled (P .setting) table → SetPlaces flags (length nodes) places → {next r : ℕ} {out out₁ out₂ : List ℕ} → Listed table (IriEdge nodes triples masks places) 0 out out₁ next
         → Listed table (λ Q. Upto (SetEdge triples flags places Q) 256) next out₁ out₂ r → next * 3 ≤ length out → r ≤ maxTriples → TriplesListed P bs out out₂ r
-    triples-listed sp {next} {r} {out} {out₁} {out₂} a b room few = record {
+    triples-listed {table} tab sp {next} {r} {out} {out₁} {out₂} a b room few = record {
       records = both .records;
       few = few;
       edges = record {
@@ -318,4 +319,4 @@ module _ {P : Pack} {table : List (List ℕ)} {nodes triples masks flags : List 
         both = listed-join a b room (across sp) (λ Q x. (λ e. e, λ e. e))
 
         all : ListOf _≺_ (λ x. IriEdge nodes triples masks places P x ⊎ Upto (SetEdge triples flags places P) 256 x) (both .records)
-        all = both .are P (shaped I)
+        all = both .are P tab

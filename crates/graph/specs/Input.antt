@@ -1,7 +1,9 @@
 -- What the graph is built from: the core in lent slices and the shape table. Assumes nothing.
+use lib.Dec.{ltb}
 use lib.ListN.{length}
-use mathlib.Core.List.{List}
-use Prim.Native.Nat.{ℕ, _/_, _%_, _^_, _<_, _≤_}
+use mathlib.Core.Bool.{cond}
+use mathlib.Core.List.{List, [], _∷_}
+use Prim.Native.Nat.{ℕ, _+_, _/_, _%_, _^_, _<_, _≤_}
 use Rattle.core.specs.Bounds.{Bounded}
 use Rattle.core.specs.Held.{CoreHeld}
 use Rattle.meaning.specs.Limits.{maxCoreTriples, maxIris, maxPredicates}
@@ -32,6 +34,11 @@ objectOf k = k % 1024
 
 abbrev pub originOf : ℕ → ℕ
 originOf k = k / 1024
+
+-- how many keys are of earlier origins
+unfoldable pub keysBefore : ℕ → List ℕ → ℕ
+keysBefore q [] = 0
+keysBefore q (k ∷ ks) = cond (ltb (originOf k) q) 1 0 + keysBefore q ks
 
 -- The ends of the triples are places of nodes, and each node has its type set; refusal 9's bounds hold.
 pub record Placed (nodes triples masks : List ℕ) : Type 0 where

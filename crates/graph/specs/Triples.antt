@@ -1,6 +1,6 @@
 -- Triple records by the numbers of their subjects: what an edge's record is, and lists of records in a lent slice. Assumes
 -- nothing.
-use lib.Dec.{eqb, ltb}
+use lib.Dec.{eqb}
 use lib.ListN.{drop, getD, getElem?, length}
 use mathlib.Core.Bool.{cond}
 use mathlib.Core.List.{List, [], _∷_, _++_, map, flatten}
@@ -18,7 +18,7 @@ use Rattle.meaning.specs.NoGraph.{MixedKinds}
 use Rattle.meaning.specs.Ordered.{ListOf, _≺_}
 use Rattle.meaning.specs.Pack.{Pack}
 use Rattle.sets.specs.Ordered.{rankOf}
-use Rattle.shapes.specs.Shapes.{Tabled}
+use Rattle.shapes.specs.Sets.{SetsTabled}
 
 -- the most triples that the lent list holds
 abbrev pub maxTriples : ℕ
@@ -31,11 +31,6 @@ unfoldable pub group : ℕ → List ℕ → List ℕ
 group q [] = []
 group q (k ∷ ks) = cond (eqb (originOf k) q) (k ∷ group q ks) (group q ks)
 
--- how many keys are of earlier origins
-unfoldable pub keysBefore : ℕ → List ℕ → ℕ
-keysBefore q [] = 0
-keysBefore q (k ∷ ks) = cond (ltb (originOf k) q) 1 0 + keysBefore q ks
-
 -- "A triple is three 16-bit numbers: subject, predicate, object"
 abbrev pub edgeRecord : ℕ → ℕ → ℕ → List ℕ
 edgeRecord s p k = s ∷ p ∷ objectOf k ∷ []
@@ -43,9 +38,9 @@ edgeRecord s p k = s ∷ p ∷ objectOf k ∷ []
 abbrev pub edgeRecords : ℕ → ℕ → List ℕ → List (List ℕ)
 edgeRecords s p triples = map (edgeRecord s p) (group (s * 16 + p) triples)
 
--- The edges of a subject and a predicate stand from triple `first` on.
-pub record EdgesListed (triples : List ℕ) (s p first : ℕ) (out out′ : List ℕ) (r : ℕ) : Type 0 where
-  pub count : r ≡ first + length (group (s * 16 + p) triples)
+-- The edges of a subject and a predicate, whose keys are those from place `from` up to place r, stand from triple `first` on.
+pub record EdgesListed (triples : List ℕ) (s p from first : ℕ) (out out′ : List ℕ) (r : ℕ) : Type 0 where
+  pub count : r ≡ from + length (group (s * 16 + p) triples)
   pub edges : out′ ≡ overwritten (first * 3) (flatten (edgeRecords s p triples)) out
 
 -- ---- all edges
@@ -77,9 +72,9 @@ pub record SetsPlaced (triples flags places : List ℕ) : Type 0 where
   pub ascend : (i j : ℕ) → 0 < i → i < j → j < 256 → getD flags i 0 ≡ 1 → getD flags j 0 ≡ 1 → getD places i 0 < getD places j 0
 
 -- The records of Q, in order, stand from triple `first` on; the next number is r.
-pub record Listed (table : List (List ℕ)) (Q : Pack → List ℕ → Type 0) (first : ℕ) (out out′ : List ℕ) (r : ℕ) : Type 0 where
+pub record Listed (table : List ℕ) (Q : Pack → List ℕ → Type 0) (first : ℕ) (out out′ : List ℕ) (r : ℕ) : Type 0 where
   pub records : List (List ℕ)
-  pub are : (P : Pack) → Tabled (P .setting) table → ListOf _≺_ (Q P) records
+  pub are : (P : Pack) → SetsTabled (P .setting) table → ListOf _≺_ (Q P) records
   pub long : length (flatten records) ≡ length records * tripleNumbers
   pub count : r ≡ first + length records
   pub written : out′ ≡ overwritten (first * tripleNumbers) (flatten records) out
@@ -98,7 +93,7 @@ pub record TriplesListed (P : Pack) (inOrder : List BuiltNode) (out out′ : Lis
 abbrev pub Numbered : List BuiltNode → List ℕ → Type 0
 Numbered inOrder places = (i j : ℕ) → j < maxSets → getElem? inOrder i ≡ some (invented (setAt j)) → getD places j 0 ≡ i
 
-abbrev pub TriplesShown : List (List ℕ) → List ℕ → List ℕ → List ℕ → List ℕ → List ℕ → List ℕ → List ℕ → ℕ → Type 0
+abbrev pub TriplesShown : List ℕ → List ℕ → List ℕ → List ℕ → List ℕ → List ℕ → List ℕ → List ℕ → ℕ → Type 0
 TriplesShown table nodes triples masks flags places out out′ count =
-    (P : Pack) → Input P table nodes triples masks → InventedSets P flags → ¬ MixedKinds P
+    (P : Pack) (shapes : List (List ℕ)) → Input P shapes nodes triples masks → SetsTabled (P .setting) table → InventedSets P flags → ¬ MixedKinds P
     → (inOrder : List BuiltNode) → NodesInOrder P inOrder → Numbered inOrder places → TriplesListed P inOrder out out′ count

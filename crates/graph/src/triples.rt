@@ -3,19 +3,18 @@ ghost use lib.ListN.{length};
 ghost use mathlib.Core.List.{[], _∷_};
 ghost use mathlib.Core.Path.{_≡_};
 ghost use Prim.Native.Nat.{_+_, _*_, _<_, _≤_};
-ghost use Rattle.graph.specs.Input.{Placed};
+ghost use Rattle.graph.specs.Input.{Placed, keysBefore};
 ghost use Rattle.graph.specs.Invent.{Upto, maxSets};
 ghost use Rattle.graph.specs.Records.{SetPlaces, overwritten};
-ghost use Rattle.graph.specs.Triples.{EdgeFrom, EdgesListed, IriEdge, Listed, SetEdge, SetsPlaced, SubjectEdge, TriplesShown, group, keysBefore, maxTriples};
+ghost use Rattle.graph.specs.Triples.{EdgeFrom, EdgesListed, IriEdge, Listed, SetEdge, SetsPlaced, SubjectEdge, TriplesShown, maxTriples};
 ghost use Rattle.meaning.specs.Limits.{maxCoreTriples, maxIris, maxPredicates, tripleListLength};
 ghost use Rattle.meaning.specs.Ordered.{InOrder};
-ghost use Rattle.shapes.specs.Shapes.{CodesFit};
 use crate::invent::set_number;
 use crate::mixed::LITERALS;
 use meaning::MAX_PREDICATES;
 use sets::ordered::rank;
-use shapes::required;
-use shapes::targets;
+use shapes::table::required;
+use shapes::table::targets;
 
 // Writes a triple's three numbers at its place.
 fn write_triple(out: &mut [u16], triple: usize, subject: u16, predicate: u16, object: u16)
@@ -28,95 +27,123 @@ fn write_triple(out: &mut [u16], triple: usize, subject: u16, predicate: u16, ob
     out[at + 2] = object;
 }
 
-// Writes the core's edges of a subject and a predicate from a triple number on; returns the next number.
-fn list_edges(triples: &[u64], subject: usize, p: usize, first: usize, out: &mut [u16]) -> usize
-    requires { ⌜ InOrder _<_ (now triples) × (subject < 1024) × (p < maxPredicates) × (first + length (group (subject * 16 + p) (now triples)) ≤ maxTriples) × (tripleListLength ≤ length (now out)) ⌝ }
-    ensures { λ r. ⌜ EdgesListed (now (triples .entry)) subject p first (now (out .entry)) (now (out .exit)) r ⌝ }
+// Where the next triple is written, and how far the core's triples are passed.
+pub struct Next {
+    pub triple: usize,
+    pub at: usize,
+}
+
+// Writes the core's edges of a subject and a predicate, which stand from place `from` on, from a triple number on; returns the
+// place after them.
+fn list_edges(
+    triples: &[u64],
+    subject: usize,
+    p: usize,
+    from: usize,
+    first: usize,
+    out: &mut [u16],
+) -> usize
+    requires { ⌜ InOrder _<_ (now triples) × (subject < 1024) × (p < maxPredicates) × (from ≡ keysBefore (subject * 16 + p) (now triples)) × (first + keysBefore (subject * 16 + p + 1) (now triples) ≤ maxTriples + from) × (tripleListLength ≤ length (now out)) ⌝ }
+    ensures { λ r. ⌜ EdgesListed (now (triples .entry)) subject p from first (now (out .entry)) (now (out .exit)) r ⌝ }
 {
     let origin = (subject * 16 + p) as u64;
-    let mut at = rank(triples, origin * 1024);
-    let mut next = first;
+    let mut at = from;
     while at < triples.len() {
         let key = triples[at];
         if key / 1024 != origin {
-            return next;
+            return at;
         }
-        write_triple(out, next, subject as u16, p as u16, (key % 1024) as u16);
-        next += 1;
+        write_triple(
+            out,
+            first + (at - from),
+            subject as u16,
+            p as u16,
+            (key % 1024) as u16,
+        );
         at += 1;
     }
-    next
+    at
 }
 
 // Writes the edges of a subject and a predicate: the core's, or else the one to the invented node of its p-targets.
 fn list_origin(
-    shapes: &[[u16; 12]; 8],
+    table: &[u16; 4096],
     triples: &[u64],
     places: &[u16],
     subject: usize,
     mask: u16,
     p: usize,
-    first: usize,
+    next: Next,
     out: &mut [u16],
-) -> usize
-    requires { ⌜ InOrder _<_ (now triples) × (maxSets ≤ length (now places)) × CodesFit (now shapes) × (subject < 1024) × (p < maxPredicates) × (first + length (group (subject * 16 + p) (now triples)) + 1 ≤ maxTriples) × (tripleListLength ≤ length (now out)) ⌝ }
-    ensures { λ r. ⌜ Listed (now (shapes .entry)) (λ P. EdgeFrom P (now (triples .entry)) (now (places .entry)) subject mask p) first (now (out .entry)) (now (out .exit)) r × (r ≤ first + length (group (subject * 16 + p) (now (triples .entry))) + 1) ⌝ }
+) -> Next
+    requires { ⌜ InOrder _<_ (now triples) × (maxSets ≤ length (now places)) × (subject < 1024) × (p < maxPredicates) × (next .at ≡ keysBefore (subject * 16 + p) (now triples)) × (next .triple + keysBefore (subject * 16 + p + 1) (now triples) + 1 ≤ maxTriples + next .at) × (tripleListLength ≤ length (now out)) ⌝ }
+    ensures { λ r. ⌜ Listed (now (table .entry)) (λ P. EdgeFrom P (now (triples .entry)) (now (places .entry)) subject mask p) (next .triple) (now (out .entry)) (now (out .exit)) (r .triple) × (r .triple + next .at ≤ next .triple + 1 + r .at) × (r .at ≡ keysBefore (subject * 16 + p + 1) (now (triples .entry))) ⌝ }
 {
-    let next = list_edges(triples, subject, p, first, out);
-    if next != first {
+    let first = next.triple;
+    let from = next.at;
+    let at = list_edges(triples, subject, p, from, first, out);
+    if at != from {
+        return Next {
+            triple: first + (at - from),
+            at,
+        };
+    }
+    if !required(table, mask, p) {
         return next;
     }
-    if !required(shapes, mask, p) {
-        return first;
-    }
-    let set = set_number(targets(shapes, mask, p));
+    let set = set_number(targets(table, mask, p));
     write_triple(out, first, subject as u16, p as u16, places[set]);
-    first + 1
+    Next {
+        triple: first + 1,
+        at,
+    }
 }
 
 // The same for every predicate.
 fn list_subject(
-    shapes: &[[u16; 12]; 8],
+    table: &[u16; 4096],
     triples: &[u64],
     places: &[u16],
     subject: usize,
     mask: u16,
-    first: usize,
+    first: Next,
     out: &mut [u16],
-) -> usize
-    requires { ⌜ InOrder _<_ (now triples) × (maxSets ≤ length (now places)) × CodesFit (now shapes) × (subject < 1024) × (first + maxPredicates + keysBefore (subject * 16 + 16) (now triples) ≤ maxTriples + keysBefore (subject * 16) (now triples)) × (tripleListLength ≤ length (now out)) ⌝ }
-    ensures { λ r. ⌜ Listed (now (shapes .entry)) (λ P. SubjectEdge P (now (triples .entry)) (now (places .entry)) subject mask) first (now (out .entry)) (now (out .exit)) r × (r + keysBefore (subject * 16) (now (triples .entry)) ≤ first + maxPredicates + keysBefore (subject * 16 + 16) (now (triples .entry))) ⌝ }
+) -> Next
+    requires { ⌜ InOrder _<_ (now triples) × (maxSets ≤ length (now places)) × (subject < 1024) × (first .at ≡ keysBefore (subject * 16) (now triples)) × (first .triple + maxPredicates + keysBefore (subject * 16 + maxPredicates) (now triples) ≤ maxTriples + first .at) × (tripleListLength ≤ length (now out)) ⌝ }
+    ensures { λ r. ⌜ Listed (now (table .entry)) (λ P. SubjectEdge P (now (triples .entry)) (now (places .entry)) subject mask) (first .triple) (now (out .entry)) (now (out .exit)) (r .triple) × (r .triple + first .at ≤ first .triple + maxPredicates + r .at) × (r .at ≡ keysBefore (subject * 16 + maxPredicates) (now (triples .entry))) ⌝ }
 {
     let mut next = first;
     for p in 0..MAX_PREDICATES {
-        next = list_origin(shapes, triples, places, subject, mask, p, next, out);
+        let more = list_origin(table, triples, places, subject, mask, p, next, out);
+        next = more;
     }
     next
 }
 
 // Those of every IRI: literals come after all IRIs and have no edges.
 fn list_iris(
-    shapes: &[[u16; 12]; 8],
+    table: &[u16; 4096],
     nodes: &[u64],
     triples: &[u64],
     masks: &[u16],
     places: &[u16],
     out: &mut [u16],
 ) -> usize
-    requires { ⌜ Placed (now nodes) (now triples) (now masks) × (maxSets ≤ length (now places)) × CodesFit (now shapes) × (tripleListLength ≤ length (now out)) ⌝ }
-    ensures { λ r. ⌜ Listed (now (shapes .entry)) (IriEdge (now (nodes .entry)) (now (triples .entry)) (now (masks .entry)) (now (places .entry))) 0 (now (out .entry)) (now (out .exit)) r × (r ≤ maxCoreTriples + maxIris * maxPredicates) ⌝ }
+    requires { ⌜ Placed (now nodes) (now triples) (now masks) × (maxSets ≤ length (now places)) × (tripleListLength ≤ length (now out)) ⌝ }
+    ensures { λ r. ⌜ Listed (now (table .entry)) (IriEdge (now (nodes .entry)) (now (triples .entry)) (now (masks .entry)) (now (places .entry))) 0 (now (out .entry)) (now (out .exit)) r × (r ≤ maxCoreTriples + maxIris * maxPredicates) ⌝ }
 {
     let iris = rank(nodes, LITERALS);
-    let mut next = 0;
+    let mut next = Next { triple: 0, at: 0 };
     for s in 0..iris {
-        next = list_subject(shapes, triples, places, s, masks[s], next, out);
+        let more = list_subject(table, triples, places, s, masks[s], next, out);
+        next = more;
     }
-    next
+    next.triple
 }
 
-// Those of a set of types, if it is marked.
+// Those of a set of types, if it is marked: its node comes after all subjects of the core.
 fn list_set_edges(
-    shapes: &[[u16; 12]; 8],
+    table: &[u16; 4096],
     triples: &[u64],
     flags: &[u16],
     places: &[u16],
@@ -124,38 +151,43 @@ fn list_set_edges(
     first: usize,
     out: &mut [u16],
 ) -> usize
-    requires { ⌜ SetsPlaced (now triples) (now flags) (now places) × InOrder _<_ (now triples) × (maxSets ≤ length (now flags)) × (maxSets ≤ length (now places)) × CodesFit (now shapes) × (0 < set) × (set < 256) × (first + maxPredicates ≤ maxTriples) × (tripleListLength ≤ length (now out)) ⌝ }
-    ensures { λ r. ⌜ Listed (now (shapes .entry)) (λ P. SetEdge (now (triples .entry)) (now (flags .entry)) (now (places .entry)) P set) first (now (out .entry)) (now (out .exit)) r × (r ≤ first + maxPredicates) ⌝ }
+    requires { ⌜ SetsPlaced (now triples) (now flags) (now places) × InOrder _<_ (now triples) × (maxSets ≤ length (now flags)) × (maxSets ≤ length (now places)) × (0 < set) × (set < 256) × (first + maxPredicates ≤ maxTriples) × (tripleListLength ≤ length (now out)) ⌝ }
+    ensures { λ r. ⌜ Listed (now (table .entry)) (λ P. SetEdge (now (triples .entry)) (now (flags .entry)) (now (places .entry)) P set) first (now (out .entry)) (now (out .exit)) r × (r ≤ first + maxPredicates) ⌝ }
 {
     if flags[set] != 1 {
         return first;
     }
     let subject = places[set] as usize;
-    list_subject(shapes, triples, places, subject, set as u16, first, out)
+    let from = Next {
+        triple: first,
+        at: triples.len(),
+    };
+    let next = list_subject(table, triples, places, subject, set as u16, from, out);
+    next.triple
 }
 
 // Those of every marked set of types: the invented literal has no edges.
 fn list_sets_edges(
-    shapes: &[[u16; 12]; 8],
+    table: &[u16; 4096],
     triples: &[u64],
     flags: &[u16],
     places: &[u16],
     first: usize,
     out: &mut [u16],
 ) -> usize
-    requires { ⌜ SetsPlaced (now triples) (now flags) (now places) × InOrder _<_ (now triples) × (maxSets ≤ length (now flags)) × (maxSets ≤ length (now places)) × CodesFit (now shapes) × (first ≤ maxCoreTriples + maxIris * maxPredicates) × (tripleListLength ≤ length (now out)) ⌝ }
-    ensures { λ r. ⌜ Listed (now (shapes .entry)) (λ P. Upto (SetEdge (now (triples .entry)) (now (flags .entry)) (now (places .entry)) P) 256) first (now (out .entry)) (now (out .exit)) r × (r ≤ maxTriples) ⌝ }
+    requires { ⌜ SetsPlaced (now triples) (now flags) (now places) × InOrder _<_ (now triples) × (maxSets ≤ length (now flags)) × (maxSets ≤ length (now places)) × (first ≤ maxCoreTriples + maxIris * maxPredicates) × (tripleListLength ≤ length (now out)) ⌝ }
+    ensures { λ r. ⌜ Listed (now (table .entry)) (λ P. Upto (SetEdge (now (triples .entry)) (now (flags .entry)) (now (places .entry)) P) 256) first (now (out .entry)) (now (out .exit)) r × (r ≤ maxTriples) ⌝ }
 {
     let mut next = first;
     for j in 1..256 {
-        next = list_set_edges(shapes, triples, flags, places, j, next, out);
+        next = list_set_edges(table, triples, flags, places, j, next, out);
     }
     next
 }
 
 // Writes the records of all edges, ascending; returns how many there are.
 pub fn list_triples(
-    shapes: &[[u16; 12]; 8],
+    table: &[u16; 4096],
     nodes: &[u64],
     triples: &[u64],
     masks: &[u16],
@@ -163,9 +195,9 @@ pub fn list_triples(
     places: &[u16],
     out: &mut [u16],
 ) -> usize
-    requires { ⌜ Placed (now nodes) (now triples) (now masks) × SetPlaces (now flags) (length (now nodes)) (now places) × (maxSets ≤ length (now flags)) × (maxSets ≤ length (now places)) × CodesFit (now shapes) × (tripleListLength ≤ length (now out)) ⌝ }
-    ensures { λ r. ⌜ TriplesShown (now (shapes .entry)) (now (nodes .entry)) (now (triples .entry)) (now (masks .entry)) (now (flags .entry)) (now (places .entry)) (now (out .entry)) (now (out .exit)) r ⌝ }
+    requires { ⌜ Placed (now nodes) (now triples) (now masks) × SetPlaces (now flags) (length (now nodes)) (now places) × (maxSets ≤ length (now flags)) × (maxSets ≤ length (now places)) × (tripleListLength ≤ length (now out)) ⌝ }
+    ensures { λ r. ⌜ TriplesShown (now (table .entry)) (now (nodes .entry)) (now (triples .entry)) (now (masks .entry)) (now (flags .entry)) (now (places .entry)) (now (out .entry)) (now (out .exit)) r ⌝ }
 {
-    let next = list_iris(shapes, nodes, triples, masks, places, out);
-    list_sets_edges(shapes, triples, flags, places, next, out)
+    let next = list_iris(table, nodes, triples, masks, places, out);
+    list_sets_edges(table, triples, flags, places, next, out)
 }

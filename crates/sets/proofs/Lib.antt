@@ -8,6 +8,3 @@ pub mod Shift
 pub mod Insertion
 pub mod Mask
 pub mod Lowest
-pub mod Members
-pub mod Visit
-pub mod Union

@@ -1,15 +1,14 @@
--- What is a member of what: unions, intersections, a type added, the bound on a mask's members; a mask is fixed by its
--- members. Assumes nothing.
+-- What is a member of what: unions, intersections, a type added, the bound on a mask's members. Assumes nothing.
 use lib.Arith.{lt-one}
-use lib.Bits.{bitAnd, bitOr, or-lt, and-mask}
+use lib.Bits.{bitAnd, bitOr}
 use lib.Pow.{pow-lt}
 use mathlib.Core.Logic.{_↔_, _⊎_, inl, inr}
-use mathlib.Core.Path.{_≡_, refl, sym, _∙_}
+use mathlib.Core.Path.{_≡_}
 use native.Mathlib.Decide.{ℕ-discrete}
 use native.Mathlib.Nat.{pow-suc, one-mul, mod-eq-of-lt}
 use native.Mathlib.Omega.{arith}
 use Prim.Native.Nat.{ℕ, zero, suc, _*_, _/_, _%_, _^_, _<_, zero-le, suc-le-suc}
-use Rattle.meaning.proofs.Lists.Bits.{bit-and, bit-lt, bit-one, bit-or, bit-other, bit-same, bit-shift, bits-equal, zero-bits}
+use Rattle.meaning.proofs.Lists.Bits.{bit-and, bit-lt, bit-one, bit-or, bit-other, zero-bits}
 use Rattle.meaning.specs.TypeSet.{bit}
 
 pub half-lt : (n d : ℕ) → n < 2 ^ suc d → n / 2 < 2 ^ d
@@ -21,10 +20,6 @@ unfolding bit
 bit-small zero t n e h = absurd (let z : n ≡ 0 = lt-one h in omega (arith, rw z at e, zero-bits t))
 bit-small (suc k) zero n e h = suc-le-suc zero-le
 bit-small (suc k) (suc t) n e h = suc-le-suc (bit-small k t (n / 2) e (half-lt n k h))
-
--- type t's bit as code tests it, `(n >> t) & 1`
-pub bit-tested : (t n : ℕ) → bitAnd (n / 2 ^ t) 1 ≡ bit t n
-bit-tested t n = and-mask (n / 2 ^ t) 1 ∙ sym (bit-shift t n)
 
 -- type t's weight as code makes it at the width d, `1 << t`
 pub weight-made : (d t : ℕ) → t < d → 1 * 2 ^ t % 2 ^ d ≡ 2 ^ t
@@ -60,11 +55,3 @@ added-member t u n = (λ h. forth (ℕ-discrete t u) h, back)
     back : (t ≡ u) ⊎ (bit t n ≡ 1) → bit t (bitOr n (2 ^ u)) ≡ 1
     back (inl e) = rw e (union-member u n (2 ^ u) .1 (inr (bit-one u)))
     back (inr h) = union-member t n (2 ^ u) .1 (inl h)
-
--- a mask of types below k stays one
-pub added-small : (k u n : ℕ) → u < k → n < 2 ^ k → bitOr n (2 ^ u) < 2 ^ k
-added-small k u n h l = or-lt k n (2 ^ u) l (pow-lt h)
-
--- a set of types has one mask
-pub mask-unique : (a b : ℕ) → ((t : ℕ) → (bit t a ≡ 1) ↔ (bit t b ≡ 1)) → a ≡ b
-mask-unique a b h = bits-equal a b (λ t. bit-same t a b (h t))

@@ -1,4 +1,3 @@
 // Leaves on lent slices that the other crates share.
 pub mod buffers; // clear a slice, copy the front of one over another
 pub mod ordered; // a set of numbers, kept ascending in a lent slice
-pub mod masks; // the members of a mask of types, lowest first

@@ -1,6 +1,4 @@
 -- What a cell says of the shape that it holds. Assumes nothing.
-use borrow.Author.Tests.{eq-eqb, ne-eqb}
-use lib.Dec.{T, eqb}
 use mathlib.Core.List.{List, []}
 use mathlib.Core.Option.{Option, none, some}
 use mathlib.Core.Path.{_≡_, refl, sym, _∙_}
@@ -9,15 +7,6 @@ use Prim.Native.Nat.{ℕ, suc, _+_, _*_, _/_, _%_, _^_, _≤_, _<_}
 use Rattle.meaning.specs.Limits.{maxTypes, maxPredicates}
 use Rattle.meaning.specs.Pack.{HasShape, Multiplicity, Setting, Shape, anyNumber, atLeastOne, multiplicityNumber, one, optional, shapeOf}
 use Rattle.meaning.specs.Tables.{ShapeTable, cellAt, cellOf, targetCode}
-use Rattle.shapes.specs.Cells.{weightOf}
-
-pub weight-none : weightOf 0 ≡ 0
-unfolding weightOf
-weight-none = refl
-
-pub weight-some : (cell : ℕ) → (cell ≡ 0 → ⊥) → weightOf cell ≡ 2 ^ (cell / 8)
-unfolding weightOf
-weight-some cell h = rw (ne-eqb cell 0 h)
 
 multiplicity-small : (m : Multiplicity) → (1 ≤ multiplicityNumber m) × (multiplicityNumber m < 8)
 multiplicity-small one = (omega arith, omega arith)
@@ -34,9 +23,6 @@ module _ (s : Shape) where
 
   pub cell-multiplicity : cellOf (some s) % 8 ≡ multiplicityNumber (s .multiplicity)
   cell-multiplicity = omega (arith, multiplicity-small (s .multiplicity))
-
-  pub cell-weight : weightOf (cellOf (some s)) ≡ 2 ^ targetCode (s .target)
-  cell-weight = weight-some (cellOf (some s)) cell-held ∙ rw cell-target
 
 -- the shape of a cell that is not 0
 module _ {S : Setting} {table : List (List ℕ)} (tab : ShapeTable S table) {t p : ℕ} (ht : t < maxTypes) (hp : p < maxPredicates) where

@@ -1,4 +1,6 @@
 pub mod Sets
 pub mod Cells
-pub mod Union
+pub mod Rows
+pub mod Numbers
+pub mod Filling
 pub mod Search

@@ -19,8 +19,7 @@ use Rattle.meaning.specs.TypeSet.{bit}
 use Rattle.sets.proofs.Lowest.{cleared, cleared-le, cleared-member, lowest}
 use Rattle.shapes.specs.Shapes.{SomePasses, SomeShape, Tabled}
 use Rattle.shapes.proofs.Cells.{cell-held, cell-multiplicity, held-shape, shape-held}
-use Rattle.shapes.proofs.Sets.{low-member, type-in}
-use Rattle.shapes.proofs.Union.{typesIn}
+use Rattle.shapes.proofs.Sets.{low-member, type-in, typesIn}
 
 -- the cell holds a shape whose multiplicity passes the test
 pub record Passes (test : Multiplicity → Bool) (cell : ℕ) : Type 0 where

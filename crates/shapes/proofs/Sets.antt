@@ -1,5 +1,5 @@
 -- A mask of 16 bits as a type set: type t's bit is bit t, Literal's is bit 15. Assumes nothing.
-use lib.Bits.{bitAnd, bitOr, and-mask, or-lt}
+use lib.Bits.{bitAnd, bitOr, and-le-r, and-mask, or-lt}
 use lib.Dec.{T, leb, leb→le, le→leb, lit<}
 use lib.Pow.{pow-lt, suc-ones}
 use mathlib.Core.Logic.{_↔_, _⊎_, inl, inr}
@@ -28,6 +28,13 @@ low-member k t m = (
   λ h. let b = intersection-member t m (2 ^ k - 1) .0 h in (bit-small k t (2 ^ k - 1) (b .1) (omega (arith, suc-ones k)), b .0),
   λ h. intersection-member t m (2 ^ k - 1) .1 (h .1, ones-bit k t (h .0)),
 )
+
+-- the types of a mask
+abbrev pub typesIn : ℕ → ℕ
+typesIn mask = bitAnd mask 255
+
+pub types-small : (mask : ℕ) → typesIn mask < 2 ^ 8
+types-small mask = omega (arith, and-le-r mask 255)
 
 pub type-in : (t m : ℕ) → (type t ∈ₜ setOfMask m) ↔ ((t < literalBit) × (bit t m ≡ 1))
 unfolding setOfMask

@@ -1,5 +1,4 @@
--- What the shapes of a type set's members say of a predicate, and what the three tests of the shape table answer.
--- Assumes nothing.
+-- What the shapes of a type set's members say of a predicate, and the shape table. Assumes nothing.
 use lib.Dec.{T}
 use mathlib.Core.Bool.{Bool}
 use mathlib.Core.List.{List}
@@ -7,7 +6,7 @@ use mathlib.Core.Logic.{_↔_}
 use mathlib.Core.Path.{_≡_}
 use Prim.Native.Nat.{ℕ, _*_, _<_}
 use Rattle.meaning.specs.Limits.{maxTypes, maxPredicates}
-use Rattle.meaning.specs.Pack.{Setting, Shape, Target, type, Multiplicity, HasShape}
+use Rattle.meaning.specs.Pack.{HasShape, Multiplicity, Setting, Shape, type}
 use Rattle.meaning.specs.Tables.{ShapeTable, cellAt, setOfMask}
 use Rattle.meaning.specs.TypeSet.{_∈ₜ_}
 
@@ -33,10 +32,6 @@ pub record Tabled (S : Setting) (table : List (List ℕ)) : Type 0 where
 abbrev pub CodesFit : List (List ℕ) → Type 0
 CodesFit table = (t p : ℕ) → t < maxTypes → p < maxPredicates → cellAt table t p < 16 * 8
 
--- "the targets of p in every shape of a member of X, required or not": r is the mask of their set
-abbrev pub TargetsOf : List (List ℕ) → ℕ → ℕ → ℕ → Type 0
-TargetsOf table mask p r = (S : Setting) → Tabled S table → (R : Target) → (R ∈ₜ setOfMask r) ↔ SomeShape S mask p (λ s. s .target ≡ R)
-
--- some member's multiplicity for p passes the test (requires, limits)
+-- some member's multiplicity for p passes the test
 abbrev pub SomePasses : (Multiplicity → Bool) → List (List ℕ) → ℕ → ℕ → Bool → Type 0
 SomePasses test table mask p r = (S : Setting) → Tabled S table → T r ↔ SomeShape S mask p (λ s. T (test (s .multiplicity)))

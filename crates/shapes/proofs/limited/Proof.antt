@@ -5,7 +5,7 @@ use native.Mathlib.Omega.{arith}
 use Rattle.meaning.specs.Pack.{limits}
 use Rattle.sets.proofs.Lowest.{lowest-small, ones-cleared}
 use Rattle.shapes.proofs.Search.{Searching, Wanted, search-start, search-member, search-again, search-done, answer-true, answer-false, fails, no-shape}
-use Rattle.shapes.proofs.Union.{typesIn, types-small}
+use Rattle.shapes.proofs.Sets.{typesIn, types-small}
 use Rattle.shapes.proofs.limited.Statement.{statement}
 use Rattle.shapes.proofs.limited.Tie as tie
 

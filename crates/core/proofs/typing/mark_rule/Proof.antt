@@ -10,10 +10,10 @@ use Rattle.core.proofs.typing.mark_rule.Statement.{statement}
 use Rattle.core.proofs.typing.mark_rule.Tie as tie
 
 abbrev Inv-loop : tie.InvT-loop
-Inv-loop head keys nodes masks₀ i₀ i-end masks i = KeysMarked (TypeFact nodes head) keys i masks₀ masks
+Inv-loop head keys nodes masks₀ near₀ i₀ i-end masks near i = KeysMarked (TypeFact nodes head) keys i masks₀ masks
 
 abbrev μ-loop : tie.MeasureT-loop
-μ-loop head keys nodes masks₀ i₀ i-end masks i = length keys - i
+μ-loop head keys nodes masks₀ near₀ i₀ i-end masks near i = length keys - i
 
 pub mark-rule-spec : {M : Type 1} → statement M
 mark-rule-spec =
@@ -27,6 +27,6 @@ mark-rule-spec =
     (λ c κs. let s = c .before .before .before .before .before .before .before in let m = ∈-at (s .args .keys .now) (c .before .before .before .loop .i) (omega arith) in (s .pre .0, s .pre .1 _ m, s .pre .2, s .pre .3 _ m, omega (arith, c .before .before .before .loop .inv .long)))  -- mark-match-requires
     (λ c. search needs)  -- add-i
     (λ c. search needs)  -- loop-less
-    (λ c. let a = c .before .before .mark-match in marks-again (c .before .before .before .before .before .before .loop .inv) (omega arith) _ (a .ensures) (a .kept .1 .1 .1 .0))  -- loop-again
+    (λ c. let a = c .before .before .mark-match in marks-again (c .before .before .before .before .before .before .loop .inv) (omega arith) _ (a .ensures) (a .kept .1 .1 .1 .1 .0))  -- loop-again
     (λ c. search needs)  -- same-length
     (λ c. marks-done (c .before .loop .inv) (omega arith)))  -- returns
