@@ -9,7 +9,7 @@ use mathlib.Core.Option.{Option, none, some}
 use mathlib.Core.Path.{_≡_, refl, sym, ap, subst, _∙_}
 use native.Mathlib.Numerals.{add-one}
 use native.Mathlib.Omega.{arith}
-use Prim.Native.Nat.{ℕ, zero, suc, _+_, _-_, _*_, _/_, _%_, _≤_, _<_}
+use Prim.Native.Nat.{ℕ, zero, suc, _+_, _-_, _*_, _/_, _%_, _^_, _≤_, _<_}
 use Rattle.meaning.specs.Pack.{Pack, Dependency, Row}
 use Rattle.meaning.specs.Tests.{any, anyTwo, every, passes}
 use Rattle.meaning.specs.WellFormed.{agree, breaks, dangling, goodDependency, goodRow, goodRule, goodShape, hasArity}
@@ -40,7 +40,7 @@ unfolding below
 below-7 = refl
 
 -- a key of at most seven columns leaves room for one more
-pub room : (n k : ℕ) → n ≤ 7 → k < below n → 256 * k + 255 < 18446744073709551616
+room : (n k : ℕ) → n ≤ 7 → k < below n → 256 * k + 255 < 18446744073709551616
 room n k h l = omega (arith, below-le n 7 h, below-7, l)
 
 and-both : (a b : Bool) → (a && b) ≡ true → (a ≡ true) × (b ≡ true)
@@ -75,7 +75,7 @@ agree-keys m (x ∷ xs) (y ∷ ys) h p q =
 
 -- ---- a key, column by column from the last
 
-pub key-none : (s : List ℕ) (m a n : ℕ) → n ≡ 0 → (0 ≡ keyOf m (textAt s a n)) × (0 < below n)
+key-none : (s : List ℕ) (m a n : ℕ) → n ≡ 0 → (0 ≡ keyOf m (textAt s a n)) × (0 < below n)
 unfolding keyOf below
 key-none s m a n e =
     let f : a + n ≡ a = omega arith in
@@ -94,11 +94,65 @@ module _ (s : List ℕ) (m a n k : ℕ) (inside : a + n ≤ length s) (some : n 
   unfolding below
   below-more x h = let f : n ≡ suc (n - 1) = omega (arith, some) in rw f (omega (arith, q .1, h))
 
-  pub key-skips : m % 2 ≡ 0 → (256 * k ≡ keyOf m (textAt s a n)) × (256 * k < below n)
+  key-skips : m % 2 ≡ 0 → (256 * k ≡ keyOf m (textAt s a n)) × (256 * k < below n)
   key-skips e = (omega (arith, key-more true (eq-eqb _ _ e)), omega (arith, below-more 0 (omega arith)))
 
-  pub key-takes : (m % 2 ≡ 0 → ⊥) → getD s a 0 < 256 → (256 * k + getD s a 0 ≡ keyOf m (textAt s a n)) × (256 * k + getD s a 0 < below n)
+  key-takes : (m % 2 ≡ 0 → ⊥) → getD s a 0 < 256 → (256 * k + getD s a 0 ≡ keyOf m (textAt s a n)) × (256 * k + getD s a 0 < below n)
   key-takes e h = (key-more false (ne-eqb _ _ e), below-more (getD s a 0) h)
+
+-- the key of the columns from c on
+pub record Keying (s : List ℕ) (m a n k c : ℕ) : Type 0 where
+  pub inside : a + n ≤ length s
+  pub short : n ≤ 8
+  pub before : c ≤ n
+  pub is : k ≡ keyOf (m / 2 ^ c) (textAt s (a + c) (n - c))
+  pub low : k < below (n - c)
+
+pub keying-start : (s : List ℕ) (m a n : ℕ) → a + n ≤ length s → n ≤ 8 → Keying s m a n 0 n
+keying-start s m a n h g =
+    let q = key-none s (m / 2 ^ n) (a + n) (n - n) (omega arith) in
+    record { inside = h; short = g; before = omega arith; is = q .0; low = q .1 }
+
+-- a mask of eight bits, shifted by one more
+halved : (m c : ℕ) → c ≤ 7 → m / 2 ^ c / 2 ≡ m / 2 ^ (c + 1)
+halved m zero h = omega arith
+halved m (suc zero) h = omega arith
+halved m (suc (suc zero)) h = omega arith
+halved m (suc (suc (suc zero))) h = omega arith
+halved m (suc (suc (suc (suc zero)))) h = omega arith
+halved m (suc (suc (suc (suc (suc zero))))) h = omega arith
+halved m (suc (suc (suc (suc (suc (suc zero)))))) h = omega arith
+halved m (suc (suc (suc (suc (suc (suc (suc zero))))))) h = omega arith
+halved m (suc (suc (suc (suc (suc (suc (suc (suc c)))))))) h = absurd (let z : ⊥ = omega (arith, h) in z)
+
+module _ {s : List ℕ} {m a n k c : ℕ} (p : Keying s m a n k c) (some : 0 < c) where
+  pub keying-room : k * 256 + 255 < 18446744073709551616
+  keying-room = omega (arith, room (n - c) k (omega (arith, p .short, some)) (p .low))
+
+  later : (k ≡ keyOf (m / 2 ^ (c - 1) / 2) (textAt s (a + (c - 1) + 1) (n - (c - 1) - 1))) × (k < below (n - (c - 1) - 1))
+  later =
+      let d : c - 1 + 1 ≡ c = omega (arith, some) in
+      let e : a + (c - 1) + 1 ≡ a + c = omega (arith, some) in
+      let f : n - (c - 1) - 1 ≡ n - c = omega (arith, some, p .before) in
+      rw (halved m (c - 1) (omega (arith, p .short, p .before)), d, e, f) (p .is, p .low)
+
+  pub keying-skips : m / 2 ^ (c - 1) % 2 ≡ 0 → Keying s m a n (k * 256) (c - 1)
+  keying-skips e =
+      let q = key-skips s (m / 2 ^ (c - 1)) (a + (c - 1)) (n - (c - 1)) k (omega (arith, p .inside, p .before, some)) (λ z. omega (arith, z, p .before, some)) later e in
+      record { inside = p .inside; short = p .short; before = omega (arith, p .before); is = omega (arith, q .0); low = omega (arith, q .1) }
+
+  pub keying-takes : (m / 2 ^ (c - 1) % 2 ≡ 0 → ⊥) → getD s (a + (c - 1)) 0 < 256 → Keying s m a n (k * 256 + getD s (a + (c - 1)) 0) (c - 1)
+  keying-takes e h =
+      let q = key-takes s (m / 2 ^ (c - 1)) (a + (c - 1)) (n - (c - 1)) k (omega (arith, p .inside, p .before, some)) (λ z. omega (arith, z, p .before, some)) later e h in
+      record { inside = p .inside; short = p .short; before = omega (arith, p .before); is = omega (arith, q .0); low = omega (arith, q .1) }
+
+pub keying-done : {s : List ℕ} {m a n k c : ℕ} → Keying s m a n k c → c ≤ 0 → (k ≡ keyOf m (textAt s a n)) × (k < below n)
+keying-done {s} {m} {a} {n} {k} {c} p h =
+    let e : c ≡ 0 = omega (arith, h) in
+    let f : m / 2 ^ c ≡ m = rw e (omega arith) in
+    let g : a + c ≡ a = omega (arith, h) in
+    let d : n - c ≡ n = omega (arith, h) in
+    (rw (f, g, d) at (p .is), rw d at (p .low))
 
 -- ---- the loop that looks for another right key
 

@@ -30,14 +30,16 @@ fn key(s: &[u8], mask: u8, a: usize, n: usize) -> u64
     requires { ⌜ (a + n ≤ length (now s)) × (n ≤ 8) ⌝ }
     ensures { λ r. ⌜ (r ≡ keyOf mask (textAt (now (s .entry)) a n)) × (r < below n) ⌝ }
 {
-    if n == 0 {
-        return 0;
+    let mut key: u64 = 0;
+    let mut c = n;
+    while c > 0 {
+        c -= 1;
+        key *= 256;
+        if (mask >> c) % 2 != 0 {
+            key += s[a + c] as u64;
+        }
     }
-    let rest = key(s, mask / 2, a + 1, n - 1);
-    if mask % 2 == 0 {
-        return 256 * rest;
-    }
-    256 * rest + s[a] as u64
+    key
 }
 
 // Whether the left keys of two rows are equal and the right ones are not.
