@@ -79,17 +79,18 @@ fn say_yes_no(
     alive: &[u8],
     queue: &[u32],
 ) {
-    let clash = answer.clash;
+    let graph = answer.graph;
+    let clash = graph.clash;
     io::write_all(1, b"yes/no:");
-    if answer.refusal == 0 {
+    if graph.refusal == 0 {
         say_whether(answer.yes, b" yes,", b" no,");
     }
-    say_graph(answer.refusal, nodes, answer.nodes, triples, answer.triples);
+    say_graph(graph.refusal, nodes, graph.nodes, triples, graph.triples);
     say_buffers(
         yes_no_buffers_are(0, rows, heads, alive, queue),
         yes_no_buffers_are(FILLED, rows, heads, alive, queue),
     );
-    say_clash(answer.refusal, clash);
+    say_clash(graph.refusal, clash);
     io::write_all(1, b"\n");
 }
 
@@ -145,17 +146,18 @@ fn say_pairs_call(
     queue: &[u32],
     seen: &[u16],
 ) {
-    let clash = answer.clash;
+    let graph = answer.graph;
+    let clash = graph.clash;
     let count = answer.pairs;
     io::write_all(1, b"pairs:");
-    say_graph(answer.refusal, nodes, answer.nodes, triples, answer.triples);
+    say_graph(graph.refusal, nodes, graph.nodes, triples, graph.triples);
     say_pairs_kept(list, count);
     say_buffers(
         pairs_buffers_are(0, rows, heads, alive, queue, seen),
         pairs_buffers_are(FILLED, rows, heads, alive, queue, seen),
     );
-    say_clash(answer.refusal, clash);
-    say_pairs(answer.refusal, list, count);
+    say_clash(graph.refusal, clash);
+    say_pairs(graph.refusal, list, count);
     io::write_all(1, b"\n");
 }
 

@@ -45,8 +45,8 @@ fn answer(pack: &[u8], query: &[u8]) {
         &mut alive,
         &mut queue,
     );
-    if first.refusal != 0 {
-        say_refused(first.refusal);
+    if first.graph.refusal != 0 {
+        say_refused(first.graph.refusal);
         return;
     }
     let mut list = [0u16; 8192];
@@ -63,8 +63,8 @@ fn answer(pack: &[u8], query: &[u8]) {
         &mut queue,
         &mut seen,
     );
-    if second.refusal != 0 {
-        say_refused(second.refusal);
+    if second.graph.refusal != 0 {
+        say_refused(second.graph.refusal);
         return;
     }
     say_answer(first.yes, second.pairs);

@@ -1,21 +1,19 @@
 -- The counts of an answer fit into 16 bits. Assumes nothing.
-use borrow.Author.Tests.{ltb-true, ltb-false}
-use lib.Dec.{ltb}
-use lib.ListN.{length}
 use mathlib.Core.Bool.{Bool, true, false}
 use mathlib.Core.List.{List}
 use mathlib.Core.Path.{_≡_, sym, subst}
 use native.Mathlib.Omega.{arith}
-use Prim.Native.Nat.{ℕ, _≤_, _<_}
-use Rattle.build.specs.Answer as Build
+use Prim.Native.Nat.{ℕ, _<_}
+use Rattle.calls.proofs.Meets.{every}
+use Rattle.calls.specs.Call.{Call, Lent}
 use Rattle.ciravehy.proofs.Pairs.{few-pairs}
 use Rattle.ciravehy.specs.Report.{number}
-use Rattle.construct.specs.Outcome.{Constructs, Gives, Refuses, gives, mixed-kinds, not-accepted, refuses, too-large, two-objects}
+use Rattle.construct.specs.Outcome.{Gives, Refuses, mixed-kinds, not-accepted, refusal, too-large, two-objects}
 use Rattle.construct.specs.declared.Constructed.{Constructed}
-use Rattle.meaning.specs.Pack.{Pack, Text}
+use Rattle.meaning.specs.Pack.{Text}
 use Rattle.pairs.specs.Answer as Pairs
 use Rattle.pairs.specs.declared.PairAnswer.{PairAnswer}
-use Rattle.sets.proofs.Cases.{case-on}
+use Rattle.prepare.specs.Prepared as Prepared
 use Rattle.spelling.specs.Iri.{plain}
 use Rattle.yes_no.specs.Answer as YesOrNo
 use Rattle.yes_no.specs.declared.YesNo.{YesNo}
@@ -24,12 +22,6 @@ use Rattle.yes_no.specs.declared.YesNo.{YesNo}
 
 abbrev pub Small : ℕ → Type 0
 Small n = n < 65536
-
--- it is enough to show it whether or not some fact holds
-either-way : (n : ℕ) {Fact : Type 0} → (¬ Fact → Small n) → (Fact → Small n) → Small n
-either-way n f g =
-    case-on (ltb n 65536) (λ h. ltb-true n 65536 h)
-    (λ h. let k = ltb-false n 65536 h in let s = f (λ x. let t = g x in omega arith) in absurd (omega arith))
 
 zero-small : Small 0
 zero-small = omega arith
@@ -50,67 +42,40 @@ module _ {pack : Text} {r : Constructed} where
   refused-small (two-objects P a l n s p f t c q) = subst Counts (sym q) (zero-small, zero-small)
   refused-small (mixed-kinds P a l n t m q) = subst Counts (sym q) (zero-small, zero-small)
 
-  module _ {nodes nodes′ triples triples′ : List ℕ} where
-    given-small : {P : Pack} → Gives pack P r nodes nodes′ triples triples′ → Counts r
-    given-small G = subst Counts (sym (G .counts)) ((let h = G .few-nodes in omega arith), (let h = G .few-triples in omega arith))
+  given-small : {fronts : List (List ℕ)} → Gives pack r fronts → Counts r
+  given-small G = let n = G .has .graph .few-nodes in let t = G .has .graph .few-triples in (omega arith, omega arith)
 
-    constructed-small : Constructs pack r nodes nodes′ triples triples′ → Counts r
-    constructed-small (refuses h a b) = refused-small h
-    constructed-small (gives P G) = given-small G
+unprepared-small : {pack query : Text} {g : Constructed} → Prepared.Refuses pack query g → Counts g
+unprepared-small (Prepared.no-query f q) = subst Counts (sym q) (zero-small, zero-small)
+unprepared-small (Prepared.no-graph e i f) = refused-small f
 
 -- ---- the three answers: refusal 1, or what the pack and the query come to
 
-module _ {pack : Text} {r : Constructed} {nodes nodes′ triples triples′ rows rows′ heads heads′ : List ℕ} (A : Build.Answers pack r nodes nodes′ triples triples′ rows rows′ heads heads′) where
-  build-short : ¬ Build.LongEnough nodes triples rows heads → Counts r
-  build-short n = subst Counts (sym (A .refuses-1 n .0)) (zero-small, zero-small)
+pub build-small : {pack : Text} {r : Constructed} {lists buffers : List Lent} → Call (refusal 1) (Refuses pack) (Gives pack) r lists buffers → Small (r .nodes) × Small (r .triples) × Small 0
+build-small A = let (n, t) = every Counts (zero-small, zero-small) refused-small (λ _ G. given-small G) A in (n, t, zero-small)
 
-  pub build-small : Small (r .nodes) × Small (r .triples) × Small 0
-  build-small = (
-    either-way (r .nodes) (λ n. build-short n .0) (λ l. constructed-small (A .outcome l) .0),
-    either-way (r .triples) (λ n. build-short n .1) (λ l. constructed-small (A .outcome l) .1),
-    zero-small,
-  )
+module _ {pack query : Text} {r : YesNo} where
+  pub yes-no-small : {lists buffers : List Lent} {said : ℕ} → Call (record { graph = refusal 1; yes = false }) (YesOrNo.Refuses pack query) (YesOrNo.Gives pack query) r lists buffers → said ≡ number (r .yes)
+      → Small (r .graph .nodes) × Small (r .graph .triples) × Small said
+  yes-no-small A e =
+      let (n, t) = every (λ x. Counts (x .graph)) (zero-small, zero-small) (λ x. unprepared-small (x .cause)) (λ _ G. given-small (G .asked .graph)) A in
+      (n, t, subst Small (sym e) (said-small (r .yes)))
 
-module _ {pack query : Text} {r : YesNo} {nodes nodes′ triples triples′ rows rows′ heads heads′ alive alive′ queue queue′ : List ℕ}
-    (A : YesOrNo.Answers pack query r nodes nodes′ triples triples′ rows rows′ heads heads′ alive alive′ queue queue′) where
-  abbrev Both : YesNo → Type 0
-  Both a = Small (a .nodes) × Small (a .triples)
+abbrev pub All : PairAnswer → Type 0
+All a = Small (a .graph .nodes) × Small (a .graph .triples) × Small (a .pairs)
 
-  yes-no-short : ¬ YesOrNo.LongEnough nodes triples rows heads alive queue → Both r
-  yes-no-short n = subst Both (sym (A .refuses-1 n .0)) (zero-small, zero-small)
+module _ {pack query : Text} {r : PairAnswer} where
+  refused-pairs : Pairs.Refuses pack query r → All r
+  refused-pairs (Pairs.before-12 f n) = let (a, b) = unprepared-small f in (a, b, subst Small (sym n) zero-small)
+  refused-pairs (Pairs.too-many e i P a l o m q n) = let (x, y) = subst Counts (sym q) (zero-small, zero-small) in (x, y, subst Small (sym n) zero-small)
 
-  yes-no-long : YesOrNo.Outcome pack query r nodes nodes′ triples triples′ → Both r
-  yes-no-long (YesOrNo.no-query f q a b) = subst Both (sym q) (zero-small, zero-small)
-  yes-no-long (YesOrNo.no-graph e i g f q a b) = subst Both (sym q) (refused-small f)
-  yes-no-long (YesOrNo.answers e i P g G said c q) = subst Both (sym q) (given-small G)
+  given-pairs : (fronts : List (List ℕ)) → Pairs.Gives pack query r fronts → All r
+  given-pairs fronts G =
+      let (a, b) = given-small (G .asked .graph) in
+      let P = G .asked .graph .of in
+      let l = G .asked .graph .has .graph .lists in
+      let h = few-pairs (plain P) P (G .asked .expression) (l .inOrder) (l .ordered) (G .records) (G .certain) (G .few) in
+      (a, b, omega (arith, G .count))
 
-  pub yes-no-small : {said : ℕ} → said ≡ number (r .yes) → Small (r .nodes) × Small (r .triples) × Small said
-  yes-no-small e = (
-    either-way (r .nodes) (λ n. yes-no-short n .0) (λ l. yes-no-long (A .outcome l) .0),
-    either-way (r .triples) (λ n. yes-no-short n .1) (λ l. yes-no-long (A .outcome l) .1),
-    subst Small (sym e) (said-small (r .yes)),
-  )
-
-module _ {pack query : Text} {r : PairAnswer} {nodes nodes′ triples triples′ pairs pairs′ rows rows′ heads heads′ alive alive′ queue queue′ seen seen′ : List ℕ}
-    (A : Pairs.Answers pack query r nodes nodes′ triples triples′ pairs pairs′ rows rows′ heads heads′ alive alive′ queue queue′ seen seen′) where
-  abbrev All : PairAnswer → Type 0
-  All a = Small (a .nodes) × Small (a .triples) × Small (a .pairs)
-
-  pairs-short : ¬ Pairs.LongEnough nodes triples pairs rows heads alive queue seen → All r
-  pairs-short n = subst All (sym (A .refuses-1 n .0)) (zero-small, zero-small, zero-small)
-
-  pairs-long : Pairs.Outcome pack query r nodes nodes′ triples triples′ pairs pairs′ → All r
-  pairs-long (Pairs.no-query f q k) = subst All (sym q) (zero-small, zero-small, zero-small)
-  pairs-long (Pairs.no-graph e i g f q k) = let (a, b) = refused-small f in subst All (sym q) (a, b, zero-small)
-  pairs-long (Pairs.too-many e i P a l o m q k) = subst All (sym q) (zero-small, zero-small, zero-small)
-  pairs-long (Pairs.lists e i P g G few records l are q) =
-      let (a, b) = given-small G in
-      let h = few-pairs (plain P) P e (G .lists .inOrder) (G .lists .ordered) records l few in
-      subst All (sym q) (a, b, omega arith)
-
-  pub pairs-small : All r
-  pairs-small = (
-    either-way (r .nodes) (λ n. pairs-short n .0) (λ l. pairs-long (A .outcome l) .0),
-    either-way (r .triples) (λ n. pairs-short n .1) (λ l. pairs-long (A .outcome l) .1),
-    either-way (r .pairs) (λ n. pairs-short n .2) (λ l. pairs-long (A .outcome l) .2),
-  )
+  pub pairs-small : {lists buffers : List Lent} → Call (record { graph = refusal 1; pairs = 0 }) (Pairs.Refuses pack query) (Pairs.Gives pack query) r lists buffers → All r
+  pairs-small A = every All (zero-small, zero-small, zero-small) refused-pairs given-pairs A

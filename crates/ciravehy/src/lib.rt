@@ -1,6 +1,7 @@
 // The four open calls, exported for C and whatever calls C: numbers, slices and one array in the place of an answer's struct.
 mod report; // an answer as an array of numbers
 
+ghost use Rattle.calls.specs.Call.{lent};
 ghost use Rattle.ciravehy.specs.Exported.{Builds, Decides, Finds, Reads};
 use crate::report::numbers;
 use crate::report::said;
@@ -20,7 +21,7 @@ pub extern "C" fn ciravehy_build(
     heads: &mut [u64],
     report: &mut [u16; 25],
 ) -> u8
-    ensures { λ r. ⌜ Builds (now (pack .entry)) r (now (nodes .entry)) (now (nodes .exit)) (now (triples .entry)) (now (triples .exit)) (now (rows .entry)) (now (rows .exit)) (now (heads .entry)) (now (heads .exit)) (now (report .exit)) ⌝ }
+    ensures { λ r. ⌜ Builds (now (pack .entry)) r (lent nodes) (lent triples) (lent rows) (lent heads) (now (report .exit)) ⌝ }
 {
     let answer = build(pack, nodes, triples, rows, heads);
     let clash = answer.clash;
@@ -41,12 +42,13 @@ pub extern "C" fn ciravehy_yes_no(
     queue: &mut [u32],
     report: &mut [u16; 25],
 ) -> u8
-    ensures { λ r. ⌜ Decides (now (pack .entry)) (now (query .entry)) r (now (nodes .entry)) (now (nodes .exit)) (now (triples .entry)) (now (triples .exit)) (now (rows .entry)) (now (rows .exit)) (now (heads .entry)) (now (heads .exit)) (now (alive .entry)) (now (alive .exit)) (now (queue .entry)) (now (queue .exit)) (now (report .exit)) ⌝ }
+    ensures { λ r. ⌜ Decides (now (pack .entry)) (now (query .entry)) r (lent nodes) (lent triples) (lent rows) (lent heads) (lent alive) (lent queue) (now (report .exit)) ⌝ }
 {
     let answer = yes_no(pack, query, nodes, triples, rows, heads, alive, queue);
-    let clash = answer.clash;
-    *report = numbers(answer.nodes, answer.triples, said(answer.yes), clash);
-    answer.refusal
+    let graph = answer.graph;
+    let clash = graph.clash;
+    *report = numbers(graph.nodes, graph.triples, said(answer.yes), clash);
+    graph.refusal
 }
 
 // `pairs::pairs`, in the same way.
@@ -64,7 +66,7 @@ pub extern "C" fn ciravehy_pairs(
     seen: &mut [u16],
     report: &mut [u16; 25],
 ) -> u8
-    ensures { λ r. ⌜ Finds (now (pack .entry)) (now (query .entry)) r (now (nodes .entry)) (now (nodes .exit)) (now (triples .entry)) (now (triples .exit)) (now (pairs .entry)) (now (pairs .exit)) (now (rows .entry)) (now (rows .exit)) (now (heads .entry)) (now (heads .exit)) (now (alive .entry)) (now (alive .exit)) (now (queue .entry)) (now (queue .exit)) (now (seen .entry)) (now (seen .exit)) (now (report .exit)) ⌝ }
+    ensures { λ r. ⌜ Finds (now (pack .entry)) (now (query .entry)) r (lent nodes) (lent triples) (lent pairs) (lent rows) (lent heads) (lent alive) (lent queue) (lent seen) (now (report .exit)) ⌝ }
 {
     let answer = find_pairs(
         pack,
@@ -78,9 +80,10 @@ pub extern "C" fn ciravehy_pairs(
         queue,
         seen,
     );
-    let clash = answer.clash;
-    *report = numbers(answer.nodes, answer.triples, answer.pairs, clash);
-    answer.refusal
+    let graph = answer.graph;
+    let clash = graph.clash;
+    *report = numbers(graph.nodes, graph.triples, answer.pairs, clash);
+    graph.refusal
 }
 
 // `readback::read_back`, in the same way.

@@ -4,6 +4,4 @@ pub mod Arity
 pub mod Decide
 pub mod FromCore
 pub mod FromHeads
-pub mod Front
 pub mod Once
-pub mod Tested

@@ -1,15 +1,14 @@
 -- What a pack comes to: a refusal of 3 to 11, or its graph (document 01, "The graph" and "Refused, in checking order").
 -- Assumes nothing.
-use lib.ListN.{length, drop, replicate}
-use mathlib.Core.List.{List, [], _∷_, _++_, flatten}
+use lib.ListN.{replicate}
+use mathlib.Core.List.{List, [], _∷_, _++_}
 use mathlib.Core.Path.{_≡_}
-use Prim.Native.Nat.{ℕ, _*_, _≤_}
+use Prim.Native.Nat.{ℕ}
+use Rattle.calls.specs.Call.{Contents, Outcome}
 use Rattle.construct.specs.declared.Constructed.{Constructed}
-use Rattle.graph.specs.NodeList.{maxNodes}
-use Rattle.graph.specs.Triples.{maxTriples}
+use Rattle.graph.specs.Fronts.{GraphFronts, graphLists}
 use Rattle.meaning.specs.Graph.{Graph, Obeys}
-use Rattle.meaning.specs.Limits.{nodeNumbers, tripleNumbers}
-use Rattle.meaning.specs.Listing.{ClashGiven, GraphLists}
+use Rattle.meaning.specs.Listing.{ClashGiven}
 use Rattle.meaning.specs.NoGraph.{MixedKinds, TooLarge, TwoObjects}
 use Rattle.meaning.specs.Pack.{Pack, Text}
 use Rattle.pack.specs.Checked.{accepted, firstRefusal, refused}
@@ -29,7 +28,7 @@ abbrev pub clashing : List ℕ → ℕ → List ℕ → List ℕ → Constructed
 clashing subject predicate first second =
     record { refusal = 10; nodes = 0; triples = 0; clash = subject ++ (predicate ∷ []) ++ first ++ second }
 
--- "Build reports both counts."
+-- A graph is counted, and nothing else is said.
 abbrev pub counted : ℕ → ℕ → Constructed
 counted nodes triples = record { refusal = 0; nodes = nodes; triples = triples; clash = replicate clashNumbers 0 }
 
@@ -60,21 +59,20 @@ pub data Refuses (pack : Text) (r : Constructed) : Type 0 where
   mixed-kinds : (P : Pack) → firstRefusal pack ≡ accepted P → ¬ TooLarge P → NoneObeys P → ¬ TwoObjects P → MixedKinds P → r ≡ refusal 11
       → Refuses pack r
 
--- The pack's graph is counted and stands at the front of both lists; entries past the counts keep theirs.
-pub record Gives (pack : Text) (P : Pack) (r : Constructed) (nodes nodes′ triples triples′ : List ℕ) : Type 0 where
+-- The pack is P, which passes 3 to 9 and which some finite graph obeys; its graph has n nodes and t triples, and these are
+-- their numbers.
+pub record HasGraph (pack : Text) (P : Pack) (n t : ℕ) (fronts : List (List ℕ)) : Type 0 where
   pub is : firstRefusal pack ≡ accepted P
   pub small : ¬ TooLarge P
   pub obeyed : SomeObeys P
-  pub node-records : List (List ℕ)
-  pub triple-records : List (List ℕ)
-  pub lists : GraphLists P node-records triple-records
-  pub counts : r ≡ counted (length node-records) (length triple-records)
-  pub few-nodes : length node-records ≤ maxNodes
-  pub few-triples : length triple-records ≤ maxTriples
-  pub nodes-are : nodes′ ≡ flatten node-records ++ drop (length node-records * nodeNumbers) nodes
-  pub triples-are : triples′ ≡ flatten triple-records ++ drop (length triple-records * tripleNumbers) triples
+  pub graph : GraphFronts P n t fronts
 
--- Either; "A refusal gives its number; output lists keep their contents."
-pub data Constructs (pack : Text) (r : Constructed) (nodes nodes′ triples triples′ : List ℕ) : Type 0 where
-  refuses : Refuses pack r → nodes′ ≡ nodes → triples′ ≡ triples → Constructs pack r nodes nodes′ triples triples′
-  gives : (P : Pack) → Gives pack P r nodes nodes′ triples triples′ → Constructs pack r nodes nodes′ triples triples′
+-- "Build reports both counts." The graph's numbers stand at the front of the two lists.
+pub record Gives (pack : Text) (r : Constructed) (fronts : List (List ℕ)) : Type 0 where
+  pub of : Pack
+  pub has : HasGraph pack of (r .nodes) (r .triples) fronts
+  pub counts : r ≡ counted (r .nodes) (r .triples)
+
+-- Either; the lists are kept, or hold the graph.
+abbrev pub Constructs : Text → Constructed → Contents → Contents → Type 0
+Constructs pack r nodes triples = Outcome (Refuses pack) (Gives pack) r (graphLists nodes triples)

@@ -2,6 +2,7 @@
 use mathlib.Core.List.{List}
 use mathlib.Core.Path.{_≡_}
 use Prim.Native.Nat.{ℕ}
+use Rattle.calls.specs.Call.{_becomes_}
 use Rattle.construct.specs.Outcome.{clashing, counted, refusal}
 use Rattle.construct.specs.declared.Constructed.{Constructed}
 use Rattle.core.specs.Bounds.{Bounded}
@@ -22,7 +23,7 @@ module _ (P : Pack) (r : Constructed) (nodes nodes′ triples triples′ : List 
     clash : (subject : List ℕ) (predicate : ℕ) (first second : List ℕ) → ClashGiven P subject predicate first second
         → r ≡ clashing subject predicate first second → nodes′ ≡ nodes → triples′ ≡ triples → FromCore
     mixed : ¬ TwoObjects P → MixedKinds P → r ≡ refusal 11 → nodes′ ≡ nodes → triples′ ≡ triples → FromCore
-    graph : (n t : ℕ) → GraphWritten P n t nodes nodes′ triples triples′ → r ≡ counted n t → FromCore
+    graph : (n t : ℕ) → GraphWritten P n t (nodes becomes nodes′) (triples becomes triples′) → r ≡ counted n t → FromCore
 
   -- 9, or one of these
   pub data FromHeads : Type 0 where

@@ -15,6 +15,7 @@ use rules::heads::head_table;
 ghost use lib.ListN.{length};
 ghost use mathlib.Core.Path.{_≡_};
 ghost use Prim.Native.Nat.{_≤_};
+ghost use Rattle.calls.specs.Call.{lent};
 ghost use Rattle.construct.specs.Outcome.{Constructs, headsLength, refusal, rowsLength};
 ghost use Rattle.construct.specs.Steps.{CoreGiven, FromCore, FromHeads, HeadsGiven, OfCore, OfHeads};
 ghost use Rattle.meaning.specs.Limits.{nodeListLength, tripleListLength};
@@ -138,7 +139,7 @@ pub fn construct(
     heads: &mut [u64],
 ) -> Constructed
     requires { ⌜ (nodeListLength ≤ length (now nodes)) × (tripleListLength ≤ length (now triples)) × (rowsLength ≤ length (now rows)) × (headsLength ≤ length (now heads)) ⌝ }
-    ensures { λ r. ⌜ Constructs (now (pack .entry)) r (now (nodes .entry)) (now (nodes .exit)) (now (triples .entry)) (now (triples .exit)) ⌝ }
+    ensures { λ r. ⌜ Constructs (now (pack .entry)) r (lent nodes) (lent triples) ⌝ }
 {
     let refusal = first_of_all(pack);
     if refusal != 0 {

@@ -13,9 +13,12 @@ use Rattle.alive.specs.Lists.{Lists}
 use Rattle.answers.specs.Graph.{HeldIn, Numbered, Resolved}
 use Rattle.core.proofs.Declared.{edge-predicate}
 use Rattle.evaluate.proofs.Built.{in-order-at}
+use Rattle.evaluate.proofs.Given.{formed}
 use Rattle.meaning.proofs.Lists.Places.{inside, placed, same-at, there-is}
 use Rattle.evaluate.specs.GraphIn.{GraphIn}
 use Rattle.evaluate.specs.Named.{byPlace}
+use Rattle.graph.proofs.Fronts.{nodes-are, triples-are}
+use Rattle.graph.specs.Fronts.{GraphFronts, frontsOf}
 use Rattle.index.specs.Triples.{GraphFits, SubjectsRise, TripleIn, objectOf, predicateOf, subjectOf}
 use Rattle.meaning.proofs.Lists.Members.{element}
 use Rattle.meaning.proofs.Lists.Ordered.{by-key}
@@ -54,52 +57,55 @@ flat-at (s ∷ rs) three (suc k) j r e h =
     ∙ flat-at rs (λ q i. three q (element (s ∷ rs) (suc (placed i .0)) q (placed i .1))) k j r e h
 
 module _ {pack : Text} {P : Pack} {nodes : List ℕ} {count : ℕ} {triples : List ℕ} {edges : ℕ} (g : GraphIn pack P nodes count triples edges) where
+  abbrev listed : GraphFronts P count edges (frontsOf count nodes edges triples)
+  listed = g .has .graph
+
   abbrev pub inOrder : List BuiltNode
-  inOrder = g .lists .inOrder
+  inOrder = listed .lists .inOrder
 
   named-7 : dangling P ≡ false
-  named-7 = well-formed pack P (g .is) .named
+  named-7 = well-formed pack P (formed (g .has)) .named
 
   pub count-is : count ≡ length inOrder
-  count-is = g .node-count ∙ sym (forall-length (g .lists .records))
+  count-is = listed .node-count ∙ sym (forall-length (listed .lists .records))
 
   -- the node list as the names and labels are looked up in it
   pub node-list : Listed P inOrder nodes count
   node-list = record {
-    ordered = g .lists .ordered;
-    records = g .node-records;
-    recorded = g .lists .records;
-    are = g .nodes-are;
+    ordered = listed .lists .ordered;
+    records = listed .node-records;
+    recorded = listed .lists .records;
+    are = nodes-are nodes triples listed;
     counted = count-is;
   }
 
   -- ---- the triples
 
-  is-triple : (r : List ℕ) → r ∈ g .triple-records → TripleRecord P inOrder r
-  is-triple r i = g .lists .edges .members r .0 i
+  is-triple : (r : List ℕ) → r ∈ listed .triple-records → TripleRecord P inOrder r
+  is-triple r i = listed .lists .edges .members r .0 i
 
-  three : (r : List ℕ) → r ∈ g .triple-records → length r ≡ 3
+  three : (r : List ℕ) → r ∈ listed .triple-records → length r ≡ 3
   three r i = ap length (is-triple r i .are)
 
   -- triple k, by its record
-  number-at : (k : ℕ) (r : List ℕ) → getElem? (g .triple-records) k ≡ some r → (j : ℕ) → j < 3 → getD triples (k * 3 + j) 0 ≡ getD r j 0
+  number-at : (k : ℕ) (r : List ℕ) → getElem? (listed .triple-records) k ≡ some r → (j : ℕ) → j < 3 → getD triples (k * 3 + j) 0 ≡ getD r j 0
   number-at k r e j h =
-      let l = inside (g .triple-records) k r e in
-      sym (getD-take (edges * 3) triples (k * 3 + j) 0 (omega (arith, g .triple-count)))
-      ∙ ap (λ l. getD l (k * 3 + j) 0) (g .triples-are)
-      ∙ flat-at (g .triple-records) three k j r e h
+      let l = inside (listed .triple-records) k r e in
+      sym (getD-take (edges * 3) triples (k * 3 + j) 0 (omega (arith, listed .triple-count)))
+      ∙ ap (λ l. getD l (k * 3 + j) 0) (triples-are nodes triples listed)
+      ∙ flat-at (listed .triple-records) three k j r e h
 
-  subject-at : (k : ℕ) (r : List ℕ) → getElem? (g .triple-records) k ≡ some r → subjectOf triples k ≡ getD r 0 0
+  subject-at : (k : ℕ) (r : List ℕ) → getElem? (listed .triple-records) k ≡ some r → subjectOf triples k ≡ getD r 0 0
   subject-at k r e = ap (λ i. getD triples i 0) (let z : k * 3 ≡ k * 3 + 0 = omega arith in z) ∙ number-at k r e 0 (omega arith)
 
   -- the record of a triple within the count
-  record-of : (k : ℕ) → k < edges → (r : List ℕ) × (getElem? (g .triple-records) k ≡ some r)
-  record-of k l = there-is (g .triple-records) k (omega (arith, g .triple-count))
+  record-of : (k : ℕ) → k < edges → (r : List ℕ) × (getElem? (listed .triple-records) k ≡ some r)
+  record-of k l = there-is (listed .triple-records) k (omega (arith, listed .triple-count))
 
   edge-of : (s p o k : ℕ) → k < edges → subjectOf triples k ≡ s → predicateOf triples k ≡ p → objectOf triples k ≡ o → TripleRecord P inOrder (s ∷ p ∷ o ∷ [])
   edge-of s p o k l a b c =
       let (r, e) = record-of k l in
-      let t = is-triple r (element (g .triple-records) k r e) in
+      let t = is-triple r (element (listed .triple-records) k r e) in
       let q = t .are in
       let x : s ≡ t .subject = sym a ∙ subject-at k r e ∙ ap (λ z. getD z 0 0) q in
       let y : p ≡ t .predicate = sym b ∙ number-at k r e 1 (omega arith) ∙ ap (λ z. getD z 1 0) q in
@@ -108,7 +114,7 @@ module _ {pack : Text} {P : Pack} {nodes : List ℕ} {count : ℕ} {triples : Li
 
   predicate-below : {b c : BuiltNode} {p : ℕ} → BuiltEdge P b p c → p < maxPredicates
   predicate-below e =
-      let few = unpacked pack P (well-formed pack P (g .is) .read) .predicates .1 in
+      let few = unpacked pack P (well-formed pack P (formed (g .has)) .read) .predicates .1 in
       let l = go e in omega arith
     where
       go : {b c : BuiltNode} {p : ℕ} → BuiltEdge P b p c → p < length (P .setting .predicates)
@@ -132,10 +138,10 @@ module _ {pack : Text} {P : Pack} {nodes : List ℕ} {count : ℕ} {triples : Li
           edge = x .holds;
           are = refl;
         } in
-        let (k, e) = placed (g .lists .edges .members (s ∷ p ∷ o ∷ []) .1 t) in
+        let (k, e) = placed (listed .lists .edges .members (s ∷ p ∷ o ∷ []) .1 t) in
         record {
           at = k;
-          inside = omega (arith, inside (g .triple-records) k _ e, g .triple-count);
+          inside = omega (arith, inside (listed .triple-records) k _ e, listed .triple-count);
           subject = subject-at k _ e;
           predicate = number-at k _ e 1 (omega arith);
           object = number-at k _ e 2 (omega arith);
@@ -189,9 +195,9 @@ module _ {pack : Text} {P : Pack} {nodes : List ℕ} {count : ℕ} {triples : Li
 
   pub graph-fits : GraphFits count edges triples
   graph-fits = record {
-    few-nodes = g .few-nodes;
-    few-edges = g .few-triples;
-    whole = omega (arith, g .few-triples, g .triple-room);
+    few-nodes = listed .few-nodes;
+    few-edges = listed .few-triples;
+    whole = omega (arith, listed .few-triples, g .triple-room);
     subjects = λ k l. ends-below k l .0;
     objects = λ k l. ends-below k l .1;
   }
@@ -205,5 +211,5 @@ module _ {pack : Text} {P : Pack} {nodes : List ℕ} {count : ℕ} {triples : Li
   subjects-rise k l =
       let (r, e) = record-of k (omega arith) in
       let (s, f) = record-of (k + 1) l in
-      let h = first-rises r s (in-order-at (by-key (λ x. x)) (g .triple-records) (g .lists .edges .ascending) r s k (k + 1) (omega arith) e f) in
+      let h = first-rises r s (in-order-at (by-key (λ x. x)) (listed .triple-records) (listed .lists .edges .ascending) r s k (k + 1) (omega arith) e f) in
       omega (arith, subject-at k r e, subject-at (k + 1) s f)

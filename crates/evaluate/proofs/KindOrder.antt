@@ -9,13 +9,13 @@ use mathlib.Core.Option.{some, Option·none-ne-some, Option·some-injective}
 use mathlib.Core.Path.{_≡_, refl, sym, ap, subst, _∙_}
 use native.Mathlib.Omega.{arith}
 use Prim.Native.Nat.{ℕ, zero, suc, _+_, _*_, _≤_, _<_}
-use Rattle.construct.proofs.Front.{record-length}
 use Rattle.evaluate.proofs.Built.{in-order-at}
 use Rattle.evaluate.proofs.Held.{count-is, inOrder}
 use Rattle.meaning.proofs.Lists.Places.{inside, there-is}
 use Rattle.evaluate.specs.GraphIn.{GraphIn}
 use Rattle.evaluate.specs.Kinds.{FirstInvented, kindAt}
 use Rattle.evaluate.specs.Named.{NamedFirst}
+use Rattle.graph.proofs.Fronts.{nodes-are, record-length}
 use Rattle.meaning.proofs.Lists.Ordered.{by-key}
 use Rattle.meaning.specs.Built.{BuiltNode, core, invented}
 use Rattle.meaning.specs.Core.{Node, iriNode, literalNode}
@@ -73,13 +73,13 @@ module _ {pack : Text} {P : Pack} {nodes : List ℕ} {count : ℕ} {triples : Li
   kind-at n b e =
       let l = inside (inOrder g) n b e in
       sym (getD-take (count * 7) nodes (n * 7) 0 (omega (arith, count-is g)))
-      ∙ ap (λ l. getD l (n * 7) 0) (g .nodes-are)
-      ∙ flat-kind (inOrder g) (g .node-records) (g .lists .records) n b e
+      ∙ ap (λ l. getD l (n * 7) 0) (nodes-are nodes triples (g .has .graph))
+      ∙ flat-kind (inOrder g) (g .has .graph .node-records) (g .has .graph .lists .records) n b e
 
   -- kinds do not fall
   kinds-rise : (n m : ℕ) (b c : BuiltNode) → n < m → getElem? (inOrder g) n ≡ some b → getElem? (inOrder g) m ≡ some c → kind b ≤ kind c
   kinds-rise n m b c l x y =
-      let h = first-rises (nodeKey b) (nodeKey c) (key-some b) (in-order-at (by-key nodeKey) (inOrder g) (g .lists .ordered .ascending) b c n m l x y) in
+      let h = first-rises (nodeKey b) (nodeKey c) (key-some b) (in-order-at (by-key nodeKey) (inOrder g) (g .has .graph .lists .ordered .ascending) b c n m l x y) in
       omega (arith, key-kind b, key-kind c)
 
   pub named-first : {r : ℕ} → FirstInvented nodes count r → NamedFirst (inOrder g) r

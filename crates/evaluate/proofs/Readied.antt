@@ -5,6 +5,7 @@ use mathlib.Core.Path.{_≡_}
 use native.Mathlib.Omega.{arith}
 use Prim.Native.Nat.{ℕ, _≤_, _<_}
 use Rattle.access.specs.Places.{IsWellFormed}
+use Rattle.evaluate.proofs.Given.{formed}
 use Rattle.evaluate.specs.Answered.{Ready}
 use Rattle.index.specs.Index.{ChainReady}
 use Rattle.meaning.specs.Pack.{Text}
@@ -21,10 +22,10 @@ module _ {pack query : Text} {tree : List ℕ} {parts : ℕ} {nodes : List ℕ} 
   threadable l = record { text = query; held = ready .held; parts = ready .room; room = let a = parts-few in omega arith }
 
   pub pack-formed : IsWellFormed pack
-  pack-formed = record { pack = ready .graph .of; is = ready .graph .graph .is }
+  pack-formed = record { pack = ready .graph .of; is = formed (ready .graph .graph .has) }
 
   pub roomy : Roomy nodes count
-  roomy = record { room = ready .graph .graph .node-room; few = let h = ready .graph .graph .few-nodes in omega arith }
+  roomy = record { room = ready .graph .graph .node-room; few = let h = ready .graph .graph .has .graph .few-nodes in omega arith }
 
   pub chain-ready : ChainReady edges (zeros 1024) (zeros 10228)
-  chain-ready = record { heads = omega arith; links = ready .graph .graph .few-triples; none = λ o h. getD-replicate 1024 o 0 0 h }
+  chain-ready = record { heads = omega arith; links = ready .graph .graph .has .graph .few-triples; none = λ o h. getD-replicate 1024 o 0 0 h }

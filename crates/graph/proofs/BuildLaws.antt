@@ -1,24 +1,38 @@
 -- The two lists are those of the pack's graph. Assumes nothing.
-use mathlib.Core.List.{List}
+use lib.ListN.{drop}
+use mathlib.Core.List.{List, [], _∷_, _++_, flatten}
+use mathlib.Core.Path.{_≡_, refl, sym, ap, _∙_}
 use Prim.Native.Nat.{ℕ}
+use Rattle.calls.specs.Call.{_becomes_}
+use Rattle.graph.proofs.Fronts.{node-length, triple-length}
 use Rattle.graph.specs.Build.{GraphWritten}
+use Rattle.graph.specs.Fronts.{GraphFronts}
 use Rattle.graph.specs.NodeList.{NodesListed}
 use Rattle.graph.specs.Triples.{TriplesListed}
 use Rattle.meaning.specs.NoGraph.{MixedKinds, TwoObjects}
 use Rattle.meaning.specs.Pack.{Pack}
 
 pub graph-written : {P : Pack} {n t : ℕ} {places out out′ edges edges′ : List ℕ} → ¬ TwoObjects P → ¬ MixedKinds P → (l : NodesListed P places out out′ n)
-    → TriplesListed P (l .inOrder) edges edges′ t → GraphWritten P n t out out′ edges edges′
-graph-written not-10 not-11 l e = record {
-  nodeRecords = l .records;
-  tripleRecords = e .records;
-  lists = record { inOrder = l .inOrder; ordered = l .ordered; records = l .recorded; edges = e .edges };
-  node-count = l .counted;
-  triple-count = e .counted;
-  few-nodes = l .few;
-  few-triples = e .few;
-  nodes-written = l .written;
-  triples-written = e .written;
+    → TriplesListed P (l .inOrder) edges edges′ t → GraphWritten P n t (out becomes out′) (edges becomes edges′)
+graph-written {P} {n} {t} {places} {out} {out′} {edges} {edges′} not-10 not-11 l e = record {
+  fronts = flatten (l .records) ∷ flatten (e .records) ∷ [];
+  graph = G;
+  written = (
+    l .written ∙ ap (λ k. flatten (l .records) ++ drop k out) (sym (node-length G)),
+    (e .written ∙ ap (λ k. flatten (e .records) ++ drop k edges) (sym (triple-length G)), tt),
+  );
   not-10 = not-10;
   not-11 = not-11;
 }
+  where
+    G : GraphFronts P n t (flatten (l .records) ∷ flatten (e .records) ∷ [])
+    G = record {
+      node-records = l .records;
+      triple-records = e .records;
+      lists = record { inOrder = l .inOrder; ordered = l .ordered; records = l .recorded; edges = e .edges };
+      node-count = l .counted;
+      triple-count = e .counted;
+      few-nodes = l .few;
+      few-triples = e .few;
+      fronts-are = refl;
+    }

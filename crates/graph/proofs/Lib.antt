@@ -18,6 +18,7 @@ pub mod NodesLaws
 pub mod GroupLaws
 pub mod ListedLaws
 pub mod EdgeLaws
+pub mod Fronts
 pub mod SetOrder
 pub mod TripleLaws
 pub mod ClashRecords

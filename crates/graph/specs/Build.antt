@@ -1,31 +1,22 @@
 -- What a build answers and leaves in the two lists. Assumes nothing.
-use lib.ListN.{drop, length}
-use mathlib.Core.List.{List, _++_, flatten}
+use mathlib.Core.List.{List}
 use mathlib.Core.Path.{_≡_}
-use Prim.Native.Nat.{ℕ, _*_, _≤_}
+use Prim.Native.Nat.{ℕ}
+use Rattle.calls.specs.Call.{Contents, Written, _becomes_}
 use Rattle.graph.specs.Clash.{ClashAt}
+use Rattle.graph.specs.Fronts.{GraphFronts, graphLists}
 use Rattle.graph.specs.Input.{Input}
-use Rattle.graph.specs.NodeList.{maxNodes}
 use Rattle.graph.specs.Records.{Arities}
-use Rattle.graph.specs.Triples.{maxTriples}
 use Rattle.graph.specs.declared.build.Built.{Built}
 use Rattle.graph.specs.declared.build.Built.the-variants.{Graph, Clash, Mixed}
-use Rattle.meaning.specs.Limits.{nodeNumbers, tripleNumbers}
-use Rattle.meaning.specs.Listing.{GraphLists}
 use Rattle.meaning.specs.NoGraph.{MixedKinds, TwoObjects}
 use Rattle.meaning.specs.Pack.{Pack}
 
 -- The pack has a graph; its records stand first in the two lists, and what follows is as it was.
-pub record GraphWritten (P : Pack) (n t : ℕ) (out out′ edges edges′ : List ℕ) : Type 0 where
-  pub nodeRecords : List (List ℕ)
-  pub tripleRecords : List (List ℕ)
-  pub lists : GraphLists P nodeRecords tripleRecords
-  pub node-count : n ≡ length nodeRecords
-  pub triple-count : t ≡ length tripleRecords
-  pub few-nodes : n ≤ maxNodes
-  pub few-triples : t ≤ maxTriples
-  pub nodes-written : out′ ≡ flatten nodeRecords ++ drop (n * nodeNumbers) out
-  pub triples-written : edges′ ≡ flatten tripleRecords ++ drop (t * tripleNumbers) edges
+pub record GraphWritten (P : Pack) (n t : ℕ) (nodes triples : Contents) : Type 0 where
+  pub fronts : List (List ℕ)
+  pub graph : GraphFronts P n t fronts
+  pub written : Written fronts (graphLists nodes triples)
   pub not-10 : ¬ TwoObjects P
   pub not-11 : ¬ MixedKinds P
 
@@ -33,7 +24,7 @@ module _ (table : List (List ℕ)) (arities nodes triples masks out out′ edges
   -- the counts of the graph; the place of a clash, or refusal 11, and the lists as they were
   abbrev pub BuildShown : Built → Type 0
   BuildShown (Graph n t) =
-      (P : Pack) → Input P table nodes triples masks → Arities P arities → GraphWritten P n t out out′ edges edges′
+      (P : Pack) → Input P table nodes triples masks → Arities P arities → GraphWritten P n t (out becomes out′) (edges becomes edges′)
   BuildShown (Clash i) =
       (out′ ≡ out) × (edges′ ≡ edges) × ((P : Pack) → Input P table nodes triples masks → ClashAt P nodes triples i)
   BuildShown Mixed =

@@ -1,4 +1,5 @@
 pub mod Build
+pub mod Fronts
 pub mod Clash
 pub mod Input
 pub mod Invent

@@ -10,7 +10,7 @@ use Rattle.evaluate.specs.Named.{pairOf}
 use Rattle.meaning.specs.Member.{_∈_, here, there}
 use Rattle.pairs.specs.Written.{withPairs}
 
-flat-length : (xs : List ℕ) → length (flatten (map pairOf xs)) ≡ length xs * 2
+pub flat-length : (xs : List ℕ) → length (flatten (map pairOf xs)) ≡ length xs * 2
 unfolding flatten
 flat-length [] = refl
 flat-length (x ∷ xs) = let r = flat-length xs in omega arith

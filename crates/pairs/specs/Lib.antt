@@ -1,3 +1,3 @@
 pub mod Answer
-pub mod Given
+pub mod Inner
 pub mod Written

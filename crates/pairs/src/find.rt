@@ -1,9 +1,9 @@
 // The pairs that a query joins in the graph of a pack, found with cleared tables.
 ghost use lib.ListN.{length};
 ghost use Prim.Native.Nat.{_≤_};
-ghost use Rattle.alive.specs.Worklist.{states};
 ghost use Rattle.evaluate.specs.Answered.{PairsIn, Ready};
 ghost use Rattle.meaning.specs.Limits.{maxPairs};
+ghost use Rattle.pairs.specs.Inner.{TableRoom};
 use answers::pairs::Pairs;
 use evaluate::pairs::pairs;
 use sets::buffers::clear_u8;
@@ -24,7 +24,7 @@ pub fn find_pairs(
     seen: &mut [u16],
     found: &mut [u32],
 ) -> Pairs
-    requires { ⌜ Ready (now pack) (now query) (now tree) parts (now nodes) count (now triples) edges × (states ≤ length (now alive)) × (states ≤ length (now queue)) × (states ≤ length (now seen)) × (maxPairs ≤ length (now found)) ⌝ }
+    requires { ⌜ Ready (now pack) (now query) (now tree) parts (now nodes) count (now triples) edges × TableRoom (now alive) (now queue) (now seen) × (maxPairs ≤ length (now found)) ⌝ }
     ensures { λ r. ⌜ PairsIn (now (pack .entry)) (now (query .entry)) (now (nodes .entry)) count (now (triples .entry)) edges r (now (found .exit)) ⌝ }
 {
     clear_u8(alive);

@@ -1,15 +1,13 @@
 // What was found, written at the front of the lent lists.
-ghost use lib.ListN.{length, take};
 ghost use mathlib.Core.Path.{_≡_};
-ghost use Prim.Native.Nat.{_*_, _≤_};
-ghost use Rattle.evaluate.specs.Answered.{AllPairs};
-ghost use Rattle.pairs.specs.Written.{Publishable, withPairs};
+ghost use Prim.Native.Nat.{_*_};
+ghost use Rattle.pairs.specs.Written.{Fits, PairsFit, withPairs};
 ghost use Rattle.sets.specs.Buffers.{overlaid};
 use sets::buffers::copy_front;
 
 // Writes the first k pairs at the front of the list, two numbers each; the rest of it keeps its numbers.
 pub fn write_pairs(found: &[u32], k: usize, pairs: &mut [u16])
-    requires { ⌜ (k ≤ length (now found)) × (k * 2 ≤ length (now pairs)) × AllPairs (take k (now found)) ⌝ }
+    requires { ⌜ PairsFit k (now found) (now pairs) ⌝ }
     ensures { λ _. ⌜ now (pairs .exit) ≡ withPairs k (now (found .entry)) (now (pairs .entry)) ⌝ }
 {
     for i in 0..k {
@@ -32,7 +30,7 @@ pub fn publish(
     triples: &mut [u16],
     pairs: &mut [u16],
 )
-    requires { ⌜ Publishable (now points) count (now links) edges (now found) k (now nodes) (now triples) (now pairs) ⌝ }
+    requires { ⌜ Fits (count * 7) (now points) (now nodes) × Fits (edges * 3) (now links) (now triples) × PairsFit k (now found) (now pairs) ⌝ }
     ensures { λ _. ⌜ (now (nodes .exit) ≡ overlaid (count * 7) (now (points .entry)) (now (nodes .entry))) × (now (triples .exit) ≡ overlaid (edges * 3) (now (links .entry)) (now (triples .entry))) × (now (pairs .exit) ≡ withPairs k (now (found .entry)) (now (pairs .entry))) ⌝ }
 {
     copy_front(points, count * 7, nodes);

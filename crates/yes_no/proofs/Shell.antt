@@ -1,75 +1,32 @@
--- Yes/no's answer, step by step. Assumes nothing.
-use lib.Dec.{T}
+-- Yes/no's answer, from what is prepared and what is found in it. Assumes nothing.
 use lib.ListN.{length}
 use mathlib.Core.Bool.{Bool, false}
 use mathlib.Core.List.{List}
-use mathlib.Core.Logic.{_↔_}
-use mathlib.Core.Path.{_≡_, refl, sym, ap, subst, _∙_}
+use mathlib.Core.Path.{_≡_, refl}
 use Prim.Native.Nat.{ℕ, _≤_}
-use Rattle.alive.specs.Worklist.{states}
-use Rattle.construct.proofs.Decide.{as-graph, as-refusal}
-use Rattle.construct.specs.Outcome.{Constructs, headsLength, refusal, rowsLength}
-use Rattle.construct.specs.declared.Constructed.{Constructed}
+use Rattle.calls.specs.Call.{Contents, gives, refuses}
 use Rattle.evaluate.proofs.Given.{graph-in}
 use Rattle.evaluate.specs.Answered.{Ready, YesIn}
 use Rattle.meaning.specs.Limits.{nodeListLength, tripleListLength}
 use Rattle.meaning.specs.Pack.{Text}
-use Rattle.query.specs.Answer.{Answered, Held}
-use Rattle.query.specs.declared.Query.the-variants.{NoExpression}
-use Rattle.query.specs.declared.Query.{Query}
-use Rattle.sets.specs.Buffers.{zeros}
-use Rattle.yes_no.specs.Answer.{Answers, LongEnough, Outcome, answered, answers, no-graph, no-query}
-use Rattle.yes_no.specs.declared.YesNo.{YesNo}
+use Rattle.prepare.proofs.Decide.{as-readied, as-refused, given}
+use Rattle.prepare.specs.Prepared.{Prepares}
+use Rattle.prepare.specs.declared.Prepared.{Prepared}
+use Rattle.yes_no.specs.Inner.{Comes}
 
-module _ {pack query : Text} {tree : List ℕ} {parts : ℕ} {nodes nodes′ triples triples′ : List ℕ} {g : Constructed}
-    (held : Held query tree parts) (c : Constructs pack g nodes nodes′ triples triples′) where
-  pub refused-graph : {r : YesNo} → (g .refusal ≡ 0 → ⊥) → r ≡ answered g false → Outcome pack query r nodes nodes′ triples triples′
-  refused-graph n q = let (x, a, b) = as-refusal c n in no-graph (held .expression) (held .query) g x q a b
+module _ {pack query : Text} {tree : List ℕ} {p : Prepared} (nodes triples : Contents) (c : Prepares pack query tree p nodes triples) where
+  pub refused : (p .graph .refusal ≡ 0 → ⊥) → Comes pack query (record { graph = p .graph; yes = false }) nodes triples
+  refused n = let (x, k) = as-refused nodes triples c n in refuses (record { cause = x; says-no = refl }) k
 
-  module _ (z : g .refusal ≡ 0) (a : nodeListLength ≤ length nodes′) (b : tripleListLength ≤ length triples′) where
-    pub ready-graph : parts ≤ length tree → Ready pack query tree parts nodes′ (g .nodes) triples′ (g .triples)
-    ready-graph h = let (P, G) = as-graph c z in record { graph = record { of = P; graph = graph-in G a b }; held = held; room = h }
+  module _ (z : p .graph .refusal ≡ 0) (a : nodeListLength ≤ length (nodes .after)) (b : tripleListLength ≤ length (triples .after)) where
+    pub ready : Ready pack query tree (p .parts) (nodes .after) (p .graph .nodes) (triples .after) (p .graph .triples)
+    ready = let (fs, R, w) = as-readied nodes triples c z in record {
+      graph = record { of = R .graph .of; graph = graph-in (R .graph) nodes triples w a b };
+      held = R .held;
+      room = R .room;
+    }
 
-    pub answered-graph : {r : YesNo} (said : Bool) → YesIn pack query nodes′ (g .nodes) triples′ (g .triples) said → r ≡ answered g said → Outcome pack query r nodes nodes′ triples triples′
-    answered-graph said y q = let (P, G) = as-graph c z in answers (held .expression) (held .query) P g G said (y P (graph-in G a b) (held .expression) (held .query)) q
-
--- the six lengths, and the lists
-pub long : {nodes triples rows heads alive queue : List ℕ}
-    → ((nodeListLength ≤ length nodes) × (tripleListLength ≤ length triples) × (rowsLength ≤ length rows) × (headsLength ≤ length heads) × (states ≤ length alive) × (states ≤ length queue)) ↔ LongEnough nodes triples rows heads alive queue
-long = (
-  (λ h. record { node-list = h .0; triple-list = h .1; row-buffer = h .2; head-buffer = h .3; alive-buffer = h .4; queue-buffer = h .5 }),
-  (λ l. (l .node-list, l .triple-list, l .row-buffer, l .head-buffer, l .alive-buffer, l .queue-buffer)),
-)
-
-module _ {pack query : Text} {r : YesNo} {nodes triples rows heads alive queue : List ℕ} where
-  pub short-answer : ¬ LongEnough nodes triples rows heads alive queue → r ≡ answered (refusal 1) false
-      → Answers pack query r nodes nodes triples triples rows rows heads heads alive alive queue queue
-  short-answer n q = record {
-    refuses-1 = λ m. (q, record { node-list = refl; triple-list = refl; row-buffer = refl; head-buffer = refl; alive-buffer = refl; queue-buffer = refl });
-    outcome = λ l. absurd (n l);
-    rows-zero = λ l. absurd (n l);
-    heads-zero = λ l. absurd (n l);
-    alive-zero = λ l. absurd (n l);
-    queue-zero = λ l. absurd (n l);
-  }
-
-  pub long-answer : {nodes′ triples′ rows′ heads′ alive′ queue′ : List ℕ} → LongEnough nodes triples rows heads alive queue → Outcome pack query r nodes nodes′ triples triples′
-      → rows′ ≡ zeros (length rows) → heads′ ≡ zeros (length heads) → alive′ ≡ zeros (length alive) → queue′ ≡ zeros (length queue)
-      → Answers pack query r nodes nodes′ triples triples′ rows rows′ heads heads′ alive alive′ queue queue′
-  long-answer l o a b c d = record {
-    refuses-1 = λ n. absurd (n l);
-    outcome = λ _. o;
-    rows-zero = λ _. a;
-    heads-zero = λ _. b;
-    alive-zero = λ _. c;
-    queue-zero = λ _. d;
-  }
-
--- a refusal's number, said
-pub said-1 : {g : Constructed} {r : YesNo} {k : ℕ} → g ≡ refusal k → r ≡ answered g false → r ≡ answered (refusal k) false
-said-1 e q = q ∙ ap (λ x. answered x false) e
-
--- 2
-pub not-read : (q : Query) {pack : Text} (query : Text) (tree : List ℕ) {nodes triples : List ℕ} {g : Constructed} {r : YesNo} → Answered q query tree → q ≡ NoExpression → g ≡ refusal 2 → r ≡ answered g false
-    → Outcome pack query r nodes nodes triples triples
-not-read x query tree a e h q = no-query (subst (λ y. Answered y query tree) e a) (said-1 h q) refl refl
+    pub answered : (said : Bool) → YesIn pack query (nodes .after) (p .graph .nodes) (triples .after) (p .graph .triples) said → Comes pack query (record { graph = p .graph; yes = said }) nodes triples
+    answered said y =
+        let (fs, R, w) = as-readied nodes triples c z in
+        gives fs (record { asked = given R; answer = y (R .graph .of) (graph-in (R .graph) nodes triples w a b) (R .held .expression) (R .held .query) }) w

@@ -1,24 +1,30 @@
 -- `build::build` meets its contract. Assumes nothing.
 use borrow.Author.Needs.{needs}
-use Rattle.build.proofs.Shell.{long, long-answer, short-answer}
+use mathlib.Core.Path.{refl, ap, _∙_}
 use Rattle.build.proofs.build.Statement.{statement}
 use Rattle.build.proofs.build.Tie as tie
-use Rattle.construct.proofs.Tested.{failed, passed}
+use Rattle.calls.proofs.Meets.{ran, refused-1}
+use Rattle.calls.proofs.Tested.{passed}
+use Rattle.sets.specs.Buffers.{zeros}
 
 pub build-spec : {M : Type 1} → statement M
 build-spec =
     tie.close
     (tie.spec
+    (λ c. search needs)  -- slice-aggregate-long-enough
+    (λ c. search needs)  -- slice-aggregate-long-enough-2
     (λ c κs. search needs)  -- long-enough-requires
     (λ c κs. search needs)  -- refused-requires
-    (λ c. let t = c .before .before .long-enough in short-answer (λ l. failed (t .result) (t .ensures) (c .before .if1 .taken) (long .1 l)) (c .refused .ensures))  -- returns
-    (λ c κs. let t = c .before .before .before .before .before .long-enough in passed (t .result) (t .ensures) (c .before .before .before .before .if1 .left))  -- construct-requires
+    (λ c. let t = c .before .before .long-enough in refused-1 tt (t .result) (t .ensures) (c .before .if1 .taken) (c .refused .ensures) (refl, (refl, (refl, (refl, tt)))))  -- returns
+    (λ c κs. let t = c .before .before .before .before .before .long-enough in let l = passed (t .result) (t .ensures) (c .before .before .before .before .if1 .left) in (l .0, l .1 .0, l .1 .1 .0, l .1 .1 .1 .0))  -- construct-requires
     (λ c κs. search needs)  -- clear-u16-requires
     (λ c κs. search needs)  -- clear-u64-requires
     (λ c. search needs)  -- same-length
     (λ c. search needs)  -- same-length-2
     (λ c. search needs)  -- same-length-3
     (λ c. search needs)  -- same-length-4
-    (λ c. let t = c .before .before .before .before .before .before .before .before .before .before .before .before .before .before .before .before .before .before .before .before .before .before .long-enough in  -- returns-2
-    long-answer (c .before .before .before .before .before .before .before .before .before .before .before .before .before .before .before .before .construct .last .1 .1 .1 .0) (c .before .before .before .before .before .before .before .before .before .before .before .before .before .before .before .before .construct .last .1 .1 .1 .1 .0) (long .0 (passed (t .result) (t .ensures) (c .before .before .before .before .before .before .before .before .before .before .before .before .before .before .before .before .before .before .before .before .before .if1 .left)))
-    (c .before .before .before .before .before .before .before .before .before .before .before .before .before .before .before .before .construct .ensures) (c .before .before .before .before .before .before .clear-u16 .ensures) (c .before .before .before .before .before .before .before .before .before .before .before .before .before .before .before .before .construct .kept .1 .1 .1 .0) (c .before .before .clear-u64 .ensures) (c .before .before .before .before .before .before .before .before .before .before .before .before .before .before .before .before .construct .kept .1 .1 .1 .1 .0)))
+    (λ c.  -- returns-2
+    let t = c .before .before .before .before .before .before .before .before .before .before .before .before .before .before .before .before .before .before .before .before .before .before .long-enough in
+    let g = c .before .before .before .before .before .before .before .before .before .before .before .before .before .before .before .before .construct in
+    ran tt (t .result) (t .ensures) (c .before .before .before .before .before .before .before .before .before .before .before .before .before .before .before .before .before .before .before .before .before .if1 .left) (g .ensures)
+    (c .before .before .before .before .before .before .clear-u16 .ensures ∙ ap zeros (g .kept .1 .1 .1 .0), (c .before .before .clear-u64 .ensures ∙ ap zeros (g .kept .1 .1 .1 .1 .0), tt))))

@@ -11,7 +11,7 @@ ciravehy-pairs-spec =
     tie.close
     (tie.spec
     (λ c κs. search needs)  -- pairs-requires
-    (λ c κs. let s = pairs-small (c .before .before .before .before .before .before .before .before .before .before .before .before .before .before .before .before .before .pairs .ensures) in (omega (arith, s .0), omega (arith, s .1), omega (arith, s .2)))  -- numbers-requires
+    (λ c κs. let s = pairs-small (c .before .before .before .before .before .before .before .before .before .before .before .before .before .before .before .before .before .before .pairs .ensures) in (omega (arith, s .0), omega (arith, s .1), omega (arith, s .2)))  -- numbers-requires
     (λ c. search needs)  -- same-length
     (λ c. search needs)  -- same-length-2
     (λ c. search needs)  -- same-length-3
@@ -20,4 +20,4 @@ ciravehy-pairs-spec =
     (λ c. search needs)  -- same-length-6
     (λ c. search needs)  -- same-length-7
     (λ c. search needs)  -- same-length-8
-    (λ c. record { answer = c .before .before .before .before .before .before .before .before .before .before .before .before .before .before .before .before .before .before .pairs .result; answers = c .before .before .before .before .before .before .before .before .before .before .before .before .before .before .before .before .before .before .pairs .ensures; refusal = refl; report = c .numbers .ensures }))  -- returns
+    (λ c. let a = c .before .before .before .before .before .before .before .before .before .before .before .before .before .before .before .before .before .before .before .pairs in record { answer = a .result; answers = a .ensures; refusal = refl; report = c .numbers .ensures }))  -- returns

@@ -12,7 +12,7 @@ ciravehy-yes-no-spec =
     (tie.spec
     (λ c κs. search needs)  -- yes-no-requires
     (λ c κs. search needs)  -- said-requires
-    (λ c κs. yes-no-small (c .before .before .before .before .before .before .before .before .before .before .before .before .before .before .yes-no .ensures) (c .said .ensures))  -- numbers-requires
+    (λ c κs. yes-no-small (c .before .before .before .before .before .before .before .before .before .before .before .before .before .before .before .yes-no .ensures) (c .said .ensures))  -- numbers-requires
     (λ c. search needs)  -- same-length
     (λ c. search needs)  -- same-length-2
     (λ c. search needs)  -- same-length-3
@@ -20,5 +20,6 @@ ciravehy-yes-no-spec =
     (λ c. search needs)  -- same-length-5
     (λ c. search needs)  -- same-length-6
     (λ c.  -- returns
-    let a = c .before .before .before .before .before .before .before .before .before .before .before .before .before .before .before .yes-no .result in
-    record { answer = a; answers = c .before .before .before .before .before .before .before .before .before .before .before .before .before .before .before .yes-no .ensures; refusal = refl; report = c .numbers .ensures ∙ ap (λ n. reported (a .nodes) (a .triples) n (a .clash)) (c .before .said .ensures) }))
+    let y = c .before .before .before .before .before .before .before .before .before .before .before .before .before .before .before .before .yes-no in
+    let g = y .result .graph in
+    record { answer = y .result; answers = y .ensures; refusal = refl; report = c .numbers .ensures ∙ ap (λ n. reported (g .nodes) (g .triples) n (g .clash)) (c .before .said .ensures) }))

@@ -16,7 +16,7 @@ pairs-spec =
     (λ c κs. threadable (c .before .before .before .before .before .before .before .before .before .before .pre .0) (omega arith))  -- thread-requires
     (λ c. search needs)  -- slice-aggregate-resolve
     (λ c κs. let r = c .before .before .before .before .before .before .before .before .before .before .before .before .before .pre .0 in (pack-formed r, roomy r, r .room, parts-few r))  -- resolve-requires
-    (λ c κs. let g = c .before .before .before .before .before .before .before .before .before .before .before .before .before .before .before .pre .0 .graph .graph in (g .few-nodes, omega (arith, g .few-nodes, g .node-room)))  -- named-requires
+    (λ c κs. let g = c .before .before .before .before .before .before .before .before .before .before .before .before .before .before .before .pre .0 .graph .graph in (g .has .graph .few-nodes, omega (arith, g .has .graph .few-nodes, g .node-room)))  -- named-requires
     (λ c. search needs)  -- slice-aggregate-joined-pairs
     (λ c. search needs)  -- slice-aggregate-joined-pairs-2
     (λ c. search needs)  -- slice-aggregate-joined-pairs-3

@@ -10,7 +10,10 @@ find-pairs-spec =
     (tie.spec
     (λ c κs. search needs)  -- clear-u8-requires
     (λ c κs. search needs)  -- clear-u16-requires
-    (λ c κs. let p = c .before .before .before .before .before .before .before .before .before .before .before .before .before .before .before .before .before .before .before .before .before .pre in (p .0, cleared _ (c .before .before .before .before .before .before .before .before .before .before .before .before .before .before .before .before .before .before .before .before .before .args .alive .now) _ (c .before .before .before .before .before .before .before .before .before .before .clear-u8 .ensures) (p .1) (p .2), cleared _ (c .before .before .before .before .before .before .before .before .before .before .before .before .before .before .before .before .before .before .before .before .before .args .seen .now) _ (c .before .before .before .before .before .before .clear-u16 .ensures) (p .3) (p .2), p .4))  -- pairs-requires
+    (λ c κs.  -- pairs-requires
+    let p = c .before .before .before .before .before .before .before .before .before .before .before .before .before .before .before .before .before .before .before .before .before .pre in
+    let l = p .1 in
+    (p .0, cleared _ (c .before .before .before .before .before .before .before .before .before .before .before .before .before .before .before .before .before .before .before .before .before .args .alive .now) _ (c .before .before .before .before .before .before .before .before .before .before .clear-u8 .ensures) (l .0) (l .1), cleared _ (c .before .before .before .before .before .before .before .before .before .before .before .before .before .before .before .before .before .before .before .before .before .args .seen .now) _ (c .before .before .before .before .before .before .clear-u16 .ensures) (l .2) (l .1), p .2))
     (λ c. search needs)  -- same-length
     (λ c. search needs)  -- same-length-2
     (λ c. search needs)  -- same-length-3

@@ -1,0 +1,4 @@
+pub mod Lengths
+pub mod Meets
+pub mod Once
+pub mod Tested

@@ -1,0 +1,54 @@
+-- A query that is read or not, a pack that has a graph or not; and which of them a refusal number says. Assumes nothing.
+use lib.ListN.{length}
+use mathlib.Core.List.{List}
+use mathlib.Core.Path.{_≡_, ap, subst}
+use native.Mathlib.Omega.{arith}
+use Prim.Native.Nat.{ℕ, _≤_}
+use Rattle.calls.specs.Call.{Contents, Kept, Outcome, Written, gives, refuses}
+use Rattle.construct.proofs.Decide.{refuses-some}
+use Rattle.construct.specs.Outcome.{Constructs, refusal}
+use Rattle.construct.specs.declared.Constructed.{Constructed}
+use Rattle.graph.specs.Fronts.{graphLists}
+use Rattle.meaning.specs.Limits.{maxQueryBytes}
+use Rattle.meaning.specs.Pack.{Text}
+use Rattle.prepare.specs.Prepared.{Gives, Prepares, Readied, Refuses, no-graph, no-query}
+use Rattle.prepare.specs.declared.Prepared.{Prepared}
+use Rattle.query.specs.Answer.{Answered, Held}
+use Rattle.query.specs.declared.Query.the-variants.{NoExpression, Parts}
+use Rattle.query.specs.declared.Query.{Query}
+
+-- ---- what the code finds
+
+-- 2
+pub not-read : (q : Query) (query tree : List ℕ) {pack : Text} {g : Constructed} {n : ℕ} (nodes triples : Contents) → Answered q query tree → q ≡ NoExpression → g ≡ refusal 2
+    → Kept (graphLists nodes triples) → Prepares pack query tree (record { graph = g; parts = n }) nodes triples
+not-read q query tree nodes triples a e h k = refuses (no-query (subst (λ y. Answered y query tree) e a) h) k
+
+pub as-held : (q : Query) (query tree : List ℕ) {n : ℕ} → Answered q query tree → q ≡ Parts n → Held query tree n
+as-held q query tree a e = subst (λ x. Answered x query tree) e a
+
+-- 3 to 11, or the graph
+pub built : {pack query : Text} {tree : List ℕ} {g : Constructed} {n : ℕ} (nodes triples : Contents) → Held query tree n → maxQueryBytes ≤ length tree → Constructs pack g nodes triples
+    → Prepares pack query tree (record { graph = g; parts = n }) nodes triples
+built nodes triples h l (refuses x k) = refuses (no-graph (h .expression) (h .query) x) k
+built nodes triples h l (gives fs G w) = gives fs (record { graph = G; held = h; room = let a = h .few in let b = h .query .fits in omega arith }) w
+
+-- ---- what the number says
+
+module _ {pack query : Text} where
+  some-number : {g : Constructed} → Refuses pack query g → g .refusal ≡ 0 → ⊥
+  some-number (no-query x q) z = let w = ap (λ (c : Constructed). c .refusal) q in omega arith
+  some-number (no-graph e i x) z = refuses-some x z
+
+  module _ {tree : List ℕ} {p : Prepared} (nodes triples : Contents) where
+    pub as-readied : Prepares pack query tree p nodes triples → p .graph .refusal ≡ 0 → (fronts : List (List ℕ)) × Readied pack query tree p fronts × Written fronts (graphLists nodes triples)
+    as-readied (refuses x k) z = absurd (some-number x z)
+    as-readied (gives fs G w) z = (fs, G, w)
+
+    pub as-refused : Prepares pack query tree p nodes triples → (p .graph .refusal ≡ 0 → ⊥) → Refuses pack query (p .graph) × Kept (graphLists nodes triples)
+    as-refused (refuses x k) n = (x, k)
+    as-refused (gives fs G w) n = absurd (n (ap (λ (c : Constructed). c .refusal) (G .graph .counts)))
+
+-- what is readied is given
+abbrev pub given : {pack query : Text} {tree : List ℕ} {p : Prepared} {fronts : List (List ℕ)} → Readied pack query tree p fronts → Gives pack query (p .graph) fronts
+given R = record { expression = R .held .expression; is = R .held .query; graph = R .graph }
