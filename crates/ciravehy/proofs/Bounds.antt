@@ -7,7 +7,7 @@ use Prim.Native.Nat.{ℕ, _<_}
 use Rattle.calls.proofs.Meets.{every}
 use Rattle.calls.specs.Call.{Call, Lent}
 use Rattle.ciravehy.proofs.Pairs.{few-pairs}
-use Rattle.ciravehy.specs.Report.{number}
+use Rattle.report.specs.Report.{number}
 use Rattle.construct.specs.Outcome.{Gives, Refuses, mixed-kinds, not-accepted, refusal, too-large, two-objects}
 use Rattle.construct.specs.declared.Constructed.{Constructed}
 use Rattle.meaning.specs.Pack.{Text}

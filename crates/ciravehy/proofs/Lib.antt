@@ -1,3 +1,3 @@
 pub mod Bounds
-pub mod Overlaid
+pub mod Once
 pub mod Pairs

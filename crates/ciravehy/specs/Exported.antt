@@ -5,7 +5,7 @@ use mathlib.Core.Path.{_≡_}
 use Prim.Native.Nat.{ℕ}
 use Rattle.build.specs.Answer as Build
 use Rattle.calls.specs.Call.{Contents}
-use Rattle.ciravehy.specs.Report.{number, reported}
+use Rattle.report.specs.Report.{number, reported}
 use Rattle.construct.specs.declared.Constructed.{Constructed}
 use Rattle.meaning.specs.Pack.{Text}
 use Rattle.pairs.specs.Answer as Pairs

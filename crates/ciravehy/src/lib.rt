@@ -1,14 +1,12 @@
 // The four open calls, exported for C and whatever calls C: numbers, slices and one array in the place of an answer's struct.
-mod report; // an answer as an array of numbers
-
 ghost use Rattle.calls.specs.Call.{lent};
 ghost use Rattle.ciravehy.specs.Exported.{Builds, Decides, Finds, Reads};
-use crate::report::numbers;
-use crate::report::said;
-use crate::report::term;
 use build::build;
 use pairs::pairs as find_pairs;
 use readback::read_back;
+use report::numbers;
+use report::said;
+use report::term;
 use yes_no::yes_no;
 
 // `build::build`. The result is the refusal's number, 0 where there is none; the rest of the answer is in `report`.
@@ -23,10 +21,10 @@ pub extern "C" fn ciravehy_build(
 ) -> u8
     ensures { λ r. ⌜ Builds (now (pack .entry)) r (lent nodes) (lent triples) (lent rows) (lent heads) (now (report .exit)) ⌝ }
 {
-    let answer = build(pack, nodes, triples, rows, heads);
-    let clash = answer.clash;
-    *report = numbers(answer.nodes, answer.triples, 0, clash);
-    answer.refusal
+    let built = build(pack, nodes, triples, rows, heads);
+    let clash = built.clash;
+    *report = numbers(built.nodes, built.triples, 0, clash);
+    built.refusal
 }
 
 // `yes_no::yes_no`, in the same way.
@@ -44,10 +42,10 @@ pub extern "C" fn ciravehy_yes_no(
 ) -> u8
     ensures { λ r. ⌜ Decides (now (pack .entry)) (now (query .entry)) r (lent nodes) (lent triples) (lent rows) (lent heads) (lent alive) (lent queue) (now (report .exit)) ⌝ }
 {
-    let answer = yes_no(pack, query, nodes, triples, rows, heads, alive, queue);
-    let graph = answer.graph;
+    let decided = yes_no(pack, query, nodes, triples, rows, heads, alive, queue);
+    let graph = decided.graph;
     let clash = graph.clash;
-    *report = numbers(graph.nodes, graph.triples, said(answer.yes), clash);
+    *report = numbers(graph.nodes, graph.triples, said(decided.yes), clash);
     graph.refusal
 }
 
@@ -68,7 +66,7 @@ pub extern "C" fn ciravehy_pairs(
 ) -> u8
     ensures { λ r. ⌜ Finds (now (pack .entry)) (now (query .entry)) r (lent nodes) (lent triples) (lent pairs) (lent rows) (lent heads) (lent alive) (lent queue) (lent seen) (now (report .exit)) ⌝ }
 {
-    let answer = find_pairs(
+    let found = find_pairs(
         pack,
         query,
         nodes,
@@ -80,10 +78,10 @@ pub extern "C" fn ciravehy_pairs(
         queue,
         seen,
     );
-    let graph = answer.graph;
-    let clash = graph.clash;
-    *report = numbers(graph.nodes, graph.triples, answer.pairs, clash);
-    graph.refusal
+    let constructed = found.graph;
+    let clash = constructed.clash;
+    *report = numbers(constructed.nodes, constructed.triples, found.pairs, clash);
+    constructed.refusal
 }
 
 // `readback::read_back`, in the same way.
@@ -91,8 +89,8 @@ pub extern "C" fn ciravehy_pairs(
 pub extern "C" fn ciravehy_read_back(pack: &[u8], text: &[u8], report: &mut [u16; 5]) -> u8
     ensures { λ r. ⌜ Reads (now (pack .entry)) (now (text .entry)) r (now (report .exit)) ⌝ }
 {
-    let answer = read_back(pack, text);
-    let values = answer.values;
-    *report = term(answer.constructor, values);
-    answer.refusal
+    let read = read_back(pack, text);
+    let values = read.values;
+    *report = term(read.constructor, values);
+    read.refusal
 }

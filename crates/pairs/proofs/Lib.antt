@@ -1,3 +1,4 @@
+pub mod EveryName
 pub mod Once
 pub mod Publishing
 pub mod Shell

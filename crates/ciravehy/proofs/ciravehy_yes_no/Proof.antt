@@ -2,7 +2,7 @@
 use borrow.Author.Needs.{needs}
 use mathlib.Core.Path.{refl, ap, _∙_}
 use Rattle.ciravehy.proofs.Bounds.{yes-no-small}
-use Rattle.ciravehy.specs.Report.{reported}
+use Rattle.report.specs.Report.{reported}
 use Rattle.ciravehy.proofs.ciravehy_yes_no.Statement.{statement}
 use Rattle.ciravehy.proofs.ciravehy_yes_no.Tie as tie
 

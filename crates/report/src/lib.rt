@@ -1,8 +1,8 @@
-// An answer as an array of numbers.
+// An answer as an array of numbers, for callers in other languages.
 ghost use mathlib.Core.List.{_∷_};
 ghost use mathlib.Core.Path.{_≡_};
 ghost use Prim.Native.Nat.{_<_};
-ghost use Rattle.ciravehy.specs.Report.{number, reported};
+ghost use Rattle.report.specs.Report.{number, reported};
 use meaning::MAX_ARGUMENTS;
 use sets::buffers::copy_front;
 

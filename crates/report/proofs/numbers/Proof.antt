@@ -1,10 +1,10 @@
--- `ciravehy::report::numbers` meets its contract. Assumes nothing.
+-- `report::numbers` meets its contract. Assumes nothing.
 use borrow.Author.Needs.{needs}
 use mathlib.Core.List.{_∷_}
 use mathlib.Core.Path.{ap}
-use Rattle.ciravehy.proofs.Overlaid.{whole}
-use Rattle.ciravehy.proofs.report.numbers.Statement.{statement}
-use Rattle.ciravehy.proofs.report.numbers.Tie as tie
+use Rattle.report.proofs.Overlaid.{whole}
+use Rattle.report.proofs.numbers.Statement.{statement}
+use Rattle.report.proofs.numbers.Tie as tie
 
 pub numbers-spec : {M : Type 1} → statement M
 numbers-spec =

@@ -1,10 +1,10 @@
--- `ciravehy::report::term` meets its contract. Assumes nothing.
+-- `report::term` meets its contract. Assumes nothing.
 use borrow.Author.Needs.{needs}
 use mathlib.Core.List.{_∷_}
 use mathlib.Core.Path.{ap}
-use Rattle.ciravehy.proofs.Overlaid.{whole}
-use Rattle.ciravehy.proofs.report.term.Statement.{statement}
-use Rattle.ciravehy.proofs.report.term.Tie as tie
+use Rattle.report.proofs.Overlaid.{whole}
+use Rattle.report.proofs.term.Statement.{statement}
+use Rattle.report.proofs.term.Tie as tie
 
 pub term-spec : {M : Type 1} → statement M
 term-spec =
