@@ -4,13 +4,12 @@ Prints what certain prints. Exit status: 0 answered, 1 refused, 2 anything else.
 """
 
 import argparse
-import contextlib
 import os
 import subprocess
 import sys
 import tempfile
-import time
 
+import builder
 import limits
 import refusals
 from catalogue import description, read_catalogue
@@ -22,12 +21,9 @@ from hints import hints
 from maker import Made
 from problems import print_some
 
-ROOT = os.path.dirname(os.path.dirname(os.path.dirname(os.path.abspath(__file__))))
-PROGRAM = os.path.join(ROOT, "target", "bin", "certain")
-
 
 class NotRun(Exception):
-    """The program can't be built or run."""
+    """The program can't be run."""
 
 
 def main(arguments=None):
@@ -39,10 +35,10 @@ def main(arguments=None):
     options = parser.parse_args(arguments)
     try:
         made, data = pack_of(options.catalogue)
-        build()
+        builder.build(say)
         query = query_of(options.query)
         answer = ask(data, query)
-    except NotRun as error:
+    except (NotRun, builder.NotBuilt) as error:
         say(str(error))
         return 2
     sys.stdout.buffer.write(answer)
@@ -76,46 +72,17 @@ def query_of(argument):
 
 # ----------------------------------------------------------- the program
 
-def build():
-    """Proves and builds the program if it is missing, or older than a file that it is built from."""
-    if os.path.exists(PROGRAM) and changed(PROGRAM) >= newest():
-        return
-    say("proving and building the program with 'rt check certain'; from nothing that takes some ten minutes, "
-        "more on a busy machine")
-    start = time.monotonic()
-    try:
-        done = subprocess.run(["rt", "check", "certain"], cwd=ROOT, stdin=subprocess.DEVNULL, stdout=sys.stderr)
-    except OSError as error:
-        raise NotRun(f"'rt' can't be run ({error.strerror}): the Rattle kit must be on the PATH") from None
-    if done.returncode or not os.path.exists(PROGRAM):
-        raise NotRun(f"'rt check certain' failed with exit status {done.returncode}")
-    with contextlib.suppress(OSError):
-        os.utime(PROGRAM)       # rt leaves a program that needs no new proof as it is
-    say(f"built in {time.monotonic() - start:.0f} seconds")
-
-
-def newest():
-    """When the newest file was changed that the program may be built from."""
-    files = [os.path.join(ROOT, "crates.txt")]
-    files += [os.path.join(folder, name) for folder, _, names in os.walk(os.path.join(ROOT, "crates")) for name in names]
-    return max(map(changed, files))
-
-
-def changed(path):
-    return os.lstat(path).st_mtime if os.path.lexists(path) else 0
-
-
 def ask(data, query):
     """What the program prints for a pack and a query."""
     try:
         with tempfile.TemporaryDirectory() as folder:
             with open(os.path.join(folder, "catalogue.pack"), "wb") as file:
                 file.write(data)
-            done = subprocess.run([PROGRAM], cwd=folder, input=query, stdout=subprocess.PIPE)
+            done = subprocess.run([builder.PROGRAM], cwd=folder, input=query, stdout=subprocess.PIPE)
     except OSError as error:
-        raise NotRun(f"{error.filename or PROGRAM}: {error.strerror}") from None
+        raise NotRun(f"{error.filename or builder.PROGRAM}: {error.strerror}") from None
     if done.returncode or not done.stdout.startswith((b"certain ", b"refused ")):
-        raise NotRun(f"{PROGRAM} ended with status {done.returncode} and without an answer")
+        raise NotRun(f"{builder.PROGRAM} ended with status {done.returncode} and without an answer")
     return done.stdout
 
 

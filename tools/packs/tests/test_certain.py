@@ -4,6 +4,7 @@ import os
 from unittest.mock import patch
 
 import asker
+import builder
 import refusals
 from support import Files, certain
 from test_errors import DESCRIPTION, STYLES, TUNINGS
@@ -15,7 +16,10 @@ echo "$@" >> ran
 mkdir -p target/bin
 printf '#!/bin/sh\\ncat catalogue.pack - > ../asked\\necho certain no\\necho pairs 0\\n' > target/bin/certain
 chmod +x target/bin/certain
-echo proved
+echo 'fn a: proved'
+echo 'rt: meaning proved (3 s)'
+echo 'rt: pack proved (unchanged since it was last proved)'
+echo 'rt: certain proved (17 s)'
 """
 
 
@@ -26,13 +30,12 @@ class Build(Files):
         super().setUp()
         os.makedirs("crates/certain/src")
         os.mkdir("bin")
-        self.write(FILES | {"crates.txt": "certain:\n", "crates/certain/src/main.rt": "", "bin/rt": RT, "sample.pack": SAMPLE})
+        self.write(FILES | {"crates.txt": "# all\nmeaning:\npack: meaning\ncertain: pack io\nother: pack\n", "crates/certain/src/main.rt": "", "bin/rt": RT, "sample.pack": SAMPLE})
         os.chmod("bin/rt", 0o755)
         for name, value in (("ROOT", os.getcwd()), ("PROGRAM", os.path.abspath("target/bin/certain"))):
-            self.patch(patch.object(asker, name, value))
+            self.patch(patch.object(builder, name, value))
         self.patch(patch.dict(os.environ, PATH=os.path.abspath("bin") + ":" + os.environ["PATH"]))
         self.patch(patch("tempfile.tempdir", os.getcwd()))
-        self.patch(patch("subprocess.run", quiet(asker.subprocess.run)))
 
     def patch(self, change):
         change.start()
@@ -47,6 +50,9 @@ class Build(Files):
             self.assertEqual((status, out), (0, "certain no\npairs 0\n"))
             self.assertEqual(self.runs(), 1)
             self.assertEqual("rt check certain" in err, _ == 0)
+            told = ["1 of 3 proved: meaning, 3 s", "3 of 3 proved: certain, 17 s"] if _ == 0 else []
+            self.assertEqual([line.removeprefix("certain: ") for line in err.splitlines() if " proved: " in line], told)
+        self.assertIn("fn a: proved\n", open("target/certain.log").read())
         self.assertEqual(open("asked", "rb").read(), SAMPLE + b"name\n")
         for source in ("crates.txt", "crates/certain/src/main.rt"):
             os.utime("target/bin/certain", (1, 1))
@@ -85,17 +91,12 @@ class Build(Files):
                 'if it is named otherwise there, say headers = { head = "..." }\n', 0))
 
 
-def quiet(run):
-    """rt's output would go to this process' own standard error."""
-    return lambda *words, **options: run(*words, **options | ({"stdout": asker.subprocess.DEVNULL} if words[0][0] == "rt" else {}))
-
-
 class Told(Files):
     """What is told where the program answers so."""
 
     def told(self, answer, query="name", files=(), catalogue="."):
         self.write(FILES | dict(files))
-        with patch.object(asker, "build", lambda: None), patch.object(asker, "ask", lambda data, query: answer.encode()):
+        with patch.object(builder, "build", lambda say: None), patch.object(asker, "ask", lambda data, query: answer.encode()):
             status, out, err = certain(catalogue, query)
         self.assertEqual((status, out), (1 if answer.startswith("refused") else 0, answer))
         return err.splitlines()
