@@ -1,2 +1,5 @@
+pub mod Bounds
+pub mod Computed
 pub mod Encode
+pub mod Run
 pub mod Table

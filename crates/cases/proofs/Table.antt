@@ -1,14 +1,15 @@
--- Document 01's cases: one table of calls and their outcomes, and one theorem by computation. Later calls are added to
--- `Call` and `run`, their cases to the table. (Refusal 9 is not computed here: every pack below is far from it.) Assumes
--- nothing.
+-- Document 01's cases: one table of calls and their outcomes, and one theorem: each case says what is so. Assumes nothing.
 use lib.ListN.{length, replicate, set, take}
 use mathlib.Core.Bool.{Bool, true, false}
 use mathlib.Core.List.{List, [], _∷_, _++_, map}
-use mathlib.Core.Option.{Option, none, some}
-use mathlib.Core.Path.{_≡_, refl}
+use mathlib.Core.Option.{Option, some}
+use mathlib.Core.Path.{_≡_, refl, sym, ap, _∙_}
 use Prim.Native.Nat.{ℕ}
 use Prim.Native.String.{String}
+use Rattle.cases.proofs.Computed.{run-says}
 use Rattle.cases.proofs.Encode.{encode}
+use Rattle.cases.proofs.Run.{isTerm, run, smallCore}
+use Rattle.cases.specs.Says.{Call, Outcome, Says, answer, ask, build, check, fine, graph, iri, read, refused, spell, term}
 use Rattle.grammar.specs.Grammar.{stars}
 use Rattle.grammar.specs.Parse.{run as readRun, joined as joinedParts, parts, withStars, closed, label, name, leaf, atomOf as readAtom, stepBy, sequenceBy, unionBy, atomAt, parse, whole, expressionOf}
 use Rattle.meaning.proofs.Computed.Certain.{walkBuilt, pairRecords}
@@ -18,57 +19,13 @@ use Rattle.meaning.proofs.Model.Refusals.{twoObjects?, mixedKinds?}
 use Rattle.meaning.proofs.Sample.Packs.{shapeRecord, constructorOf, atomOf, termOf, rowOf, ruleOf, sampleValues, firstDecidesSecond, sampleTypes, sampleShapes, sampleConstructors, sampleRules, romanRow, sampleWith, withRows, withRules, sample, nothing, rowTwice, twoNames, nameIsIri, secondType}
 use Rattle.meaning.specs.Ascii.{ascii}
 use Rattle.meaning.specs.Limits.{unused}
+use Rattle.meaning.specs.Member.{_∈_, here, there}
 use Rattle.meaning.specs.Pack.{Pack, Text, Literal, type, one, hasType, Constructor, ShapeRecord, Dependency, shapeOf}
-use Rattle.meaning.specs.Query.{Expr}
-use Rattle.pack.specs.Checked.{Checked, refused as stopped, accepted, wellFormed, firstRefusal, checking}
+use Rattle.pack.specs.Checked.{checking}
 use Rattle.spelling.proofs.CoreTerms.{plain?}
-use Rattle.spelling.specs.Iri.{slashed, joined, iriBy, spellingBy, plain}
-use Rattle.spelling.specs.ReadBack.{split, findBy, findAllBy, argumentsBy, readFromBy, readBackBy, readBack, numbers}
+use Rattle.spelling.specs.Iri.{slashed, joined, iriBy, spellingBy}
+use Rattle.spelling.specs.ReadBack.{split, findBy, findAllBy, argumentsBy, readFromBy, readBackBy}
 use Rattle.spelling.specs.Segment.{unreserved, hexDigit, spelledByte, segment}
-
-pub data Call : Type 0 where
-  check : Call  -- 3 to 8
-  build : Call
-  ask : Text → Call  -- yes/no and pairs, of a query
-  read : Text → Call  -- read-back, of a text
-
-pub data Outcome : Type 0 where
-  refused : ℕ → Outcome
-  fine : Outcome
-  graph : List (List ℕ) → List (List ℕ) → Outcome
-  answer : Bool → List (List ℕ) → Outcome
-  term : List ℕ → Outcome
-
--- ---- each call, computed
-
-abbrev pub onPack : Checked → (Pack → Outcome) → Outcome
-onPack (stopped n) f = refused n
-onPack (accepted P) f = f P
-
-abbrev pub orElse : Bool → ℕ → Outcome → Outcome
-orElse true k o = refused k
-orElse false k o = o
-
--- 10 and 11, then what the call gives
-abbrev pub withGraph : (Pack → Outcome) → Pack → Outcome
-withGraph f P = orElse (twoObjects? P) 10 (orElse (mixedKinds? P) 11 (f P))
-
-abbrev pub asked : Expr → Pack → Outcome
-asked e P = answer (answersYes (walkBuilt (plain P) (plain? P) P) e) (pairRecords (plain P) (plain? P) P e)
-
-abbrev pub onQuery : Option Expr → (Expr → Outcome) → Outcome
-onQuery none f = refused 2
-onQuery (some e) f = f e
-
-abbrev pub onTerm : Option (ℕ × List ℕ) → Outcome
-onTerm none = refused 13
-onTerm (some t) = term (numbers (t .0) (t .1))
-
-abbrev pub run : Call → Text → Outcome
-run check s = onPack (firstRefusal s) (λ P. fine)
-run build s = onPack (firstRefusal s) (withGraph (λ P. graph (nodeRecords P) (tripleRecords P)))
-run (ask q) s = onQuery (expressionOf q) (λ e. onPack (firstRefusal s) (withGraph (asked e)))
-run (read t) s = onPack (wellFormed s) (λ P. onTerm (readBack P t))
 
 -- ---- the table
 
@@ -147,7 +104,10 @@ cases =
     of nameIsIri build (refused 11) ∷
     -- P: "a second type on sty(s) whose shape for family is Literal 3: 11."
     of secondType build (refused 11) ∷
-    -- P: "value a/b under "sty:" is sty:a%2Fb; the empty value, sty:."
+    -- P: "value a/b under "sty:" is sty:a%2Fb; the empty value, sty:.": spelled, and read back
+    of special (spell 0 (0 ∷ [])) (iri (ascii "sty:a%2Fb")) ∷
+    of special (spell 0 (1 ∷ [])) (iri (ascii "sty:")) ∷
+    of special (spell 2 (0 ∷ 3 ∷ [])) (iri (ascii "http://x/a%2Fb/%00%FF")) ∷
     of special (text "sty:a%2Fb") (term (0 ∷ 0 ∷ unused ∷ unused ∷ unused ∷ [])) ∷
     of special (text "sty:") (term (0 ∷ 1 ∷ unused ∷ unused ∷ unused ∷ [])) ∷
     of special (text "sty:a/b") (refused 13) ∷
@@ -207,7 +167,17 @@ cases =
     of (withRows (romanRow ∷ romanRow ∷ [])) check fine ∷
     []
 
--- each call gives what document 01 says
-pub cases-hold : map (λ (c : Case). run (c .call) (c .pack)) cases ≡ map (λ (c : Case). c .outcome) cases
-unfolding checking encode twoObjects? mixedKinds? nodeRecords tripleRecords shapeOf walkBuilt answersYes pairRecords plain? spellingBy iriBy slashed joined unreserved hexDigit spelledByte segment split findBy findAllBy argumentsBy readFromBy readBackBy expressionOf whole parse unionBy sequenceBy stepBy atomAt readAtom leaf name label closed withStars parts joinedParts readRun stars
-cases-hold = refl
+-- ---- the theorem
+
+computed : map (λ (c : Case). run (c .call) (c .pack)) cases ≡ map (λ (c : Case). some (c .outcome)) cases
+unfolding checking encode smallCore isTerm twoObjects? mixedKinds? nodeRecords tripleRecords shapeOf walkBuilt answersYes pairRecords plain? spellingBy iriBy slashed joined unreserved hexDigit spelledByte segment split findBy findAllBy argumentsBy readFromBy readBackBy expressionOf whole parse unionBy sequenceBy stepBy atomAt readAtom leaf name label closed withStars parts joinedParts readRun stars
+computed = refl
+
+-- two lists of outcomes that are the same agree at each case
+each : {A B : Type 0} (f g : A → B) (xs : List A) → map f xs ≡ map g xs → (x : A) → x ∈ xs → f x ≡ g x
+each f g (x ∷ xs) e y (here p) = let h : f x ≡ g x = cc in ap f p ∙ h ∙ ap g (sym p)
+each f g (x ∷ xs) e y (there m) = let t : map f xs ≡ map g xs = cc in each f g xs t y m
+
+-- Each case says what is so.
+pub cases-hold : (c : Case) → c ∈ cases → Says (c .pack) (c .call) (c .outcome)
+cases-hold c m = run-says (c .call) (c .pack) (c .outcome) (each (λ (c : Case). run (c .call) (c .pack)) (λ (c : Case). some (c .outcome)) cases computed c m)

@@ -1,0 +1,234 @@
+-- What is computed is so: whatever outcome `run` gives of a call on a pack, `Says` holds of it. Assumes nothing.
+use lib.Dec.{T, leb, leb→le}
+use lib.ListN.{length}
+use mathlib.Core.Bool.{Bool, true, false}
+use mathlib.Core.List.{List, [], _∷_, _++_, flatten}
+use mathlib.Core.Logic.{inl, inr}
+use mathlib.Core.Option.{Option, none, some}
+use mathlib.Core.Path.{_≡_, refl, sym, ap, subst, _∙_}
+use native.Mathlib.Omega.{arith}
+use Prim.Native.Nat.{ℕ, _≤_}
+use Rattle.access.proofs.Accepted.{WellFormed, well-formed}
+use Rattle.cases.proofs.Bounds.{is-term, not-large, not-many}
+use Rattle.cases.proofs.Run.{asked, isTerm, listed, ofPack, onPack, onQuery, onTerm, onlyIf, orElse, run, shortLists, smallCore, withGraph}
+use Rattle.cases.specs.Says.{Call, Outcome, Says, answer, ask, ask-gives, ask-refused, build, build-gives, build-refused, check, fine, graph, iri, is-fine, is-refused, read, read-gives, read-refused, refused, spell, spelled, term}
+use Rattle.construct.proofs.Accepted.{accepted-formed, none-obey, some-obeys}
+use Rattle.construct.specs.Outcome.{Gives, HasGraph, Refuses, clashing, counted, mixed-kinds, not-accepted, refusal, two-objects}
+use Rattle.construct.specs.declared.Constructed.{Constructed}
+use Rattle.grammar.proofs.Agree.{reading}
+use Rattle.grammar.specs.Grammar.{IsQuery}
+use Rattle.grammar.specs.Parse.{expressionOf}
+use Rattle.graph.specs.NodeList.{maxNodes}
+use Rattle.graph.specs.Triples.{maxTriples}
+use Rattle.meaning.proofs.Computed.Certain.{graph-there, pairRecords, pairs-listed, walkBuilt, yes-computed-certain}
+use Rattle.meaning.proofs.Computed.Evaluate.{answersYes}
+use Rattle.meaning.proofs.Lists.Members.{both}
+use Rattle.meaning.proofs.Lists.Ordered.{by-key, list-unique}
+use Rattle.meaning.proofs.Model.Listing.{graph-listed, node-record, nodeList, nodeList-ordered, nodeNumbers, nodeRecords, tripleRecords}
+use Rattle.meaning.proofs.Model.Refusals.{mixed-iff, mixedKinds?, two-iff, twoObjects?}
+use Rattle.meaning.proofs.Model.Resolved.{Resolved, resolved}
+use Rattle.meaning.specs.Built.{core}
+use Rattle.meaning.specs.Certain.{Distinct, PairList, TooManyPairs}
+use Rattle.meaning.specs.Core.{Node}
+use Rattle.meaning.specs.Limits.{maxPairs}
+use Rattle.meaning.specs.Listing.{ClashGiven, nodeKey}
+use Rattle.meaning.specs.NoGraph.{TooLarge, TwoObjects}
+use Rattle.meaning.specs.Pack.{Pack, Text}
+use Rattle.meaning.specs.Query.{Expr}
+use Rattle.pack.specs.Checked.{Checked, accepted, firstRefusal, wellFormed, refused as stopped}
+use Rattle.pairs.specs.Answer as Pairs
+use Rattle.pairs.specs.declared.PairAnswer.{PairAnswer}
+use Rattle.prepare.specs.Prepared as Prepared
+use Rattle.query.specs.Answer.{Refusal2}
+use Rattle.readback.proofs.Answered.{found-answer}
+use Rattle.readback.specs.Answer.{Answers, not-well-formed}
+use Rattle.spelling.proofs.CoreTerms.{plain-distinct, plain?}
+use Rattle.spelling.specs.Iri.{iriOf, plain}
+use Rattle.spelling.specs.Places.{iriRead}
+use Rattle.spelling.specs.ReadBack.{readBack}
+use Rattle.yes_no.specs.Answer as YesNo
+use Rattle.yes_no.specs.declared.YesNo as answers
+
+-- ---- one test after another
+
+-- an outcome that is computed is so
+abbrev pub Right : Text → Call → Option Outcome → Type 0
+Right s c none = Unit
+Right s c (some o) = Says s c o
+
+module _ (s : Text) (c : Call) where
+  on-pack : (x : Checked) (f : Pack → Option Outcome) → ((k : ℕ) → x ≡ stopped k → Says s c (refused k)) → ((P : Pack) → x ≡ accepted P → Right s c (f P)) → Right s c (onPack x f)
+  on-pack (stopped k) f a b = a k refl
+  on-pack (accepted P) f a b = b P refl
+
+  of-pack : (x : Checked) (f : Pack → Option Outcome) → ((P : Pack) → x ≡ accepted P → Right s c (f P)) → Right s c (ofPack x f)
+  of-pack (stopped k) f b = tt
+  of-pack (accepted P) f b = b P refl
+
+  only-if : (t : Bool) (o : Option Outcome) → (T t → Right s c o) → Right s c (onlyIf t o)
+  only-if true o f = f tt
+  only-if false o f = tt
+
+  or-else : (t : Bool) (k : ℕ) (o : Option Outcome) → (T t → Says s c (refused k)) → (t ≡ false → Right s c o) → Right s c (orElse t k o)
+  or-else true k o a b = a tt
+  or-else false k o a b = b refl
+
+-- ---- an accepted pack whose core is small
+
+module _ (s : Text) (P : Pack) (is : firstRefusal s ≡ accepted P) where
+  formed : WellFormed s P
+  formed = well-formed s P (accepted-formed s P is)
+
+  wf : Resolved P
+  wf = resolved P (formed .named)
+
+  distinct : Distinct (plain P) P
+  distinct = plain-distinct P (formed .distinct) (formed .prefixFree) (formed .named)
+
+  module _ (small : T (smallCore P)) where
+    -- 10, with the clash by the core's own records
+    ten : T (twoObjects? P) → (r : Constructed) × Refuses s r × (r .refusal ≡ 10)
+    ten t = (_, two-objects P is (not-large P wf small) (none-obey formed (inl c)) _ _ _ _ given refl, refl)
+      where
+        c : TwoObjects P
+        c = two-iff P wf .0 t
+
+        numbers : Node → List ℕ
+        numbers n = nodeNumbers P (core n)
+
+        given : ClashGiven P (numbers (c .subject)) (c .predicate) (numbers (c .first)) (numbers (c .second))
+        given = record { clash = c; subject-is = node-record P wf _; predicate-is = refl; first-is = node-record P wf _; second-is = node-record P wf _ }
+
+    eleven : twoObjects? P ≡ false → T (mixedKinds? P) → (r : Constructed) × Refuses s r × (r .refusal ≡ 11)
+    eleven no-10 t =
+        let m = mixed-iff P wf .0 t in
+        (_, mixed-kinds P is (not-large P wf small) (none-obey formed (inr m)) (λ c. subst T no-10 (two-iff P wf .1 c)) m refl, refl)
+
+    module _ (no-10 : twoObjects? P ≡ false) (no-11 : mixedKinds? P ≡ false) (short-nodes : length (nodeRecords P) ≤ maxNodes) (short-triples : length (tripleRecords P) ≤ maxTriples) where
+      given-graph : Gives s (counted (length (nodeRecords P)) (length (tripleRecords P))) (flatten (nodeRecords P) ∷ flatten (tripleRecords P) ∷ [])
+      given-graph = record {
+        of = P;
+        has = record {
+          is = is;
+          small = not-large P wf small;
+          obeyed = some-obeys formed (graph-there (plain P) (plain? P) P (formed .named) distinct no-10 no-11);
+          graph = record {
+            node-records = nodeRecords P;
+            triple-records = tripleRecords P;
+            lists = graph-listed P wf;
+            node-count = refl;
+            triple-count = refl;
+            few-nodes = short-nodes;
+            few-triples = short-triples;
+            fronts-are = refl;
+          };
+        };
+        counts = refl;
+      }
+
+      says-graph : Says s build (graph (nodeRecords P) (tripleRecords P))
+      unfolding given-graph
+      says-graph = build-gives given-graph refl refl
+
+      module _ (q : Text) (e : Expr) (reads : IsQuery q e) (short-pairs : length (pairRecords (plain P) (plain? P) P e) ≤ maxPairs) where
+        prepared : Prepared.Gives s q (counted (length (nodeRecords P)) (length (tripleRecords P))) (flatten (nodeRecords P) ∷ flatten (tripleRecords P) ∷ [])
+        prepared = record { expression = e; is = reads; graph = given-graph }
+
+        pairs-in-order : PairList (plain P) P e (nodeList P) (pairRecords (plain P) (plain? P) P e)
+        pairs-in-order = pairs-listed (plain P) (plain? P) P (formed .named) distinct no-10 no-11 e
+
+        same-nodes : nodeList P ≡ graph-listed P wf .inOrder
+        same-nodes = list-unique (by-key nodeKey) (nodeList-ordered P wf) (graph-listed P wf .ordered)
+
+        says-answer : Says s (ask q) (answer (answersYes (walkBuilt (plain P) (plain? P) P) e) (pairRecords (plain P) (plain? P) P e))
+        unfolding prepared given-graph
+        says-answer =
+            ask-gives
+            {y = record { graph = counted (length (nodeRecords P)) (length (tripleRecords P)); yes = answersYes (walkBuilt (plain P) (plain? P) P) e }}
+            {p = record { graph = counted (length (nodeRecords P)) (length (tripleRecords P)); pairs = length (pairRecords (plain P) (plain? P) P e) }}
+            (record { asked = prepared; answer = yes-computed-certain (plain P) (plain? P) P (formed .named) distinct no-10 no-11 e }) refl
+            (record {
+              graph-fronts = _;
+              asked = prepared;
+              few = not-many (plain P) P e (nodeList P) (nodeList-ordered P wf) pairs-in-order short-pairs;
+              records = pairRecords (plain P) (plain? P) P e;
+              certain = subst (λ l. PairList (plain P) P e l (pairRecords (plain P) (plain? P) P e)) same-nodes pairs-in-order;
+              count = refl;
+              fronts-are = refl;
+            }) refl
+
+-- ---- what every call with a graph comes to
+
+abbrev Refused : Text → Call → Type 0
+Refused s c = (r : Constructed) → Refuses s r → Says s c (refused (r .refusal))
+
+module _ (s : Text) (c : Call) (says : Refused s c) where
+  on-first : (f : Pack → Option Outcome) → ((P : Pack) → firstRefusal s ≡ accepted P → Right s c (f P)) → Right s c (onPack (firstRefusal s) f)
+  on-first f = on-pack s c (firstRefusal s) f (λ k e. says (refusal k) (not-accepted k e refl))
+
+  says-as : {k : ℕ} → (r : Constructed) × Refuses s r × (r .refusal ≡ k) → Says s c (refused k)
+  says-as (r, x, e) = subst (λ k. Says s c (refused k)) e (says r x)
+
+  module _ (P : Pack) (is : firstRefusal s ≡ accepted P) where
+    with-graph : (f : Pack → Option Outcome)
+        → (T (smallCore P) → twoObjects? P ≡ false → mixedKinds? P ≡ false → length (nodeRecords P) ≤ maxNodes → length (tripleRecords P) ≤ maxTriples → Right s c (f P))
+        → Right s c (withGraph f P)
+    with-graph f gives =
+        only-if s c (smallCore P) _ λ small.
+        or-else s c (twoObjects? P) 10 _ (λ t. says-as (ten s P is small t)) λ no-10.
+        or-else s c (mixedKinds? P) 11 _ (λ t. says-as (eleven s P is small no-10 t)) λ no-11.
+        only-if s c (shortLists (nodeRecords P) (tripleRecords P)) _ λ short.
+        let b = both (leb (length (nodeRecords P)) maxNodes) (leb (length (tripleRecords P)) maxTriples) .0 short in
+        gives small no-10 no-11 (leb→le _ _ (b .0)) (leb→le _ _ (b .1))
+
+-- ---- the calls
+
+build-right : (s : Text) → Right s build (run build s)
+build-right s = on-first s build refuses (withGraph listed) λ P is. with-graph s build refuses P is listed λ small no-10 no-11 a b. says-graph s P is small no-10 no-11 a b
+  where
+    refuses : Refused s build
+    refuses r x = build-refused x refl
+
+ask-right : (q s : Text) → Right s (ask q) (run (ask q) s)
+ask-right q s = go (expressionOf q) refl
+  where
+    both-refuse : (r : Constructed) → Prepared.Refuses s q r → Says s (ask q) (refused (r .refusal))
+    both-refuse r x =
+        ask-refused {y = record { graph = r; yes = false }} {p = record { graph = r; pairs = 0 }}
+        (record { cause = x; says-no = refl }) refl (Pairs.before-12 x refl) refl
+
+    no-expression : expressionOf q ≡ none → Refusal2 q
+    no-expression n e x = let p = reading q e .0 x in let z : _≡_ {A = ℕ} 0 1 = cc in omega arith
+
+    go : (o : Option Expr) → expressionOf q ≡ o → Right s (ask q) (onQuery o (λ e. onPack (firstRefusal s) (withGraph (asked e))))
+    go none n = both-refuse (refusal 2) (Prepared.no-query (no-expression n) refl)
+    go (some e) h =
+        on-first s (ask q) refuses (withGraph (asked e)) λ P is.
+        with-graph s (ask q) refuses P is (asked e) λ small no-10 no-11 a b.
+        only-if s (ask q) (leb (length (pairRecords (plain P) (plain? P) P e)) maxPairs) _ λ t.
+        says-answer s P is small no-10 no-11 a b q e reads (leb→le _ _ t)
+      where
+        reads : IsQuery q e
+        reads = reading q e .1 h
+
+        refuses : Refused s (ask q)
+        refuses r x = both-refuse r (Prepared.no-graph e reads x)
+
+read-right : (t s : Text) → Right s (read t) (run (read t) s)
+unfolding iriRead
+read-right t s = on-pack s (read t) (wellFormed s) _ (λ k e. read-refused (not-well-formed k e refl)) λ P w. go P w (readBack P t) refl
+  where
+    go : (P : Pack) → wellFormed s ≡ accepted P → (o : Option (ℕ × List ℕ)) → readBack P t ≡ o → Right s (read t) (onTerm o)
+    go P w none e = read-refused (found-answer s t P w (iriRead none) _ (ap iriRead (sym e)) refl)
+    go P w (some v) e = read-gives (found-answer s t P w (iriRead (some v)) _ (ap iriRead (sym e)) refl)
+
+-- Every outcome that is computed is so.
+run-right : (c : Call) (s : Text) → Right s c (run c s)
+run-right check s = on-pack s check (firstRefusal s) _ (λ k e. is-refused e) λ P e. is-fine e
+run-right build s = build-right s
+run-right (ask q) s = ask-right q s
+run-right (read t) s = read-right t s
+run-right (spell c values) s = of-pack s (spell c values) (wellFormed s) _ λ P w. only-if s (spell c values) (isTerm P c values) _ λ t. spelled w (is-term P c values t) refl
+
+pub run-says : (c : Call) (s : Text) (o : Outcome) → run c s ≡ some o → Says s c o
+run-says c s o e = subst (Right s c) e (run-right c s)
