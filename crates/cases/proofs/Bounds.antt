@@ -5,9 +5,9 @@ use mathlib.Core.Bool.{_&&_}
 use mathlib.Core.List.{List, [], _∷_}
 use mathlib.Core.Logic.{inl, inr}
 use mathlib.Core.Option.{Option, none, some, Option·some-injective}
-use mathlib.Core.Path.{_≡_, refl, sym, ap, subst, _∙_}
+use mathlib.Core.Path.{_≡_, refl, sym, ap, _∙_}
 use native.Mathlib.Omega.{arith}
-use Prim.Native.Nat.{ℕ, _<_, _≤_}
+use Prim.Native.Nat.{ℕ, _≤_}
 use Rattle.cases.proofs.Run.{isTerm, smallCore}
 use Rattle.evaluate.proofs.Over.{listed-few, no-more, over-carried}
 use Rattle.meaning.proofs.Lists.Members.{both, every-at}

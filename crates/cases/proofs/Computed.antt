@@ -2,18 +2,18 @@
 use lib.Dec.{T, leb, leb→le}
 use lib.ListN.{length}
 use mathlib.Core.Bool.{Bool, true, false}
-use mathlib.Core.List.{List, [], _∷_, _++_, flatten}
+use mathlib.Core.List.{List, [], _∷_, flatten}
 use mathlib.Core.Logic.{inl, inr}
 use mathlib.Core.Option.{Option, none, some}
-use mathlib.Core.Path.{_≡_, refl, sym, ap, subst, _∙_}
+use mathlib.Core.Path.{_≡_, refl, sym, ap, subst}
 use native.Mathlib.Omega.{arith}
 use Prim.Native.Nat.{ℕ, _≤_}
 use Rattle.access.proofs.Accepted.{WellFormed, well-formed}
 use Rattle.cases.proofs.Bounds.{is-term, not-large, not-many}
 use Rattle.cases.proofs.Run.{asked, isTerm, listed, ofPack, onPack, onQuery, onTerm, onlyIf, orElse, run, shortLists, smallCore, withGraph}
-use Rattle.cases.specs.Says.{Call, Outcome, Says, answer, ask, ask-gives, ask-refused, build, build-gives, build-refused, check, fine, graph, iri, is-fine, is-refused, read, read-gives, read-refused, refused, spell, spelled, term}
+use Rattle.cases.specs.Says.{Call, Outcome, Says, answer, ask, ask-gives, ask-refused, build, build-gives, build-refused, check, graph, is-fine, is-refused, read, read-gives, read-refused, refused, spell, spelled}
 use Rattle.construct.proofs.Accepted.{accepted-formed, none-obey, some-obeys}
-use Rattle.construct.specs.Outcome.{Gives, HasGraph, Refuses, clashing, counted, mixed-kinds, not-accepted, refusal, two-objects}
+use Rattle.construct.specs.Outcome.{Gives, Refuses, counted, mixed-kinds, not-accepted, refusal, two-objects}
 use Rattle.construct.specs.declared.Constructed.{Constructed}
 use Rattle.grammar.proofs.Agree.{reading}
 use Rattle.grammar.specs.Grammar.{IsQuery}
@@ -28,26 +28,23 @@ use Rattle.meaning.proofs.Model.Listing.{graph-listed, node-record, nodeList, n
 use Rattle.meaning.proofs.Model.Refusals.{mixed-iff, mixedKinds?, two-iff, twoObjects?}
 use Rattle.meaning.proofs.Model.Resolved.{Resolved, resolved}
 use Rattle.meaning.specs.Built.{core}
-use Rattle.meaning.specs.Certain.{Distinct, PairList, TooManyPairs}
+use Rattle.meaning.specs.Certain.{Distinct, PairList}
 use Rattle.meaning.specs.Core.{Node}
 use Rattle.meaning.specs.Limits.{maxPairs}
 use Rattle.meaning.specs.Listing.{ClashGiven, nodeKey}
-use Rattle.meaning.specs.NoGraph.{TooLarge, TwoObjects}
+use Rattle.meaning.specs.NoGraph.{TwoObjects}
 use Rattle.meaning.specs.Pack.{Pack, Text}
 use Rattle.meaning.specs.Query.{Expr}
 use Rattle.pack.specs.Checked.{Checked, accepted, firstRefusal, wellFormed, refused as stopped}
 use Rattle.pairs.specs.Answer as Pairs
-use Rattle.pairs.specs.declared.PairAnswer.{PairAnswer}
 use Rattle.prepare.specs.Prepared as Prepared
 use Rattle.query.specs.Answer.{Refusal2}
 use Rattle.readback.proofs.Answered.{found-answer}
-use Rattle.readback.specs.Answer.{Answers, not-well-formed}
+use Rattle.readback.specs.Answer.{not-well-formed}
 use Rattle.spelling.proofs.CoreTerms.{plain-distinct, plain?}
-use Rattle.spelling.specs.Iri.{iriOf, plain}
+use Rattle.spelling.specs.Iri.{plain}
 use Rattle.spelling.specs.Places.{iriRead}
 use Rattle.spelling.specs.ReadBack.{readBack}
-use Rattle.yes_no.specs.Answer as YesNo
-use Rattle.yes_no.specs.declared.YesNo as answers
 
 -- ---- one test after another
 
@@ -57,7 +54,8 @@ Right s c none = Unit
 Right s c (some o) = Says s c o
 
 module _ (s : Text) (c : Call) where
-  on-pack : (x : Checked) (f : Pack → Option Outcome) → ((k : ℕ) → x ≡ stopped k → Says s c (refused k)) → ((P : Pack) → x ≡ accepted P → Right s c (f P)) → Right s c (onPack x f)
+  on-pack : (x : Checked) (f : Pack → Option Outcome) → ((k : ℕ) → x ≡ stopped k → Says s c (refused k)) → ((P : Pack) → x ≡ accepted P → Right s c (f P))
+      → Right s c (onPack x f)
   on-pack (stopped k) f a b = a k refl
   on-pack (accepted P) f a b = b P refl
 
@@ -100,94 +98,101 @@ module _ (s : Text) (P : Pack) (is : firstRefusal s ≡ accepted P) where
         given = record { clash = c; subject-is = node-record P wf _; predicate-is = refl; first-is = node-record P wf _; second-is = node-record P wf _ }
 
     eleven : twoObjects? P ≡ false → T (mixedKinds? P) → (r : Constructed) × Refuses s r × (r .refusal ≡ 11)
-    eleven no-10 t =
+    eleven not-10 t =
         let m = mixed-iff P wf .0 t in
-        (_, mixed-kinds P is (not-large P wf small) (none-obey formed (inr m)) (λ c. subst T no-10 (two-iff P wf .1 c)) m refl, refl)
+        (_, mixed-kinds P is (not-large P wf small) (none-obey formed (inr m)) (λ c. subst T not-10 (two-iff P wf .1 c)) m refl, refl)
 
-    module _ (no-10 : twoObjects? P ≡ false) (no-11 : mixedKinds? P ≡ false) (short-nodes : length (nodeRecords P) ≤ maxNodes) (short-triples : length (tripleRecords P) ≤ maxTriples) where
-      given-graph : Gives s (counted (length (nodeRecords P)) (length (tripleRecords P))) (flatten (nodeRecords P) ∷ flatten (tripleRecords P) ∷ [])
-      given-graph = record {
-        of = P;
-        has = record {
-          is = is;
-          small = not-large P wf small;
-          obeyed = some-obeys formed (graph-there (plain P) (plain? P) P (formed .named) distinct no-10 no-11);
-          graph = record {
-            node-records = nodeRecords P;
-            triple-records = tripleRecords P;
-            lists = graph-listed P wf;
-            node-count = refl;
-            triple-count = refl;
-            few-nodes = short-nodes;
-            few-triples = short-triples;
-            fronts-are = refl;
-          };
-        };
-        counts = refl;
-      }
+-- ---- a pack that passes every test before its graph is given
 
-      says-graph : Says s build (graph (nodeRecords P) (tripleRecords P))
-      unfolding given-graph
-      says-graph = build-gives given-graph refl refl
+record Passes (s : Text) (P : Pack) : Type 0 where
+  is : firstRefusal s ≡ accepted P
+  small : T (smallCore P)
+  not-10 : twoObjects? P ≡ false
+  not-11 : mixedKinds? P ≡ false
+  few-nodes : length (nodeRecords P) ≤ maxNodes
+  few-triples : length (tripleRecords P) ≤ maxTriples
 
-      module _ (q : Text) (e : Expr) (reads : IsQuery q e) (short-pairs : length (pairRecords (plain P) (plain? P) P e) ≤ maxPairs) where
-        prepared : Prepared.Gives s q (counted (length (nodeRecords P)) (length (tripleRecords P))) (flatten (nodeRecords P) ∷ flatten (tripleRecords P) ∷ [])
-        prepared = record { expression = e; is = reads; graph = given-graph }
+module _ (s : Text) (P : Pack) (x : Passes s P) where
+  abbrev answered : Constructed
+  answered = counted (length (nodeRecords P)) (length (tripleRecords P))
 
-        pairs-in-order : PairList (plain P) P e (nodeList P) (pairRecords (plain P) (plain? P) P e)
-        pairs-in-order = pairs-listed (plain P) (plain? P) P (formed .named) distinct no-10 no-11 e
+  abbrev fronts : List (List ℕ)
+  fronts = flatten (nodeRecords P) ∷ flatten (tripleRecords P) ∷ []
 
-        same-nodes : nodeList P ≡ graph-listed P wf .inOrder
-        same-nodes = list-unique (by-key nodeKey) (nodeList-ordered P wf) (graph-listed P wf .ordered)
+  abbrev the-graph : Gives s answered fronts
+  the-graph = record {
+    of = P;
+    has = record {
+      is = x .is;
+      small = not-large P (wf s P (x .is)) (x .small);
+      obeyed = some-obeys (formed s P (x .is)) (graph-there (plain P) (plain? P) P (formed s P (x .is) .named) (distinct s P (x .is)) (x .not-10) (x .not-11));
+      graph = record {
+        node-records = nodeRecords P;
+        triple-records = tripleRecords P;
+        lists = graph-listed P (wf s P (x .is));
+        node-count = refl;
+        triple-count = refl;
+        few-nodes = x .few-nodes;
+        few-triples = x .few-triples;
+        fronts-are = refl;
+      };
+    };
+    counts = refl;
+  }
 
-        says-answer : Says s (ask q) (answer (answersYes (walkBuilt (plain P) (plain? P) P) e) (pairRecords (plain P) (plain? P) P e))
-        unfolding prepared given-graph
-        says-answer =
-            ask-gives
-            {y = record { graph = counted (length (nodeRecords P)) (length (tripleRecords P)); yes = answersYes (walkBuilt (plain P) (plain? P) P) e }}
-            {p = record { graph = counted (length (nodeRecords P)) (length (tripleRecords P)); pairs = length (pairRecords (plain P) (plain? P) P e) }}
-            (record { asked = prepared; answer = yes-computed-certain (plain P) (plain? P) P (formed .named) distinct no-10 no-11 e }) refl
-            (record {
-              graph-fronts = _;
-              asked = prepared;
-              few = not-many (plain P) P e (nodeList P) (nodeList-ordered P wf) pairs-in-order short-pairs;
-              records = pairRecords (plain P) (plain? P) P e;
-              certain = subst (λ l. PairList (plain P) P e l (pairRecords (plain P) (plain? P) P e)) same-nodes pairs-in-order;
-              count = refl;
-              fronts-are = refl;
-            }) refl
+  module _ (q : Text) (e : Expr) (reads : IsQuery q e) where
+    abbrev prepared : Prepared.Gives s q answered fronts
+    prepared = record { expression = e; is = reads; graph = the-graph }
 
--- ---- what every call with a graph comes to
+    abbrev isYes : Bool
+    isYes = answersYes (walkBuilt (plain P) (plain? P) P) e
+
+    abbrev pairs : List (List ℕ)
+    pairs = pairRecords (plain P) (plain? P) P e
+
+    all-pairs : PairList (plain P) P e (nodeList P) pairs
+    all-pairs = pairs-listed (plain P) (plain? P) P (formed s P (x .is) .named) (distinct s P (x .is)) (x .not-10) (x .not-11) e
+
+    same-nodes : nodeList P ≡ graph-listed P (wf s P (x .is)) .inOrder
+    same-nodes = list-unique (by-key nodeKey) (nodeList-ordered P (wf s P (x .is))) (graph-listed P (wf s P (x .is)) .ordered)
+
+    says-answer : length pairs ≤ maxPairs → Says s (ask q) (answer isYes pairs)
+    says-answer few =
+        ask-gives {y = record { graph = answered; yes = isYes }} {p = record { graph = answered; pairs = length pairs }}
+        (record { asked = prepared; answer = yes-computed-certain (plain P) (plain? P) P (formed s P (x .is) .named) (distinct s P (x .is)) (x .not-10) (x .not-11) e }) refl
+        (record {
+          graph-fronts = fronts;
+          asked = prepared;
+          few = not-many (plain P) P e (nodeList P) (nodeList-ordered P (wf s P (x .is))) all-pairs few;
+          records = pairs;
+          certain = subst (λ l. PairList (plain P) P e l pairs) same-nodes all-pairs;
+          count = refl;
+          fronts-are = refl;
+        }) refl
+
+-- ---- the tests before a graph is given, for any call that gives one
 
 abbrev Refused : Text → Call → Type 0
 Refused s c = (r : Constructed) → Refuses s r → Says s c (refused (r .refusal))
 
 module _ (s : Text) (c : Call) (says : Refused s c) where
-  on-first : (f : Pack → Option Outcome) → ((P : Pack) → firstRefusal s ≡ accepted P → Right s c (f P)) → Right s c (onPack (firstRefusal s) f)
-  on-first f = on-pack s c (firstRefusal s) f (λ k e. says (refusal k) (not-accepted k e refl))
-
   says-as : {k : ℕ} → (r : Constructed) × Refuses s r × (r .refusal ≡ k) → Says s c (refused k)
   says-as (r, x, e) = subst (λ k. Says s c (refused k)) e (says r x)
 
-  module _ (P : Pack) (is : firstRefusal s ≡ accepted P) where
-    with-graph : (f : Pack → Option Outcome)
-        → (T (smallCore P) → twoObjects? P ≡ false → mixedKinds? P ≡ false → length (nodeRecords P) ≤ maxNodes → length (tripleRecords P) ≤ maxTriples → Right s c (f P))
-        → Right s c (withGraph f P)
-    with-graph f gives =
-        only-if s c (smallCore P) _ λ small.
-        or-else s c (twoObjects? P) 10 _ (λ t. says-as (ten s P is small t)) λ no-10.
-        or-else s c (mixedKinds? P) 11 _ (λ t. says-as (eleven s P is small no-10 t)) λ no-11.
-        only-if s c (shortLists (nodeRecords P) (tripleRecords P)) _ λ short.
-        let b = both (leb (length (nodeRecords P)) maxNodes) (leb (length (tripleRecords P)) maxTriples) .0 short in
-        gives small no-10 no-11 (leb→le _ _ (b .0)) (leb→le _ _ (b .1))
+  with-graph : (f : Pack → Option Outcome) → ((P : Pack) → Passes s P → Right s c (f P)) → Right s c (onPack (firstRefusal s) (withGraph f))
+  with-graph f gives =
+      on-pack s c (firstRefusal s) (withGraph f) (λ k e. says (refusal k) (not-accepted k e refl)) λ P is.
+      only-if s c (smallCore P) _ λ small.
+      or-else s c (twoObjects? P) 10 _ (λ t. says-as (ten s P is small t)) λ not-10.
+      or-else s c (mixedKinds? P) 11 _ (λ t. says-as (eleven s P is small not-10 t)) λ not-11.
+      only-if s c (shortLists (nodeRecords P) (tripleRecords P)) _ λ short.
+      let b = both (leb (length (nodeRecords P)) maxNodes) (leb (length (tripleRecords P)) maxTriples) .0 short in
+      gives P (record { is = is; small = small; not-10 = not-10; not-11 = not-11; few-nodes = leb→le _ _ (b .0); few-triples = leb→le _ _ (b .1) })
 
 -- ---- the calls
 
 build-right : (s : Text) → Right s build (run build s)
-build-right s = on-first s build refuses (withGraph listed) λ P is. with-graph s build refuses P is listed λ small no-10 no-11 a b. says-graph s P is small no-10 no-11 a b
-  where
-    refuses : Refused s build
-    refuses r x = build-refused x refl
+build-right s = with-graph s build (λ r x. build-refused x refl) listed λ P x. build-gives (the-graph s P x) refl refl
 
 ask-right : (q s : Text) → Right s (ask q) (run (ask q) s)
 ask-right q s = go (expressionOf q) refl
@@ -203,10 +208,8 @@ ask-right q s = go (expressionOf q) refl
     go : (o : Option Expr) → expressionOf q ≡ o → Right s (ask q) (onQuery o (λ e. onPack (firstRefusal s) (withGraph (asked e))))
     go none n = both-refuse (refusal 2) (Prepared.no-query (no-expression n) refl)
     go (some e) h =
-        on-first s (ask q) refuses (withGraph (asked e)) λ P is.
-        with-graph s (ask q) refuses P is (asked e) λ small no-10 no-11 a b.
-        only-if s (ask q) (leb (length (pairRecords (plain P) (plain? P) P e)) maxPairs) _ λ t.
-        says-answer s P is small no-10 no-11 a b q e reads (leb→le _ _ t)
+        with-graph s (ask q) refuses (asked e) λ P x.
+        only-if s (ask q) (leb (length (pairRecords (plain P) (plain? P) P e)) maxPairs) _ λ t. says-answer s P x q e reads (leb→le _ _ t)
       where
         reads : IsQuery q e
         reads = reading q e .1 h

@@ -1,5 +1,6 @@
 pub mod Bounds
 pub mod Computed
 pub mod Encode
+pub mod Once
 pub mod Run
 pub mod Table

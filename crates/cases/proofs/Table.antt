@@ -1,8 +1,8 @@
 -- Document 01's cases: one table of calls and their outcomes, and one theorem: each case says what is so. Assumes nothing.
-use lib.ListN.{length, replicate, set, take}
-use mathlib.Core.Bool.{Bool, true, false}
+use lib.ListN.{replicate, set, take}
+use mathlib.Core.Bool.{true, false}
 use mathlib.Core.List.{List, [], _∷_, _++_, map}
-use mathlib.Core.Option.{Option, some}
+use mathlib.Core.Option.{some}
 use mathlib.Core.Path.{_≡_, refl, sym, ap, _∙_}
 use Prim.Native.Nat.{ℕ}
 use Prim.Native.String.{String}
@@ -16,7 +16,7 @@ use Rattle.meaning.proofs.Computed.Certain.{walkBuilt, pairRecords}
 use Rattle.meaning.proofs.Computed.Evaluate.{answersYes}
 use Rattle.meaning.proofs.Model.Listing.{nodeRecords, tripleRecords}
 use Rattle.meaning.proofs.Model.Refusals.{twoObjects?, mixedKinds?}
-use Rattle.meaning.proofs.Sample.Packs.{shapeRecord, constructorOf, atomOf, termOf, rowOf, ruleOf, sampleValues, firstDecidesSecond, sampleTypes, sampleShapes, sampleConstructors, sampleRules, romanRow, sampleWith, withRows, withRules, sample, nothing, rowTwice, twoNames, nameIsIri, secondType}
+use Rattle.meaning.proofs.Sample.Packs.{shapeRecord, constructorOf, atomOf, termOf, rowOf, ruleOf, sampleValues, firstDecidesSecond, sampleTypes, sampleShapes, sampleConstructors, sampleRules, romanRow, sampleWith, withRows, withRules, sample, rowTwice, twoNames, nameIsIri, secondType}
 use Rattle.meaning.specs.Ascii.{ascii}
 use Rattle.meaning.specs.Limits.{unused}
 use Rattle.meaning.specs.Member.{_∈_, here, there}
