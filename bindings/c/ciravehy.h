@@ -7,10 +7,11 @@
  * working buffers are zero. A refusal leaves the lists as they were; entries past a reported count keep theirs.
  *
  * What the caller owes: a length counts entries, not bytes, and so many are there behind its pointer. A pointer is aligned for
- * its type and not null, even where its length is 0. What may be written overlaps nothing else that is lent.
+ * its type and not null, even where its length is 0. What may be written overlaps nothing else that is lent. The calling
+ * thread has the stack that the call takes (CIRAVEHY_BUILD_STACK and so on, in bytes; measured on x86-64): with less the
+ * operating system may end the program.
  *
- * The calls keep no pointer and no state, so they may run in several threads at once, each with its own buffers. Pairs takes
- * less than 200 KB of stack, the others less than half of that. */
+ * The calls keep no pointer and no state, so they may run in several threads at once, each with its own buffers. */
 #ifndef CIRAVEHY_H
 #define CIRAVEHY_H
 
@@ -32,6 +33,12 @@ extern "C" {
 #define CIRAVEHY_ROWS_LENGTH 9216
 #define CIRAVEHY_HEADS_LENGTH 32768
 #define CIRAVEHY_STATES 263168
+
+/* Stack that the calling thread has, in bytes, or more. */
+#define CIRAVEHY_BUILD_STACK 81920
+#define CIRAVEHY_YES_NO_STACK 106496
+#define CIRAVEHY_PAIRS_STACK 196608
+#define CIRAVEHY_READ_BACK_STACK 24576
 
 /* Reports, of exactly these lengths. Every call writes the whole of its report. */
 #define CIRAVEHY_REPORT_LENGTH 25

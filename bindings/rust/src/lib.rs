@@ -36,6 +36,16 @@ pub const HEADS_LENGTH: usize = 32768;
 /// The length of each of the working buffers `alive`, `queue` and `seen`, or more.
 pub const STATES: usize = 263168;
 
+/// How many bytes of its thread's stack [`Service::build`] takes at most, measured on x86-64. The caller owes it: a thread
+/// with less may be ended by the operating system.
+pub const BUILD_STACK: usize = 80 << 10;
+/// The same of [`Service::yes_no`].
+pub const YES_NO_STACK: usize = 104 << 10;
+/// The same of [`Service::pairs`].
+pub const PAIRS_STACK: usize = 192 << 10;
+/// The same of [`lent::read_back`].
+pub const READ_BACK_STACK: usize = 24 << 10;
+
 /// How many nodes and triples the pack's graph has.
 #[derive(Clone, Copy, Debug, PartialEq, Eq)]
 pub struct Counts {

@@ -7,7 +7,7 @@ use native.Mathlib.Omega.{arith}
 use Prim.Native.Nat.{ℕ}
 use Rattle.meaning.specs.Pack.{Pack}
 use Rattle.meaning.specs.WellFormed.{duplicates, prefixClash, dangling, broken}
-use Rattle.pack.specs.Checked.{Checked, refused, accepted, firstOf, onPack, checkBy, wellFormed, firstRefusal, numberOf}
+use Rattle.pack.specs.Checked.{Checked, refused, accepted, firstTrue, onPack, checkBy, wellFormed, firstRefusal, numberOf}
 use Rattle.pack.specs.Contents.{badSize}
 use Rattle.pack.specs.Unpack.{unpack}
 
@@ -21,16 +21,16 @@ pub record WellFormed (s : List ℕ) (P : Pack) : Type 0 where
   pub prefixFree : prefixClash P ≡ false
   pub named : dangling P ≡ false
 
-firstOf-passes : (P Q : Pack) → firstOf ((5, duplicates) ∷ (6, prefixClash) ∷ (7, dangling) ∷ []) P ≡ accepted Q
+all-untrue : (P Q : Pack) → firstTrue ((5, duplicates) ∷ (6, prefixClash) ∷ (7, dangling) ∷ []) P ≡ accepted Q
     → (P ≡ Q) × (duplicates P ≡ false) × (prefixClash P ≡ false) × (dangling P ≡ false)
-unfolding firstOf
-firstOf-passes P Q h = go (duplicates P) (prefixClash P) (dangling P) refl refl refl
+unfolding firstTrue
+all-untrue P Q h = go (duplicates P) (prefixClash P) (dangling P) refl refl refl
   where
     go : (a b c : Bool) → duplicates P ≡ a → prefixClash P ≡ b → dangling P ≡ c → (P ≡ Q) × (duplicates P ≡ false) × (prefixClash P ≡ false) × (dangling P ≡ false)
-    go true b c x y z = not-accepted (rw (x, firstOf) at h)
-    go false true c x y z = not-accepted (rw (x, firstOf, y) at h)
-    go false false true x y z = not-accepted (rw (x, firstOf, y, z) at h)
-    go false false false x y z = let k : _≡_ {A = Checked} (accepted P) (accepted Q) = rw (x, firstOf, y, z) at h in (cc, x, y, z)
+    go true b c x y z = not-accepted (rw (x, firstTrue) at h)
+    go false true c x y z = not-accepted (rw (x, firstTrue, y) at h)
+    go false false true x y z = not-accepted (rw (x, firstTrue, y, z) at h)
+    go false false false x y z = let k : _≡_ {A = Checked} (accepted P) (accepted Q) = rw (x, firstTrue, y, z) at h in (cc, x, y, z)
 
 pub well-formed : (s : List ℕ) (P : Pack) → wellFormed s ≡ accepted P → WellFormed s P
 unfolding wellFormed checkBy onPack
@@ -39,23 +39,23 @@ well-formed s P h = go (badSize s) refl
     parsed : badSize s ≡ false → (o : Option Pack) → unpack s ≡ o → onPack ((5, duplicates) ∷ (6, prefixClash) ∷ (7, dangling) ∷ []) o ≡ accepted P → WellFormed s P
     parsed b none e k = not-accepted k
     parsed b (some Q) e k =
-        let r = firstOf-passes Q P k in
+        let r = all-untrue Q P k in
         subst (WellFormed s) (r .0) (record { size = b; read = e; distinct = r .1; prefixFree = r .2; named = r .3 })
 
     go : (b : Bool) → badSize s ≡ b → WellFormed s P
     go true e = not-accepted (rw (e, checkBy) at h)
     go false e = parsed e (unpack s) refl (rw (e, checkBy) at h)
 
-firstOf-zero : (P : Pack) → 0 ≡ numberOf (firstOf ((5, duplicates) ∷ (6, prefixClash) ∷ (7, dangling) ∷ []) P)
-    → firstOf ((5, duplicates) ∷ (6, prefixClash) ∷ (7, dangling) ∷ []) P ≡ accepted P
-unfolding firstOf
+firstOf-zero : (P : Pack) → 0 ≡ numberOf (firstTrue ((5, duplicates) ∷ (6, prefixClash) ∷ (7, dangling) ∷ []) P)
+    → firstTrue ((5, duplicates) ∷ (6, prefixClash) ∷ (7, dangling) ∷ []) P ≡ accepted P
+unfolding firstTrue
 firstOf-zero P h = go (duplicates P) (prefixClash P) (dangling P) refl refl refl
   where
-    go : (a b c : Bool) → duplicates P ≡ a → prefixClash P ≡ b → dangling P ≡ c → firstOf ((5, duplicates) ∷ (6, prefixClash) ∷ (7, dangling) ∷ []) P ≡ accepted P
-    go true b c x y z = absurd (let k : _≡_ {A = ℕ} 0 5 = rw (x, firstOf) at h in omega arith)
-    go false true c x y z = absurd (let k : _≡_ {A = ℕ} 0 6 = rw (x, firstOf, y) at h in omega arith)
-    go false false true x y z = absurd (let k : _≡_ {A = ℕ} 0 7 = rw (x, firstOf, y, z) at h in omega arith)
-    go false false false x y z = rw (x, firstOf, y, z)
+    go : (a b c : Bool) → duplicates P ≡ a → prefixClash P ≡ b → dangling P ≡ c → firstTrue ((5, duplicates) ∷ (6, prefixClash) ∷ (7, dangling) ∷ []) P ≡ accepted P
+    go true b c x y z = absurd (let k : _≡_ {A = ℕ} 0 5 = rw (x, firstTrue) at h in omega arith)
+    go false true c x y z = absurd (let k : _≡_ {A = ℕ} 0 6 = rw (x, firstTrue, y) at h in omega arith)
+    go false false true x y z = absurd (let k : _≡_ {A = ℕ} 0 7 = rw (x, firstTrue, y, z) at h in omega arith)
+    go false false false x y z = rw (x, firstTrue, y, z)
 
 -- what the answer 0 says
 pub zero-accepted : (s : List ℕ) → 0 ≡ numberOf (wellFormed s) → (P : Pack) × (wellFormed s ≡ accepted P)
@@ -76,14 +76,14 @@ zero-accepted s h = go (badSize s) refl
 module _ (s : List ℕ) where
   -- a refusal of 3 to 7 stays the first
   pub refused-before : (r : ℕ) → r ≡ numberOf (wellFormed s) → (r ≡ 0 → ⊥) → r ≡ numberOf (firstRefusal s)
-  unfolding wellFormed firstRefusal checkBy onPack firstOf
+  unfolding wellFormed firstRefusal checkBy onPack firstTrue
   refused-before r h n = go (badSize s) refl
     where
       tests : badSize s ≡ false → (P : Pack) → unpack s ≡ some P → (a b c : Bool) → duplicates P ≡ a → prefixClash P ≡ b → dangling P ≡ c → r ≡ numberOf (firstRefusal s)
-      tests z P e true b c u v w = rw (z, checkBy, e, u, firstOf) (rw (z, checkBy, e, u, firstOf) at h)
-      tests z P e false true c u v w = rw (z, checkBy, e, u, firstOf, v) (rw (z, checkBy, e, u, firstOf, v) at h)
-      tests z P e false false true u v w = rw (z, checkBy, e, u, firstOf, v, w) (rw (z, checkBy, e, u, firstOf, v, w) at h)
-      tests z P e false false false u v w = absurd (n (rw (z, checkBy, e, u, firstOf, v, w) at h))
+      tests z P e true b c u v w = rw (z, checkBy, e, u, firstTrue) (rw (z, checkBy, e, u, firstTrue) at h)
+      tests z P e false true c u v w = rw (z, checkBy, e, u, firstTrue, v) (rw (z, checkBy, e, u, firstTrue, v) at h)
+      tests z P e false false true u v w = rw (z, checkBy, e, u, firstTrue, v, w) (rw (z, checkBy, e, u, firstTrue, v, w) at h)
+      tests z P e false false false u v w = absurd (n (rw (z, checkBy, e, u, firstTrue, v, w) at h))
 
       parsed : badSize s ≡ false → (o : Option Pack) → unpack s ≡ o → r ≡ numberOf (firstRefusal s)
       parsed z none e = rw (z, checkBy, e) (rw (z, checkBy, e) at h)
@@ -95,12 +95,12 @@ module _ (s : List ℕ) where
 
   module _ (P : Pack) (w : WellFormed s P) where
     pub refused-8 : broken P ≡ true → 8 ≡ numberOf (firstRefusal s)
-    unfolding firstRefusal checkBy onPack firstOf
-    refused-8 e = rw (w .size, checkBy, w .read, w .distinct, firstOf, w .prefixFree, w .named, e)
+    unfolding firstRefusal checkBy onPack firstTrue
+    refused-8 e = rw (w .size, checkBy, w .read, w .distinct, firstTrue, w .prefixFree, w .named, e)
 
     pub keeps-dependencies : broken P ≡ false → firstRefusal s ≡ accepted P
-    unfolding firstRefusal checkBy onPack firstOf
-    keeps-dependencies e = rw (w .size, checkBy, w .read, w .distinct, firstOf, w .prefixFree, w .named, e)
+    unfolding firstRefusal checkBy onPack firstTrue
+    keeps-dependencies e = rw (w .size, checkBy, w .read, w .distinct, firstTrue, w .prefixFree, w .named, e)
 
     pub refused-none : broken P ≡ false → 0 ≡ numberOf (firstRefusal s)
     refused-none e = rw (keeps-dependencies e)

@@ -11,7 +11,7 @@ use mathlib.Core.Path.{_≡_, refl, sym, ap, _∙_}
 use native.Mathlib.Decide.{ℕ-discrete}
 use native.Mathlib.Omega.{arith}
 use Prim.Native.Nat.{ℕ, _+_, _*_, _≤_, _<_}
-use Rattle.meaning.specs.Pack.{Pack, Shape, ShapeRecord, firstOf, shapeIn, shapeOf, multiplicityNumber}
+use Rattle.meaning.specs.Pack.{Pack, Shape, ShapeRecord, firstShape, shapeIn, shapeOf, multiplicityNumber}
 use Rattle.meaning.specs.Tests.{every}
 use Rattle.meaning.specs.WellFormed.{dangling, goodShape, goodTarget, goodDependency, goodRule, goodRow}
 use Rattle.pack.specs.Records.{shape, targetOf, multiplicityOf}
@@ -76,18 +76,18 @@ orElse x y = cond (eqb x 0) y x
 -- ---- the shape of a cell
 
 shape-here : (r : ShapeRecord) (rs : List ShapeRecord) → shapeIn (r ∷ rs) (r .owner) (r .predicate) ≡ some (r .shape)
-unfolding shapeIn firstOf
+unfolding shapeIn firstShape
 shape-here r rs = go (Dec·and (ℕ-discrete (r .owner) (r .owner)) (ℕ-discrete (r .predicate) (r .predicate)))
   where
-    go : (d : Dec ((r .owner ≡ r .owner) × (r .predicate ≡ r .predicate))) → firstOf d (r .shape) (shapeIn rs (r .owner) (r .predicate)) ≡ some (r .shape)
+    go : (d : Dec ((r .owner ≡ r .owner) × (r .predicate ≡ r .predicate))) → firstShape d (r .shape) (shapeIn rs (r .owner) (r .predicate)) ≡ some (r .shape)
     go (yes h) = refl
     go (no n) = absurd (n (refl, refl))
 
 shape-there : (r : ShapeRecord) (rs : List ShapeRecord) (t p : ℕ) → ((t ≡ r .owner) × (p ≡ r .predicate) → ⊥) → shapeIn (r ∷ rs) t p ≡ shapeIn rs t p
-unfolding shapeIn firstOf
+unfolding shapeIn firstShape
 shape-there r rs t p n = go (Dec·and (ℕ-discrete t (r .owner)) (ℕ-discrete p (r .predicate)))
   where
-    go : (d : Dec ((t ≡ r .owner) × (p ≡ r .predicate))) → firstOf d (r .shape) (shapeIn rs t p) ≡ shapeIn rs t p
+    go : (d : Dec ((t ≡ r .owner) × (p ≡ r .predicate))) → firstShape d (r .shape) (shapeIn rs t p) ≡ shapeIn rs t p
     go (yes h) = absurd (n h)
     go (no m) = refl
 

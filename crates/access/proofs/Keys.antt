@@ -11,7 +11,7 @@ use native.Mathlib.Numerals.{add-one}
 use native.Mathlib.Omega.{arith}
 use Prim.Native.Nat.{ℕ, zero, suc, _+_, _-_, _*_, _/_, _%_, _^_, _≤_, _<_}
 use Rattle.meaning.specs.Pack.{Pack, Dependency, Row}
-use Rattle.meaning.specs.Tests.{any, anyTwo, every, passes}
+use Rattle.meaning.specs.Tests.{any, anyTwo, every, thereAnd}
 use Rattle.meaning.specs.WellFormed.{agree, breaks, dangling, goodDependency, goodRow, goodRule, goodShape, hasArity}
 use Rattle.pack.specs.Records.{row, rowOf}
 use Rattle.pack.specs.Shown.{textAt, left, Placed, Got, TupleGot}
@@ -368,7 +368,7 @@ widthOf : Option ℕ → ℕ
 widthOf none = 0
 widthOf (some k) = k
 
-has-width : (o : Option ℕ) (n : ℕ) → passes (eqb n) o ≡ true → eqb n (widthOf o) ≡ true
+has-width : (o : Option ℕ) (n : ℕ) → thereAnd (eqb n) o ≡ true → eqb n (widthOf o) ≡ true
 unfolding widthOf
 has-width none n e = absurd (let z : _≡_ {A = ℕ} 0 1 = cc in omega arith)
 has-width (some k) n e = e

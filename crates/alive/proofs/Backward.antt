@@ -15,7 +15,7 @@ use Rattle.index.proofs.Chains.{met-first, met-later, met-none, met-split}
 use Rattle.index.specs.Index.{Met}
 use Rattle.index.specs.Triples.{predicateOf, subjectOf}
 use Rattle.walk.proofs.KindLaws.{kind-chain, kind-either, kind-leaf, kind-repeat, kind-test}
-use Rattle.walk.specs.Parts.{Child, Part, chain, either, firstOf, kindOf, leaf, partOf, repeat, test}
+use Rattle.walk.specs.Parts.{Child, Part, chain, either, firstNumber, kindOf, leaf, partOf, repeat, test}
 use Rattle.alive.proofs.Marking.{adds-as, adds-none, adds-same, adds-then}
 
 -- A Boolean is not both.
@@ -139,18 +139,18 @@ module _ (tree : List ℕ) (i : ℕ) (B : ℕ → Type 0) (after : ℕ) where
   turns-star k n x f g = by x (repeat (i - 1)) (kind-repeat tree i k) (λ e. inr (f e)) (λ m. ⊎-elim (λ b. n b) (λ b. m (g b)))
 
   -- a sequence or a union, whose left part is alive
-  pub turns-left : 5 ≤ kindOf tree i → kindOf tree i ≤ 8 → (kindOf tree i ≡ 5 → ⊥) → (kindOf tree i ≡ 6 → ⊥) → B (firstOf tree i) → Turns true B after (partOf tree i)
+  pub turns-left : 5 ≤ kindOf tree i → kindOf tree i ≤ 8 → (kindOf tree i ≡ 5 → ⊥) → (kindOf tree i ≡ 6 → ⊥) → B (firstNumber tree i) → Turns true B after (partOf tree i)
   turns-left l h n m b = go (ℕ-discrete (kindOf tree i) 7)
     where
       go : Dec (kindOf tree i ≡ 7) → Turns true B after (partOf tree i)
-      go (yes k) = taken-as true (chain (firstOf tree i) (i - 1)) (kind-chain tree i k) b
-      go (no k) = taken-as true (either (firstOf tree i) (i - 1)) (kind-either tree i (omega arith)) (inl b)
+      go (yes k) = taken-as true (chain (firstNumber tree i) (i - 1)) (kind-chain tree i k) b
+      go (no k) = taken-as true (either (firstNumber tree i) (i - 1)) (kind-either tree i (omega arith)) (inl b)
 
-  pub turns-sequence-no : kindOf tree i ≡ 7 → (B (firstOf tree i) → ⊥) → Turns false B after (partOf tree i)
-  turns-sequence-no k n = taken-as false (chain (firstOf tree i) (i - 1)) (kind-chain tree i k) n
+  pub turns-sequence-no : kindOf tree i ≡ 7 → (B (firstNumber tree i) → ⊥) → Turns false B after (partOf tree i)
+  turns-sequence-no k n = taken-as false (chain (firstNumber tree i) (i - 1)) (kind-chain tree i k) n
 
-  pub turns-union : kindOf tree i ≡ 8 → (B (firstOf tree i) → ⊥) → (x : ℕ) → (x ≡ 1 → B (i - 1)) → (B (i - 1) → x ≡ 1) → Turns (eqb x 1) B after (partOf tree i)
-  turns-union k n x f g = by x (either (firstOf tree i) (i - 1)) (kind-either tree i k) (λ e. inr (f e)) (λ m. ⊎-elim (λ b. n b) (λ b. m (g b)))
+  pub turns-union : kindOf tree i ≡ 8 → (B (firstNumber tree i) → ⊥) → (x : ℕ) → (x ≡ 1 → B (i - 1)) → (B (i - 1) → x ≡ 1) → Turns (eqb x 1) B after (partOf tree i)
+  turns-union k n x f g = by x (either (firstNumber tree i) (i - 1)) (kind-either tree i k) (λ e. inr (f e)) (λ m. ⊎-elim (λ b. n b) (λ b. m (g b)))
 
   pub led-no-leaf : Led B after (partOf tree i) → kindOf tree i < 5 → ⊥
   led-no-leaf x l = subst (λ p. Led B after p) (is-leaf l) x
@@ -165,8 +165,8 @@ not-leaf tree i l h e = go (ℕ-discrete (kindOf tree i) 5) (ℕ-discrete (kindO
     go : Dec (kindOf tree i ≡ 5) → Dec (kindOf tree i ≡ 6) → Dec (kindOf tree i ≡ 7) → ⊥
     go (yes k) b c = owns (test (i - 1)) (kind-test tree i k) (i - 1) refl
     go (no n) (yes k) c = owns (repeat (i - 1)) (kind-repeat tree i k) (i - 1) refl
-    go (no n) (no m) (yes k) = owns (chain (firstOf tree i) (i - 1)) (kind-chain tree i k) (i - 1) (inr refl)
-    go (no n) (no m) (no o) = owns (either (firstOf tree i) (i - 1)) (kind-either tree i (omega arith)) (i - 1) (inr refl)
+    go (no n) (no m) (yes k) = owns (chain (firstNumber tree i) (i - 1)) (kind-chain tree i k) (i - 1) (inr refl)
+    go (no n) (no m) (no o) = owns (either (firstNumber tree i) (i - 1)) (kind-either tree i (omega arith)) (i - 1) (inr refl)
 
 -- A part that has parts stands behind one of them.
 pub some-before : {tree next : List ℕ} {i : ℕ} → PartReady tree next i → 5 ≤ kindOf tree i → i - 1 < i
@@ -178,8 +178,8 @@ some-before {tree} {next} {i} r l = go (ℕ-discrete (kindOf tree i) 5) (ℕ-dis
     go : Dec (kindOf tree i ≡ 5) → Dec (kindOf tree i ≡ 6) → Dec (kindOf tree i ≡ 7) → i - 1 < i
     go (yes k) b c = own (test (i - 1)) (kind-test tree i k) refl
     go (no n) (yes k) c = own (repeat (i - 1)) (kind-repeat tree i k) refl
-    go (no n) (no m) (yes k) = own (chain (firstOf tree i) (i - 1)) (kind-chain tree i k) (inr refl)
-    go (no n) (no m) (no o) = let h = r .kind in own (either (firstOf tree i) (i - 1)) (kind-either tree i (omega arith)) (inr refl)
+    go (no n) (no m) (yes k) = own (chain (firstNumber tree i) (i - 1)) (kind-chain tree i k) (inr refl)
+    go (no n) (no m) (no o) = let h = r .kind in own (either (firstNumber tree i) (i - 1)) (kind-either tree i (omega arith)) (inr refl)
 
 -- ---- any part
 

@@ -14,7 +14,7 @@ use Rattle.alive.specs.Steps.{Touches}
 use Rattle.index.specs.Index.{ByObject, ChainReady, Met}
 use Rattle.index.specs.Triples.{GraphFits, objectOf, subjectOf}
 use Rattle.walk.proofs.KindLaws.{kind-chain, kind-either, kind-leaf, kind-repeat, kind-test}
-use Rattle.walk.specs.Parts.{Part, chain, either, firstOf, kindOf, leaf, partOf, repeat, test}
+use Rattle.walk.specs.Parts.{Part, chain, either, firstNumber, kindOf, leaf, partOf, repeat, test}
 use Rattle.alive.proofs.States.{part-ready}
 
 -- ---- link by link
@@ -105,10 +105,10 @@ module _ {L : Lists} {links heads rest : List ℕ} (f : Fits L) (d : Linked (L .
         let p : (i * 3 + 1) / 3 ≡ i = omega arith in
         found i j (i * 3 + 1) h (omega arith) p (subst (λ x. 5 ≤ kindOf (L .tree) x → objectOf links (i * 3 + 1) ≡ x - 1) p (d .objects (i * 3 + 1) (omega arith) .body (omega arith)) k ∙ sym q)
 
-    from-first : 7 ≤ kindOf (L .tree) i → j ≡ firstOf (L .tree) i → (e : ℕ) × Met rest (getD heads j 0) e × (e / 3 ≡ i)
+    from-first : 7 ≤ kindOf (L .tree) i → j ≡ firstNumber (L .tree) i → (e : ℕ) × Met rest (getD heads j 0) e × (e / 3 ≡ i)
     from-first k q =
         let p : (i * 3 + 2) / 3 ≡ i = omega arith in
-        found i j (i * 3 + 2) h (omega arith) p (subst (λ x. 7 ≤ kindOf (L .tree) x → objectOf links (i * 3 + 2) ≡ firstOf (L .tree) x) p (d .objects (i * 3 + 2) (omega arith) .first (omega arith)) k ∙ sym q)
+        found i j (i * 3 + 2) h (omega arith) p (subst (λ x. 7 ≤ kindOf (L .tree) x → objectOf links (i * 3 + 2) ≡ firstNumber (L .tree) x) p (d .objects (i * 3 + 2) (omega arith) .first (omega arith)) k ∙ sym q)
 
     abbrev Way : Part → Type 0
     Way p = Touches (getD (L .next) i 0) p j → (e : ℕ) × Met rest (getD heads j 0) e × (e / 3 ≡ i)
@@ -127,15 +127,15 @@ module _ {L : Lists} {links heads rest : List ℕ} (f : Fits L) (d : Linked (L .
         repeating k (inl q) = from-after q
         repeating k (inr q) = from-body k q
 
-        choosing : 7 ≤ kindOf (L .tree) i → Way (either (firstOf (L .tree) i) (i - 1))
+        choosing : 7 ≤ kindOf (L .tree) i → Way (either (firstNumber (L .tree) i) (i - 1))
         choosing k (inl q) = from-first k q
         choosing k (inr q) = from-body (omega arith) q
 
         go : Dec (kindOf (L .tree) i ≡ 5) → Dec (kindOf (L .tree) i ≡ 6) → Dec (kindOf (L .tree) i ≡ 7) → Dec (kindOf (L .tree) i ≡ 8) → Way (partOf (L .tree) i)
         go (yes k) b c d = by (test (i - 1)) (kind-test (L .tree) i k) (testing (omega arith))
         go (no a) (yes k) c d = by (repeat (i - 1)) (kind-repeat (L .tree) i k) (repeating (omega arith))
-        go (no a) (no b) (yes k) d = by (chain (firstOf (L .tree) i) (i - 1)) (kind-chain (L .tree) i k) (λ q. from-first (omega arith) q)
-        go (no a) (no b) (no c) (yes k) = by (either (firstOf (L .tree) i) (i - 1)) (kind-either (L .tree) i k) (choosing (omega arith))
+        go (no a) (no b) (yes k) d = by (chain (firstNumber (L .tree) i) (i - 1)) (kind-chain (L .tree) i k) (λ q. from-first (omega arith) q)
+        go (no a) (no b) (no c) (yes k) = by (either (firstNumber (L .tree) i) (i - 1)) (kind-either (L .tree) i k) (choosing (omega arith))
         go (no a) (no b) (no c) (no e) = by leaf (kind-leaf (L .tree) i a b c e) (λ q. from-after q)
 
   pub chains-cause : Caused L heads rest

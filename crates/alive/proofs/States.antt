@@ -11,7 +11,7 @@ use Rattle.alive.specs.Lists.{AliveIn, Lists}
 use Rattle.alive.specs.Steps.{AllAlive, At, BackAt, Chain, Led, PartBack, PartReady, StateAlive, leads, leaves, turns}
 use Rattle.index.specs.Index.{ByObject, Met}
 use Rattle.walk.specs.Parts.{Child, Part, chain, either, kindOf, leaf, partOf, repeat, test}
-use Rattle.walk.specs.Walk.{begins, goes-left, goes-right, moves, passes, repeats, stops}
+use Rattle.walk.specs.Walk.{begins, goes-left, goes-right, moves, tested, repeats, stops}
 use Rattle.alive.proofs.Backward.{is-leaf, not-leaf}
 use Rattle.alive.proofs.Leaves.{LeafJoins, back-joins, joins-back, leaf-from, leaf-says, says-leaf}
 
@@ -66,7 +66,7 @@ module _ {L : Lists} (f : Fits L) where
 
       go : (p : Part) → partOf (L .tree) i ≡ p → Led B (getD (L .next) i 0) p → AliveIn L i m
       go leaf e y = absurd y
-      go (test b) e (y, z) = passes l e (up b (own (test b) e b refl) y) (up (getD (L .next) i 0) (f .query .onward i l) z)
+      go (test b) e (y, z) = tested l e (up b (own (test b) e b refl) y) (up (getD (L .next) i 0) (f .query .onward i l) z)
       go (repeat b) e (inl y) = stops l e h (up (getD (L .next) i 0) (f .query .onward i l) y)
       go (repeat b) e (inr y) = repeats l e (up b (own (repeat b) e b refl) y)
       go (chain a b) e y = begins l e (up a (own (chain a b) e a (inl refl)) y)

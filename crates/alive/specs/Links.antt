@@ -8,14 +8,14 @@ use Rattle.alive.specs.Lists.{Lists}
 use Rattle.alive.specs.Steps.{PartReady, Touches}
 use Rattle.index.specs.Index.{Met}
 use Rattle.index.specs.Triples.{objectOf, subjectOf}
-use Rattle.walk.specs.Parts.{firstOf, kindOf, partOf}
+use Rattle.walk.specs.Parts.{firstNumber, kindOf, partOf}
 
 -- The link e stands for the part e / 3, and leads from c: from what comes after it, the part before it, or its first part.
 pub record Link (tree next : List ℕ) (e c : ℕ) : Type 0 where
   pub small : c < 1024
   pub after : e % 3 ≡ 0 → c ≡ getD next (e / 3) 0
   pub body : e % 3 ≡ 1 → 5 ≤ kindOf tree (e / 3) → c ≡ e / 3 - 1
-  pub first : e % 3 ≡ 2 → 7 ≤ kindOf tree (e / 3) → c ≡ firstOf tree (e / 3)
+  pub first : e % 3 ≡ 2 → 7 ≤ kindOf tree (e / 3) → c ≡ firstNumber tree (e / 3)
 
 -- The parts are there.
 pub record LinkReady (tree next : List ℕ) (parts : ℕ) : Type 0 where

@@ -23,7 +23,7 @@ use Rattle.index.specs.Index.{BySubject, SubjectRange}
 use Rattle.index.specs.Triples.{objectOf, predicateOf}
 use Rattle.meaning.specs.Query.{Joins}
 use Rattle.walk.proofs.KindLaws.{kind-chain, kind-either, kind-repeat, kind-test}
-use Rattle.walk.specs.Parts.{Child, Part, chain, either, firstOf, kindOf, leaf, listed, partOf, repeat, test}
+use Rattle.walk.specs.Parts.{Child, Part, chain, either, firstNumber, kindOf, leaf, listed, partOf, repeat, test}
 use Rattle.walk.specs.Walk.{StepBy}
 
 -- What a part leads to, where it is p.
@@ -110,8 +110,8 @@ module _ {stamp : ℕ} where
       pub test-one : kindOf tree i ≡ 5 → At table n (i - 1) → Adds stamp states (λ y. y ≡ after * 1024 + n) (λ y. y ≡ after * 1024 + n) t₁ q₁ k₁ t₂ q₂ k₂ → Adds stamp states (PartsOnward table after n (partOf tree i)) (PartsOnward table after n (partOf tree i)) t₁ q₁ k₁ t₂ q₂ k₂
       test-one k a d = adds-same d (λ y e. from-part tree table i after n (test (i - 1)) (kind-test tree i k) y (a, e)) (λ y x. to-part tree table i after n (test (i - 1)) (kind-test tree i k) y x .1)
 
-      pub sequence-one : kindOf tree i ≡ 7 → Adds stamp states (λ y. y ≡ firstOf tree i * 1024 + n) (λ y. y ≡ firstOf tree i * 1024 + n) t₁ q₁ k₁ t₂ q₂ k₂ → Adds stamp states (PartsOnward table after n (partOf tree i)) (PartsOnward table after n (partOf tree i)) t₁ q₁ k₁ t₂ q₂ k₂
-      sequence-one k d = adds-same d (λ y e. from-part tree table i after n (chain (firstOf tree i) (i - 1)) (kind-chain tree i k) y e) (λ y x. to-part tree table i after n (chain (firstOf tree i) (i - 1)) (kind-chain tree i k) y x)
+      pub sequence-one : kindOf tree i ≡ 7 → Adds stamp states (λ y. y ≡ firstNumber tree i * 1024 + n) (λ y. y ≡ firstNumber tree i * 1024 + n) t₁ q₁ k₁ t₂ q₂ k₂ → Adds stamp states (PartsOnward table after n (partOf tree i)) (PartsOnward table after n (partOf tree i)) t₁ q₁ k₁ t₂ q₂ k₂
+      sequence-one k d = adds-same d (λ y e. from-part tree table i after n (chain (firstNumber tree i) (i - 1)) (kind-chain tree i k) y e) (λ y x. to-part tree table i after n (chain (firstNumber tree i) (i - 1)) (kind-chain tree i k) y x)
 
       module _ {t₃ q₃ : List ℕ} {k₃ : ℕ} where
         pub star-two : kindOf tree i ≡ 6 → Adds stamp states (λ y. y ≡ after * 1024 + n) (λ y. y ≡ after * 1024 + n) t₁ q₁ k₁ t₂ q₂ k₂ → Adds stamp states (λ y. y ≡ (i - 1) * 1024 + n) (λ y. y ≡ (i - 1) * 1024 + n) t₂ q₂ k₂ t₃ q₃ k₃
@@ -121,12 +121,12 @@ module _ {stamp : ℕ} where
             (λ y e. from-part tree table i after n (repeat (i - 1)) (kind-repeat tree i k) y (inr e))
             (λ y x. to-part tree table i after n (repeat (i - 1)) (kind-repeat tree i k) y x)
 
-        pub union-two : kindOf tree i ≡ 8 → Adds stamp states (λ y. y ≡ firstOf tree i * 1024 + n) (λ y. y ≡ firstOf tree i * 1024 + n) t₁ q₁ k₁ t₂ q₂ k₂ → Adds stamp states (λ y. y ≡ (i - 1) * 1024 + n) (λ y. y ≡ (i - 1) * 1024 + n) t₂ q₂ k₂ t₃ q₃ k₃
+        pub union-two : kindOf tree i ≡ 8 → Adds stamp states (λ y. y ≡ firstNumber tree i * 1024 + n) (λ y. y ≡ firstNumber tree i * 1024 + n) t₁ q₁ k₁ t₂ q₂ k₂ → Adds stamp states (λ y. y ≡ (i - 1) * 1024 + n) (λ y. y ≡ (i - 1) * 1024 + n) t₂ q₂ k₂ t₃ q₃ k₃
             → Adds stamp states (PartsOnward table after n (partOf tree i)) (PartsOnward table after n (partOf tree i)) t₁ q₁ k₁ t₃ q₃ k₃
         union-two k a b = adds-both a b
-            (λ y e. from-part tree table i after n (either (firstOf tree i) (i - 1)) (kind-either tree i k) y (inl e))
-            (λ y e. from-part tree table i after n (either (firstOf tree i) (i - 1)) (kind-either tree i k) y (inr e))
-            (λ y x. to-part tree table i after n (either (firstOf tree i) (i - 1)) (kind-either tree i k) y x)
+            (λ y e. from-part tree table i after n (either (firstNumber tree i) (i - 1)) (kind-either tree i k) y (inl e))
+            (λ y e. from-part tree table i after n (either (firstNumber tree i) (i - 1)) (kind-either tree i k) y (inr e))
+            (λ y x. to-part tree table i after n (either (firstNumber tree i) (i - 1)) (kind-either tree i k) y x)
 
 -- ---- what a leaf joins, by the triples of a subject
 

@@ -1,7 +1,7 @@
 -- What build answers and leaves (document 01, "Refused, in checking order": build uses 1 and 3 to 11). Assumes nothing.
 use mathlib.Core.List.{List, [], _∷_}
 use Rattle.calls.specs.Call.{Call, Contents, Lent, _at-least_}
-use Rattle.construct.specs.Outcome.{Gives, Refuses, headsLength, refusal, rowsLength}
+use Rattle.construct.specs.Outcome.{Gives, Refuses, headsLength, refusedAs, rowsLength}
 use Rattle.construct.specs.declared.Constructed.{Constructed}
 use Rattle.graph.specs.Fronts.{graphLists}
 use Rattle.meaning.specs.Pack.{Text}
@@ -12,4 +12,4 @@ buffers rows heads = rows at-least rowsLength ∷ heads at-least headsLength ∷
 
 -- 1, 3 to 11, or the graph
 abbrev pub Answers : Text → Constructed → Contents → Contents → Contents → Contents → Type 0
-Answers pack r nodes triples rows heads = Call (refusal 1) (Refuses pack) (Gives pack) r (graphLists nodes triples) (buffers rows heads)
+Answers pack r nodes triples rows heads = Call (refusedAs 1) (Refuses pack) (Gives pack) r (graphLists nodes triples) (buffers rows heads)

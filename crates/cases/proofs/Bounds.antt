@@ -26,7 +26,7 @@ use Rattle.meaning.specs.NoGraph.{CoreIri, CoreTriple, TooLarge}
 use Rattle.meaning.specs.Ordered.{Over}
 use Rattle.meaning.specs.Pack.{Constructor, Pack}
 use Rattle.meaning.specs.Query.{Expr}
-use Rattle.meaning.specs.Tests.{every, passes}
+use Rattle.meaning.specs.Tests.{every, thereAnd}
 use Rattle.spelling.specs.Iri.{IsTerm}
 
 -- ---- 9
@@ -108,7 +108,7 @@ module _ (P : Pack) (c : ℕ) (values : List ℕ) where
   is-term = go (getElem? (P .setting .constructors) c) refl
     where
       go : (o : Option Constructor) → getElem? (P .setting .constructors) c ≡ o
-          → T (passes (λ (k : Constructor). eqb (length values) (k .arity)) o && every (λ v. ltb v (length (P .setting .values))) values) → IsTerm P c values
+          → T (thereAnd (λ (k : Constructor). eqb (length values) (k .arity)) o && every (λ v. ltb v (length (P .setting .values))) values) → IsTerm P c values
       go none l t = absurd t
       go (some k) l t =
           let b = both (eqb (length values) (k .arity)) (every (λ v. ltb v (length (P .setting .values))) values) .0 t in

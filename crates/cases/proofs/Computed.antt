@@ -13,7 +13,7 @@ use Rattle.cases.proofs.Bounds.{is-term, not-large, not-many}
 use Rattle.cases.proofs.Run.{asked, isTerm, listed, ofPack, onPack, onQuery, onTerm, onlyIf, orElse, run, shortLists, smallCore, withGraph}
 use Rattle.cases.specs.Says.{Call, Outcome, Says, answer, ask, ask-gives, ask-refused, build, build-gives, build-refused, check, graph, is-fine, is-refused, read, read-gives, read-refused, refused, spell, spelled}
 use Rattle.construct.proofs.Accepted.{accepted-formed, none-obey, some-obeys}
-use Rattle.construct.specs.Outcome.{Gives, Refuses, counted, mixed-kinds, not-accepted, refusal, two-objects}
+use Rattle.construct.specs.Outcome.{Gives, Refuses, counted, mixed-kinds, not-accepted, refusedAs, two-objects}
 use Rattle.construct.specs.declared.Constructed.{Constructed}
 use Rattle.grammar.proofs.Agree.{reading}
 use Rattle.grammar.specs.Grammar.{IsQuery}
@@ -181,7 +181,7 @@ module _ (s : Text) (c : Call) (says : Refused s c) where
 
   with-graph : (f : Pack → Option Outcome) → ((P : Pack) → Passes s P → Right s c (f P)) → Right s c (onPack (firstRefusal s) (withGraph f))
   with-graph f gives =
-      on-pack s c (firstRefusal s) (withGraph f) (λ k e. says (refusal k) (not-accepted k e refl)) λ P is.
+      on-pack s c (firstRefusal s) (withGraph f) (λ k e. says (refusedAs k) (not-accepted k e refl)) λ P is.
       only-if s c (smallCore P) _ λ small.
       or-else s c (twoObjects? P) 10 _ (λ t. says-as (ten s P is small t)) λ not-10.
       or-else s c (mixedKinds? P) 11 _ (λ t. says-as (eleven s P is small not-10 t)) λ not-11.
@@ -206,7 +206,7 @@ ask-right q s = go (expressionOf q) refl
     no-expression n e x = let p = reading q e .0 x in let z : _≡_ {A = ℕ} 0 1 = cc in omega arith
 
     go : (o : Option Expr) → expressionOf q ≡ o → Right s (ask q) (onQuery o (λ e. onPack (firstRefusal s) (withGraph (asked e))))
-    go none n = both-refuse (refusal 2) (Prepared.no-query (no-expression n) refl)
+    go none n = both-refuse (refusedAs 2) (Prepared.no-query (no-expression n) refl)
     go (some e) h =
         with-graph s (ask q) refuses (asked e) λ P x.
         only-if s (ask q) (leb (length (pairRecords (plain P) (plain? P) P e)) maxPairs) _ λ t. says-answer s P x q e reads (leb→le _ _ t)

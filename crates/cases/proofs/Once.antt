@@ -23,7 +23,7 @@ use Rattle.pairs.specs.Answer as Pairs
 use Rattle.pairs.specs.declared.PairAnswer.{PairAnswer}
 use Rattle.prepare.proofs.Once as prepared
 use Rattle.readback.proofs.Once.{answers-once, not-both, one-number, one-pack}
-use Rattle.readback.specs.Answer.{Answers, iri as reads, no-iri, not-well-formed, refusal}
+use Rattle.readback.specs.Answer.{Answers, iri as reads, no-iri, not-well-formed, unreadAs}
 use Rattle.readback.specs.declared.ReadBack.{ReadBack}
 use Rattle.spelling.specs.Iri.{iriOf, plain}
 use Rattle.yes_no.proofs.Once as yes_no
@@ -63,7 +63,7 @@ not-zero {pack} {c = c} u (reads P d vs w b e) =
     let l = inside (P .setting .constructors) d (b .term .constructor) (b .term .listed) in
     omega arith
 
-refused-or-read : {X : Type 0} {pack t : Text} {k c : ℕ} {values : List ℕ} → Answers pack t (refusal k) → Answers pack t (record { refusal = 0; constructor = c; values = values }) → X
+refused-or-read : {X : Type 0} {pack t : Text} {k c : ℕ} {values : List ℕ} → Answers pack t (unreadAs k) → Answers pack t (record { refusal = 0; constructor = c; values = values }) → X
 refused-or-read x y = absurd (not-zero (ap (λ (r : ReadBack). r .constructor) (answers-once y x)) y)
 
 -- ---- one outcome

@@ -19,7 +19,7 @@ use Rattle.meaning.proofs.Model.Refusals.{mixedKinds?, twoObjects?}
 use Rattle.meaning.specs.Limits.{maxCoreTriples, maxIris, maxPairs}
 use Rattle.meaning.specs.Pack.{Constructor, Pack, Text}
 use Rattle.meaning.specs.Query.{Expr}
-use Rattle.meaning.specs.Tests.{every, passes}
+use Rattle.meaning.specs.Tests.{every, thereAnd}
 use Rattle.pack.specs.Checked.{Checked, accepted, firstRefusal, wellFormed, refused as stopped}
 use Rattle.spelling.proofs.CoreTerms.{plain?}
 use Rattle.spelling.specs.Iri.{iriOf, plain}
@@ -36,7 +36,7 @@ shortLists nodes triples = leb (length nodes) maxNodes && leb (length triples) m
 
 -- a constructor of the pack over as many values of the pack as its arity
 unfoldable pub isTerm : Pack → ℕ → List ℕ → Bool
-isTerm P c values = passes (λ (k : Constructor). eqb (length values) (k .arity)) (getElem? (P .setting .constructors) c) && every (λ v. ltb v (length (P .setting .values))) values
+isTerm P c values = thereAnd (λ (k : Constructor). eqb (length values) (k .arity)) (getElem? (P .setting .constructors) c) && every (λ v. ltb v (length (P .setting .values))) values
 
 -- ---- one test after another
 

@@ -3,7 +3,7 @@ use lib.ListN.{replicate, set, take}
 use mathlib.Core.Bool.{true, false}
 use mathlib.Core.List.{List, [], _∷_, _++_, map}
 use mathlib.Core.Option.{some}
-use mathlib.Core.Path.{_≡_, refl, sym, ap, _∙_}
+use mathlib.Core.Path.{_≡_, refl}
 use Prim.Native.Nat.{ℕ}
 use Prim.Native.String.{String}
 use Rattle.cases.proofs.Computed.{run-says}
@@ -19,9 +19,10 @@ use Rattle.meaning.proofs.Model.Refusals.{twoObjects?, mixedKinds?}
 use Rattle.meaning.proofs.Sample.Packs.{shapeRecord, constructorOf, atomOf, termOf, rowOf, ruleOf, sampleValues, firstDecidesSecond, sampleTypes, sampleShapes, sampleConstructors, sampleRules, romanRow, sampleWith, withRows, withRules, sample, rowTwice, twoNames, nameIsIri, secondType}
 use Rattle.meaning.specs.Ascii.{ascii}
 use Rattle.meaning.specs.Limits.{unused}
-use Rattle.meaning.specs.Member.{_∈_, here, there}
+use Rattle.meaning.proofs.Lists.Members.{map-each}
+use Rattle.meaning.specs.Member.{_∈_}
 use Rattle.meaning.specs.Pack.{Pack, Text, Literal, type, one, hasType, Constructor, ShapeRecord, Dependency, shapeOf}
-use Rattle.pack.specs.Checked.{checking}
+use Rattle.pack.proofs.Computing.{checking}
 use Rattle.spelling.proofs.CoreTerms.{plain?}
 use Rattle.spelling.specs.Iri.{slashed, joined, iriBy, spellingBy}
 use Rattle.spelling.specs.ReadBack.{split, findBy, findAllBy, argumentsBy, readFromBy, readBackBy}
@@ -173,11 +174,6 @@ computed : map (λ (c : Case). run (c .call) (c .pack)) cases ≡ map (λ (c : C
 unfolding checking encode smallCore isTerm twoObjects? mixedKinds? nodeRecords tripleRecords shapeOf walkBuilt answersYes pairRecords plain? spellingBy iriBy slashed joined unreserved hexDigit spelledByte segment split findBy findAllBy argumentsBy readFromBy readBackBy expressionOf whole parse unionBy sequenceBy stepBy atomAt readAtom leaf name label closed withStars parts joinedParts readRun stars
 computed = refl
 
--- two lists of outcomes that are the same agree at each case
-each : {A B : Type 0} (f g : A → B) (xs : List A) → map f xs ≡ map g xs → (x : A) → x ∈ xs → f x ≡ g x
-each f g (x ∷ xs) e y (here p) = let h : f x ≡ g x = cc in ap f p ∙ h ∙ ap g (sym p)
-each f g (x ∷ xs) e y (there m) = let t : map f xs ≡ map g xs = cc in each f g xs t y m
-
 -- Each case says what is so.
 pub cases-hold : (c : Case) → c ∈ cases → Says (c .pack) (c .call) (c .outcome)
-cases-hold c m = run-says (c .call) (c .pack) (c .outcome) (each (λ (c : Case). run (c .call) (c .pack)) (λ (c : Case). some (c .outcome)) cases computed c m)
+cases-hold c m = run-says (c .call) (c .pack) (c .outcome) (map-each (λ (c : Case). run (c .call) (c .pack)) (λ (c : Case). some (c .outcome)) cases computed c m)

@@ -8,7 +8,7 @@ use Rattle.calls.proofs.Meets.{every}
 use Rattle.calls.specs.Call.{Call, Lent}
 use Rattle.ciravehy.proofs.Pairs.{few-pairs}
 use Rattle.report.specs.Report.{number}
-use Rattle.construct.specs.Outcome.{Gives, Refuses, mixed-kinds, not-accepted, refusal, too-large, two-objects}
+use Rattle.construct.specs.Outcome.{Gives, Refuses, mixed-kinds, not-accepted, refusedAs, too-large, two-objects}
 use Rattle.construct.specs.declared.Constructed.{Constructed}
 use Rattle.meaning.specs.Pack.{Text}
 use Rattle.pairs.specs.Answer as Pairs
@@ -51,11 +51,11 @@ unprepared-small (Prepared.no-graph e i f) = refused-small f
 
 -- ---- the three answers: refusal 1, or what the pack and the query come to
 
-pub build-small : {pack : Text} {r : Constructed} {lists buffers : List Lent} → Call (refusal 1) (Refuses pack) (Gives pack) r lists buffers → Small (r .nodes) × Small (r .triples) × Small 0
+pub build-small : {pack : Text} {r : Constructed} {lists buffers : List Lent} → Call (refusedAs 1) (Refuses pack) (Gives pack) r lists buffers → Small (r .nodes) × Small (r .triples) × Small 0
 build-small A = let (n, t) = every Counts (zero-small, zero-small) refused-small (λ _ G. given-small G) A in (n, t, zero-small)
 
 module _ {pack query : Text} {r : YesNo} where
-  pub yes-no-small : {lists buffers : List Lent} {said : ℕ} → Call (record { graph = refusal 1; yes = false }) (YesOrNo.Refuses pack query) (YesOrNo.Gives pack query) r lists buffers → said ≡ number (r .yes)
+  pub yes-no-small : {lists buffers : List Lent} {said : ℕ} → Call (record { graph = refusedAs 1; yes = false }) (YesOrNo.Refuses pack query) (YesOrNo.Gives pack query) r lists buffers → said ≡ number (r .yes)
       → Small (r .graph .nodes) × Small (r .graph .triples) × Small said
   yes-no-small A e =
       let (n, t) = every (λ x. Counts (x .graph)) (zero-small, zero-small) (λ x. unprepared-small (x .cause)) (λ _ G. given-small (G .asked .graph)) A in
@@ -77,5 +77,5 @@ module _ {pack query : Text} {r : PairAnswer} where
       let h = few-pairs (plain P) P (G .asked .expression) (l .inOrder) (l .ordered) (G .records) (G .certain) (G .few) in
       (a, b, omega (arith, G .count))
 
-  pub pairs-small : {lists buffers : List Lent} → Call (record { graph = refusal 1; pairs = 0 }) (Pairs.Refuses pack query) (Pairs.Gives pack query) r lists buffers → All r
+  pub pairs-small : {lists buffers : List Lent} → Call (record { graph = refusedAs 1; pairs = 0 }) (Pairs.Refuses pack query) (Pairs.Gives pack query) r lists buffers → All r
   pairs-small A = every All (zero-small, zero-small, zero-small) refused-pairs given-pairs A

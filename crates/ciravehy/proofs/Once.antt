@@ -44,7 +44,7 @@ module _ (pack : Text) (nodes nodes₂ triples triples₂ rows rows₂ heads hea
   pub builds-once : SameLengths (graphLists nodes triples) (graphLists nodes₂ triples₂) → SameLengths (Build.buffers rows heads) (Build.buffers rows₂ heads₂)
       → (x : Builds pack result nodes triples rows heads report) (y : Builds pack result₂ nodes₂ triples₂ rows₂ heads₂ report₂)
       → SameReport result result₂ report report₂
-          × Same Alike (Graph.Refuses pack) (Graph.Gives pack) (x .answer) (y .answer) (graphLists nodes triples) (graphLists nodes₂ triples₂) (Build.buffers rows heads) (Build.buffers rows₂ heads₂)
+      × Same Alike (Graph.Refuses pack) (Graph.Gives pack) (x .answer) (y .answer) (graphLists nodes triples) (graphLists nodes₂ triples₂) (Build.buffers rows heads) (Build.buffers rows₂ heads₂)
   builds-once e f x y =
       let s = build.answers-once pack (x .answer) (y .answer) nodes nodes₂ triples triples₂ rows rows₂ heads heads₂ e f (x .answers) (y .answers) in
       (same-report (s .answer) refl (x .refusal) (y .refusal) (x .report) (y .report), s)
@@ -53,7 +53,7 @@ module _ (pack query : Text) (nodes nodes₂ triples triples₂ rows rows₂ hea
   pub decides-once : SameLengths (graphLists nodes triples) (graphLists nodes₂ triples₂) → SameLengths (YesOrNo.buffers rows heads alive queue) (YesOrNo.buffers rows₂ heads₂ alive₂ queue₂)
       → (x : Decides pack query result nodes triples rows heads alive queue report) (y : Decides pack query result₂ nodes₂ triples₂ rows₂ heads₂ alive₂ queue₂ report₂)
       → SameReport result result₂ report report₂
-          × Same yes-no.Alike (YesOrNo.Refuses pack query) (YesOrNo.Gives pack query) (x .answer) (y .answer) (graphLists nodes triples) (graphLists nodes₂ triples₂) (YesOrNo.buffers rows heads alive queue) (YesOrNo.buffers rows₂ heads₂ alive₂ queue₂)
+      × Same yes-no.Alike (YesOrNo.Refuses pack query) (YesOrNo.Gives pack query) (x .answer) (y .answer) (graphLists nodes triples) (graphLists nodes₂ triples₂) (YesOrNo.buffers rows heads alive queue) (YesOrNo.buffers rows₂ heads₂ alive₂ queue₂)
   decides-once e f x y =
       let s = yes-no.answers-once pack query (x .answer) (y .answer) nodes nodes₂ triples triples₂ rows rows₂ heads heads₂ alive alive₂ queue queue₂ e f (x .answers) (y .answers) in
       (same-report (s .answer .graph) (ap number (s .answer .yes-or-no)) (x .refusal) (y .refusal) (x .report) (y .report), s)
@@ -63,7 +63,7 @@ module _ (pack query : Text) (nodes nodes₂ triples triples₂ list list₂ row
       → SameLengths (Pairs.buffers rows heads alive queue seen) (Pairs.buffers rows₂ heads₂ alive₂ queue₂ seen₂)
       → (x : Finds pack query result nodes triples list rows heads alive queue seen report) (y : Finds pack query result₂ nodes₂ triples₂ list₂ rows₂ heads₂ alive₂ queue₂ seen₂ report₂)
       → SameReport result result₂ report report₂
-          × Same pairs.Alike (Pairs.Refuses pack query) (Pairs.Gives pack query) (x .answer) (y .answer) (Pairs.lists nodes triples list) (Pairs.lists nodes₂ triples₂ list₂) (Pairs.buffers rows heads alive queue seen) (Pairs.buffers rows₂ heads₂ alive₂ queue₂ seen₂)
+      × Same pairs.Alike (Pairs.Refuses pack query) (Pairs.Gives pack query) (x .answer) (y .answer) (Pairs.lists nodes triples list) (Pairs.lists nodes₂ triples₂ list₂) (Pairs.buffers rows heads alive queue seen) (Pairs.buffers rows₂ heads₂ alive₂ queue₂ seen₂)
   finds-once e f x y =
       let s = pairs.answers-once pack query (x .answer) (y .answer) nodes nodes₂ triples triples₂ list list₂ rows rows₂ heads heads₂ alive alive₂ queue queue₂ seen seen₂ e f (x .answers) (y .answers) in
       (same-report (s .answer .graph) (s .answer .pair-count) (x .refusal) (y .refusal) (x .report) (y .report), s)

@@ -9,7 +9,7 @@ use Rattle.access.proofs.Accepted.{WellFormed, well-formed}
 use Rattle.access.specs.Places.{IsWellFormed}
 use Rattle.construct.proofs.Accepted.{Accepts, none-obey, some-obeys}
 use Rattle.calls.specs.Call.{gives, refuses, _becomes_}
-use Rattle.construct.specs.Outcome.{Constructs, Gives, HasGraph, counted, mixed-kinds, not-accepted, refusal, too-large, two-objects}
+use Rattle.construct.specs.Outcome.{Constructs, Gives, HasGraph, counted, mixed-kinds, not-accepted, refusedAs, too-large, two-objects}
 use Rattle.construct.specs.Steps.{FromCore, FromHeads, OfHeads, clash, graph, large, mixed, small}
 use Rattle.construct.specs.declared.Constructed.{Constructed}
 use Rattle.meaning.specs.NoGraph.{NoGraph, TooLarge}
@@ -43,16 +43,16 @@ module _ {pack : Text} {r : Constructed} where
 
 module _ {pack : Text} {r : Constructed} {nodes nodes′ triples triples′ : List ℕ} where
   -- 3 to 8
-  pub refused-answer : (k : ℕ) → k ≡ numberOf (firstRefusal pack) → (k ≡ 0 → ⊥) → r ≡ refusal k → nodes′ ≡ nodes → triples′ ≡ triples → Constructs pack r (nodes becomes nodes′) (triples becomes triples′)
+  pub refused-answer : (k : ℕ) → k ≡ numberOf (firstRefusal pack) → (k ≡ 0 → ⊥) → r ≡ refusedAs k → nodes′ ≡ nodes → triples′ ≡ triples → Constructs pack r (nodes becomes nodes′) (triples becomes triples′)
   refused-answer k e n h x y = go (firstRefusal pack) refl e
     where
       go : (c : Checked) → firstRefusal pack ≡ c → k ≡ numberOf c → Constructs pack r (nodes becomes nodes′) (triples becomes triples′)
-      go (refused m) w q = refuses (not-accepted m w (h ∙ ap refusal q)) (x, (y, tt))
+      go (refused m) w q = refuses (not-accepted m w (h ∙ ap refusedAs q)) (x, (y, tt))
       go (accepted P) w q = absurd (n q)
 
   module _ (a : Accepts pack) where
     -- 9, by the heads of one rule
-    pub large-heads : TooLarge (a .pack) → r ≡ refusal 9 → nodes′ ≡ nodes → triples′ ≡ triples → Constructs pack r (nodes becomes nodes′) (triples becomes triples′)
+    pub large-heads : TooLarge (a .pack) → r ≡ refusedAs 9 → nodes′ ≡ nodes → triples′ ≡ triples → Constructs pack r (nodes becomes nodes′) (triples becomes triples′)
     large-heads h q x y = refuses (too-large (a .pack) (a .all) h q) (x, (y, tt))
 
     -- 10, 11, or the graph

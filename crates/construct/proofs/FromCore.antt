@@ -4,7 +4,7 @@ use mathlib.Core.List.{List, [], _∷_, _++_, append-nil}
 use mathlib.Core.Path.{_≡_, ap, subst, _∙_}
 use native.Mathlib.Omega.{arith}
 use Prim.Native.Nat.{ℕ, suc, _+_, _<_}
-use Rattle.construct.specs.Outcome.{clashing, counted, refusal}
+use Rattle.construct.specs.Outcome.{clashing, counted, refusedAs}
 use Rattle.construct.specs.Steps.{CoreGiven, FromCore, OfCore, clash, graph, mixed}
 use Rattle.construct.specs.declared.Constructed.{Constructed}
 use Rattle.graph.proofs.ClashRecords.{clash-place}
@@ -24,7 +24,7 @@ module _ (table : List (List ℕ)) (arities nodes triples masks out out′ edges
   pub graph-answer : (n t : ℕ) → r ≡ Graph n t → (a : Constructed) → a ≡ counted n t → OfCore table arities nodes triples masks (λ P. FromCore P a out out′ edges edges′)
   graph-answer n t e a q P I A = graph n t (subst (BuildShown table arities nodes triples masks out out′ edges edges′) e shown P I A) q
 
-  pub mixed-answer : r ≡ Mixed → (a : Constructed) → a ≡ refusal 11 → OfCore table arities nodes triples masks (λ P. FromCore P a out out′ edges edges′)
+  pub mixed-answer : r ≡ Mixed → (a : Constructed) → a ≡ refusedAs 11 → OfCore table arities nodes triples masks (λ P. FromCore P a out out′ edges edges′)
   mixed-answer e a q P I A =
       let s = subst (BuildShown table arities nodes triples masks out out′ edges edges′) e shown in
       mixed (s .2 P I .0) (s .2 P I .1) q (s .0) (s .1)

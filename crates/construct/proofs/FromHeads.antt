@@ -9,7 +9,7 @@ use mathlib.Core.Path.{_≡_, subst}
 use native.Mathlib.Omega.{arith}
 use Prim.Native.Nat.{ℕ, _≤_, _<_}
 use Rattle.access.proofs.Accepted.{well-formed}
-use Rattle.construct.specs.Outcome.{headsLength, refusal}
+use Rattle.construct.specs.Outcome.{headsLength, refusedAs}
 use Rattle.construct.specs.Steps.{CoreGiven, FromCore, FromHeads, HeadsGiven, OfCore, OfHeads, large, small}
 use Rattle.construct.specs.declared.Constructed.{Constructed}
 use Rattle.core.proofs.Fits.{heads-fit}
@@ -47,7 +47,7 @@ module _ (s : List ℕ) (found : AllHeads) (heads : List ℕ) (table rules : Lis
 
   module _ (nodes triples masks : List ℕ) (r : Outcome) (answer : CoreAnswer r table rules (found .count) heads (found .counts) nodes triples masks) where
     -- 9
-    pub large-answer : {out out′ edges edges′ : List ℕ} (a : Constructed) → r ≡ TooLarge → a ≡ refusal 9 → out′ ≡ out → edges′ ≡ edges
+    pub large-answer : {out out′ edges edges′ : List ℕ} (a : Constructed) → r ≡ TooLarge → a ≡ refusedAs 9 → out′ ≡ out → edges′ ≡ edges
         → OfHeads s found heads (λ P. FromHeads P a out out′ edges edges′)
     large-answer a e q x y P w f =
         large (subst (λ o. CoreAnswer o table rules (found .count) heads (found .counts) nodes triples masks) e answer P (f .held rules (numbers P w)) (bounded s P w)) q x y

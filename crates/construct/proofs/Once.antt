@@ -6,7 +6,7 @@ use mathlib.Core.List.{List, [], _∷_, flatten}
 use mathlib.Core.Path.{_≡_, refl, sym, ap, subst, _∙_}
 use Prim.Native.Nat.{ℕ}
 use Rattle.calls.proofs.Once.{Fixed}
-use Rattle.construct.specs.Outcome.{Gives, NoneObeys, Refuses, SomeObeys, counted, mixed-kinds, not-accepted, refusal, too-large, two-objects}
+use Rattle.construct.specs.Outcome.{Gives, NoneObeys, Refuses, SomeObeys, counted, mixed-kinds, not-accepted, refusedAs, too-large, two-objects}
 use Rattle.construct.specs.declared.Constructed.{Constructed}
 use Rattle.meaning.proofs.Theory.OneGraph.{graph-unique}
 use Rattle.meaning.specs.Listing.{GraphLists}
@@ -45,7 +45,7 @@ accepted-once pack x y = one-pack x y
 module _ {pack : Text} {r s : Constructed} where
   -- of two refusals
   pub one-refusal : Refuses pack r → Refuses pack s → Alike r s
-  one-refusal (not-accepted k e q) (not-accepted m f p) = equal (q ∙ ap refusal (one-number e f) ∙ sym p)
+  one-refusal (not-accepted k e q) (not-accepted m f p) = equal (q ∙ ap refusedAs (one-number e f) ∙ sym p)
   one-refusal (not-accepted k e q) (too-large P a l p) = not-both e a
   one-refusal (not-accepted k e q) (two-objects P a n o t u v w c p) = not-both e a
   one-refusal (not-accepted k e q) (mixed-kinds P a n o t m p) = not-both e a

@@ -20,8 +20,8 @@ abbrev pub clashNumbers : ℕ  -- three node records and a predicate
 clashNumbers = 22
 
 -- A refusal gives its number, and nothing else.
-abbrev pub refusal : ℕ → Constructed
-refusal k = record { refusal = k; nodes = 0; triples = 0; clash = replicate clashNumbers 0 }
+abbrev pub refusedAs : ℕ → Constructed
+refusedAs k = record { refusal = k; nodes = 0; triples = 0; clash = replicate clashNumbers 0 }
 
 -- 10: "one such node, predicate and two objects are given, the nodes as node records of the core"
 abbrev pub clashing : List ℕ → ℕ → List ℕ → List ℕ → Constructed
@@ -52,11 +52,11 @@ NoneObeys P = (G : Graph) → ¬ Obeys (plain P) P G
 
 -- Refusals 3 to 11. Demand 3: 10 and 11 only where no finite graph obeys.
 pub data Refuses (pack : Text) (r : Constructed) : Type 0 where
-  not-accepted : (k : ℕ) → firstRefusal pack ≡ refused k → r ≡ refusal k → Refuses pack r
-  too-large : (P : Pack) → firstRefusal pack ≡ accepted P → TooLarge P → r ≡ refusal 9 → Refuses pack r
+  not-accepted : (k : ℕ) → firstRefusal pack ≡ refused k → r ≡ refusedAs k → Refuses pack r
+  too-large : (P : Pack) → firstRefusal pack ≡ accepted P → TooLarge P → r ≡ refusedAs 9 → Refuses pack r
   two-objects : (P : Pack) → firstRefusal pack ≡ accepted P → ¬ TooLarge P → NoneObeys P → (subject : List ℕ) (predicate : ℕ) (first second : List ℕ)
       → ClashGiven P subject predicate first second → r ≡ clashing subject predicate first second → Refuses pack r
-  mixed-kinds : (P : Pack) → firstRefusal pack ≡ accepted P → ¬ TooLarge P → NoneObeys P → ¬ TwoObjects P → MixedKinds P → r ≡ refusal 11
+  mixed-kinds : (P : Pack) → firstRefusal pack ≡ accepted P → ¬ TooLarge P → NoneObeys P → ¬ TwoObjects P → MixedKinds P → r ≡ refusedAs 11
       → Refuses pack r
 
 -- The pack is P, which passes 3 to 9 and which some finite graph obeys; its graph has n nodes and t triples, and these are

@@ -3,7 +3,7 @@ use mathlib.Core.List.{List}
 use mathlib.Core.Path.{_≡_}
 use Prim.Native.Nat.{ℕ}
 use Rattle.calls.specs.Call.{_becomes_}
-use Rattle.construct.specs.Outcome.{clashing, counted, refusal}
+use Rattle.construct.specs.Outcome.{clashing, counted, refusedAs}
 use Rattle.construct.specs.declared.Constructed.{Constructed}
 use Rattle.core.specs.Bounds.{Bounded}
 use Rattle.graph.specs.Build.{GraphWritten}
@@ -22,12 +22,12 @@ module _ (P : Pack) (r : Constructed) (nodes nodes′ triples triples′ : List 
   pub data FromCore : Type 0 where
     clash : (subject : List ℕ) (predicate : ℕ) (first second : List ℕ) → ClashGiven P subject predicate first second
         → r ≡ clashing subject predicate first second → nodes′ ≡ nodes → triples′ ≡ triples → FromCore
-    mixed : ¬ TwoObjects P → MixedKinds P → r ≡ refusal 11 → nodes′ ≡ nodes → triples′ ≡ triples → FromCore
+    mixed : ¬ TwoObjects P → MixedKinds P → r ≡ refusedAs 11 → nodes′ ≡ nodes → triples′ ≡ triples → FromCore
     graph : (n t : ℕ) → GraphWritten P n t (nodes becomes nodes′) (triples becomes triples′) → r ≡ counted n t → FromCore
 
   -- 9, or one of these
   pub data FromHeads : Type 0 where
-    large : TooLarge P → r ≡ refusal 9 → nodes′ ≡ nodes → triples′ ≡ triples → FromHeads
+    large : TooLarge P → r ≡ refusedAs 9 → nodes′ ≡ nodes → triples′ ≡ triples → FromHeads
     small : ¬ TooLarge P → FromCore → FromHeads
 
 -- The core's numbers are those of some pack; what is answered is true of each.

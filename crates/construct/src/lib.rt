@@ -16,7 +16,7 @@ ghost use lib.ListN.{length};
 ghost use mathlib.Core.Path.{_≡_};
 ghost use Prim.Native.Nat.{_≤_};
 ghost use Rattle.calls.specs.Call.{lent};
-ghost use Rattle.construct.specs.Outcome.{Constructs, headsLength, refusal, rowsLength};
+ghost use Rattle.construct.specs.Outcome.{Constructs, headsLength, refusedAs, rowsLength};
 ghost use Rattle.construct.specs.Steps.{CoreGiven, FromCore, FromHeads, HeadsGiven, OfCore, OfHeads};
 ghost use Rattle.meaning.specs.Limits.{nodeListLength, tripleListLength};
 
@@ -35,7 +35,7 @@ pub struct Constructed {
 
 // A refusal other than 10.
 pub fn refused(k: u8) -> Constructed
-    ensures { λ r. ⌜ r ≡ refusal k ⌝ }
+    ensures { λ r. ⌜ r ≡ refusedAs k ⌝ }
 {
     Constructed {
         refusal: k,

@@ -18,7 +18,7 @@ use Rattle.answers.specs.Graph.{HeldIn, JoinedPair, Numbered, Resolved, view}
 use Rattle.answers.specs.declared.pairs.Pairs.{Pairs}
 use Rattle.answers.specs.declared.pairs.Pairs.the-variants.{Listed, TooMany}
 use Rattle.evaluate.proofs.Built.{built-listed, built-whole}
-use Rattle.evaluate.proofs.Given.{formed, some-graph}
+use Rattle.evaluate.proofs.InLists.{formed, some-graph}
 use Rattle.evaluate.proofs.Held.{graph-fits, held-in, inOrder, node-list, right-numbers}
 use Rattle.evaluate.proofs.KindOrder.{named-first}
 use Rattle.evaluate.proofs.CertainPairs.{not-too-many, pairs-are, too-many}

@@ -13,7 +13,7 @@ use Rattle.alive.specs.Lists.{Lists}
 use Rattle.answers.specs.Graph.{HeldIn, Numbered, Resolved}
 use Rattle.core.proofs.Declared.{edge-predicate}
 use Rattle.evaluate.proofs.Built.{in-order-at}
-use Rattle.evaluate.proofs.Given.{formed}
+use Rattle.evaluate.proofs.InLists.{formed}
 use Rattle.meaning.proofs.Lists.Places.{inside, placed, same-at, there-is}
 use Rattle.evaluate.specs.GraphIn.{GraphIn}
 use Rattle.evaluate.specs.Named.{byPlace}

@@ -1,6 +1,6 @@
 pub mod Answers
 pub mod Built
-pub mod Given
+pub mod InLists
 pub mod Held
 pub mod KindOrder
 pub mod Over

@@ -5,7 +5,7 @@ use mathlib.Core.Path.{_≡_}
 use native.Mathlib.Omega.{arith}
 use Prim.Native.Nat.{ℕ, _≤_, _<_}
 use Rattle.access.specs.Places.{IsWellFormed}
-use Rattle.evaluate.proofs.Given.{formed}
+use Rattle.evaluate.proofs.InLists.{formed}
 use Rattle.evaluate.specs.Answered.{Ready}
 use Rattle.index.specs.Index.{ChainReady}
 use Rattle.meaning.specs.Pack.{Text}

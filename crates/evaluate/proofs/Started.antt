@@ -6,7 +6,7 @@ use native.Mathlib.Omega.{arith}
 use Prim.Native.Nat.{ℕ, _≤_}
 use Rattle.alive.specs.Worklist.{Unmarked, states}
 use Rattle.meaning.specs.Pack.{Text}
-use Rattle.query.specs.Answer.{Answered, Held}
+use Rattle.query.specs.Answer.{Answered, HoldsQuery}
 use Rattle.query.specs.declared.Query.the-variants.{Parts}
 use Rattle.query.specs.declared.Query.{Query}
 use Rattle.sets.specs.Buffers.{zeros}
@@ -22,5 +22,5 @@ cleared table before queue e a b = record {
   below = λ x l. let h = ap (λ t. getD t x 0) e ∙ getD-replicate (length before) x 0 0 (omega arith) in omega arith;
 }
 
-pub as-held : (q : Query) (query : Text) (tree : List ℕ) {n : ℕ} → Answered q query tree → q ≡ Parts n → Held query tree n
+pub as-held : (q : Query) (query : Text) (tree : List ℕ) {n : ℕ} → Answered q query tree → q ≡ Parts n → HoldsQuery query tree n
 as-held q query tree a e = subst (λ x. Answered x query tree) e a

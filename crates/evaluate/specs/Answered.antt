@@ -16,7 +16,7 @@ use Rattle.meaning.specs.Limits.{maxPairs}
 use Rattle.meaning.specs.Member.{_∈_}
 use Rattle.meaning.specs.Pack.{Pack, Text}
 use Rattle.meaning.specs.Query.{Expr}
-use Rattle.query.specs.Answer.{Held}
+use Rattle.query.specs.Answer.{HoldsQuery}
 use Rattle.spelling.specs.Iri.{plain}
 
 -- The numbers are those of pairs of two nodes, each below 1,024.
@@ -26,7 +26,7 @@ AllPairs xs = (x : ℕ) → x ∈ xs → x < 1048576
 -- The lists hold a pack's graph, and the tree the query's parts.
 pub record Ready (pack query : Text) (tree : List ℕ) (parts : ℕ) (nodes : List ℕ) (count : ℕ) (triples : List ℕ) (edges : ℕ) : Type 0 where
   pub graph : SomeGraph pack nodes count triples edges
-  pub held : Held query tree parts
+  pub held : HoldsQuery query tree parts
   pub room : parts ≤ length tree
 
 module _ (pack query : Text) (nodes : List ℕ) (count : ℕ) (triples : List ℕ) (edges : ℕ) where

@@ -1,10 +1,11 @@
 -- The proved cases: the reading is computed over the table, and the agreement carries it to the grammar. Assumes nothing.
 use mathlib.Core.List.{List, [], _∷_, map}
 use mathlib.Core.Option.{Option, none, some}
-use mathlib.Core.Path.{_≡_, refl, sym, ap, _∙_}
+use mathlib.Core.Path.{_≡_, refl}
 use native.Mathlib.Omega.{arith}
 use Prim.Native.Nat.{ℕ}
-use Rattle.meaning.specs.Member.{_∈_, here, there}
+use Rattle.meaning.proofs.Lists.Members.{map-each}
+use Rattle.meaning.specs.Member.{_∈_}
 use Rattle.meaning.specs.Pack.{Text}
 use Rattle.meaning.specs.Query.{Expr}
 use Rattle.grammar.specs.Cases.{Case, Says, cases}
@@ -16,14 +17,9 @@ computed : map (λ c. expressionOf (c .text)) cases ≡ map (λ c. c .expression
 unfolding expressionOf whole parse unionBy sequenceBy stepBy atomAt atomOf leaf name label closed withStars parts joined run stars
 computed = refl
 
--- Two lists of answers that are the same agree at each case.
-each : {A B : Type 0} (f g : A → B) (xs : List A) → map f xs ≡ map g xs → (x : A) → x ∈ xs → f x ≡ g x
-each f g (x ∷ xs) e y (here p) = let h : f x ≡ g x = cc in ap f p ∙ h ∙ ap g (sym p)
-each f g (x ∷ xs) e y (there m) = let t : map f xs ≡ map g xs = cc in each f g xs t y m
-
 told : (q : Text) (o : Option Expr) → expressionOf q ≡ o → Says q o
 told q (some e) h = reading q e .1 h
 told q none h = λ e x. let p = reading q e .0 x in let z : _≡_ {A = ℕ} 0 1 = cc in omega arith
 
 pub cases-hold : (c : Case) → c ∈ cases → Says (c .text) (c .expression)
-cases-hold c m = told (c .text) (c .expression) (each (λ c. expressionOf (c .text)) (λ c. c .expression) cases computed c m)
+cases-hold c m = told (c .text) (c .expression) (map-each (λ c. expressionOf (c .text)) (λ c. c .expression) cases computed c m)

@@ -112,14 +112,14 @@ pub record Pack : Type 0 where
 
 -- ---- a type's shape for a predicate
 
-unfoldable pub firstOf : {Q : Type 0} → Dec Q → Shape → Option Shape → Option Shape
-firstOf (yes q) s o = some s
-firstOf (no n) s o = o
+unfoldable pub firstShape : {Q : Type 0} → Dec Q → Shape → Option Shape → Option Shape
+firstShape (yes q) s o = some s
+firstShape (no n) s o = o
 
 unfoldable pub shapeIn : List ShapeRecord → ℕ → ℕ → Option Shape
-unfolding Dec·and firstOf ℕ-discrete
+unfolding Dec·and firstShape ℕ-discrete
 shapeIn [] t p = none
-shapeIn (r ∷ rs) t p = firstOf (Dec·and (ℕ-discrete t (r .owner)) (ℕ-discrete p (r .predicate))) (r .shape) (shapeIn rs t p)
+shapeIn (r ∷ rs) t p = firstShape (Dec·and (ℕ-discrete t (r .owner)) (ℕ-discrete p (r .predicate))) (r .shape) (shapeIn rs t p)
 
 -- Type t's shape for p. (Two shapes that share type and predicate are refusal 5, so the first is the only one.)
 unfoldable pub shapeOf : Setting → ℕ → ℕ → Option Shape

@@ -24,9 +24,9 @@ module _ {A : Type 0} where
   anyTwo f (x ∷ xs) = any (f x) xs || anyTwo f xs
 
   -- there is an entry, and it passes the test
-  abbrev pub passes : (A → Bool) → Option A → Bool
-  passes f none = false
-  passes f (some x) = f x
+  abbrev pub thereAnd : (A → Bool) → Option A → Bool
+  thereAnd f none = false
+  thereAnd f (some x) = f x
 
 abbrev pub elem : ℕ → List ℕ → Bool
 elem n xs = any (eqb n) xs

@@ -6,7 +6,7 @@ use mathlib.Core.Bool.{Bool, true, not, _&&_, _||_}
 use mathlib.Core.List.{List, [], _∷_, map}
 use Prim.Native.Nat.{ℕ, _/_, _%_, _^_}
 use Rattle.meaning.specs.Pack.{Pack, Text, Row, Atom, Term, Head, hasType, linksTo, linksToValue, Rule, Target, Literal, type, ShapeRecord, Dependency, Constructor}
-use Rattle.meaning.specs.Tests.{every, any, anyTwo, passes, elem, sameText, begins}
+use Rattle.meaning.specs.Tests.{every, any, anyTwo, thereAnd, elem, sameText, begins}
 
 -- ---- 5: "Two values, two type names or two predicate names are equal, or two shapes share type and predicate."
 
@@ -30,14 +30,14 @@ prefixClash P = anyTwo (λ a b. begins a b || begins b a) (prefixes P)
 
 -- the record is there, and its arity is the count
 abbrev pub hasArity : List ℕ → ℕ → ℕ → Bool
-hasArity arities r count = passes (eqb count) (getElem? arities r)
+hasArity arities r count = thereAnd (eqb count) (getElem? arities r)
 
 abbrev pub constructorArities : Pack → List ℕ
 constructorArities P = map (λ (k : Constructor). k .arity) (P .setting .constructors)
 
 -- every column that the two masks name is one of the relation's k
 abbrev pub goodDependency : Pack → Dependency → Bool
-goodDependency P d = passes (λ k. ltb (d .left) (2 ^ k) && ltb (d .right) (2 ^ k)) (getElem? (P .setting .arities) (d .relation))
+goodDependency P d = thereAnd (λ k. ltb (d .left) (2 ^ k) && ltb (d .right) (2 ^ k)) (getElem? (P .setting .arities) (d .relation))
 
 abbrev pub goodType : Pack → ℕ → Bool
 goodType P t = ltb t (length (P .setting .types))

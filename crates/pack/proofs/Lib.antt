@@ -13,3 +13,4 @@ pub mod Naming
 pub mod Atoms
 pub mod Order
 pub mod Bounds
+pub mod Computing

@@ -11,7 +11,7 @@ use native.Mathlib.Nat.{not-suc-le-zero, le-of-suc-le-suc, pow-le-pow-right}
 use native.Mathlib.Omega.{arith}
 use Prim.Native.Nat.{ℕ, zero, suc, _+_, _-_, _^_, _≤_, _<_}
 use Rattle.meaning.specs.Pack.{Pack, Constructor}
-use Rattle.meaning.specs.Tests.{within, passes}
+use Rattle.meaning.specs.Tests.{within, thereAnd}
 use Rattle.meaning.specs.WellFormed.{hasArity, constructorArities, goodTarget, goodShape}
 use Rattle.pack.specs.Kinds.{Sought}
 use Rattle.pack.specs.Named.{shapeNamed}
@@ -97,7 +97,7 @@ module _ {s : List ℕ} {c : Cursor} (b : BodyAt s 6 c) (P : Pack) (e : unpack s
   listed : readAll constructor (left s c) ≡ some (P .setting .constructors)
   listed = in-body constructor b (unpacked s P e .constructors .0)
 
-  arity-of : (o : Option Constructor) → getElem? (P .setting .constructors) k ≡ o → passes (eqb count) (Option·map (λ (x : Constructor). x .arity) o) ≡ hasArity (constructorArities P) k count
+  arity-of : (o : Option Constructor) → getElem? (P .setting .constructors) k ≡ o → thereAnd (eqb count) (Option·map (λ (x : Constructor). x .arity) o) ≡ hasArity (constructorArities P) k count
   arity-of o h = rw (entry-map (λ (x : Constructor). x .arity) (P .setting .constructors) k, h)
 
   pub arguments-stuck : Listed constructor (left s c) (λ xs. drop k xs ≡ []) → false ≡ hasArity (constructorArities P) k count

@@ -7,7 +7,7 @@ use native.Mathlib.Omega.{arith}
 use Prim.Native.Nat.{ℕ}
 use Rattle.meaning.specs.Pack.{Pack}
 use Rattle.meaning.specs.WellFormed.{duplicates, prefixClash, dangling}
-use Rattle.pack.specs.Checked.{accepted, firstOf, onPack, checkBy, wellFormed, numberOf}
+use Rattle.pack.specs.Checked.{accepted, firstTrue, onPack, checkBy, wellFormed, numberOf}
 use Rattle.pack.specs.Contents.{badSize}
 use Rattle.pack.specs.Unpack.{unpack, isSome}
 
@@ -31,20 +31,20 @@ module _ (s : List ℕ) (size : badSize s ≡ false) where
 
   module _ (P : Pack) (read : unpack s ≡ some P) where
     pub refused-5 : duplicates P ≡ true → 5 ≡ numberOf (wellFormed s)
-    unfolding wellFormed checkBy onPack firstOf
-    refused-5 e = rw (size, checkBy, read, e, firstOf)
+    unfolding wellFormed checkBy onPack firstTrue
+    refused-5 e = rw (size, checkBy, read, e, firstTrue)
 
     pub refused-6 : duplicates P ≡ false → prefixClash P ≡ true → 6 ≡ numberOf (wellFormed s)
-    unfolding wellFormed checkBy onPack firstOf
-    refused-6 a e = rw (size, checkBy, read, a, firstOf, e)
+    unfolding wellFormed checkBy onPack firstTrue
+    refused-6 a e = rw (size, checkBy, read, a, firstTrue, e)
 
     pub refused-7 : duplicates P ≡ false → prefixClash P ≡ false → dangling P ≡ true → 7 ≡ numberOf (wellFormed s)
-    unfolding wellFormed checkBy onPack firstOf
-    refused-7 a b e = rw (size, checkBy, read, a, firstOf, b, e)
+    unfolding wellFormed checkBy onPack firstTrue
+    refused-7 a b e = rw (size, checkBy, read, a, firstTrue, b, e)
 
     pub accepted-is : duplicates P ≡ false → prefixClash P ≡ false → dangling P ≡ false → wellFormed s ≡ accepted P
-    unfolding wellFormed checkBy onPack firstOf
-    accepted-is a b e = rw (size, checkBy, read, a, firstOf, b, e)
+    unfolding wellFormed checkBy onPack firstTrue
+    accepted-is a b e = rw (size, checkBy, read, a, firstTrue, b, e)
 
     pub accepted-number : duplicates P ≡ false → prefixClash P ≡ false → dangling P ≡ false → 0 ≡ numberOf (wellFormed s)
     accepted-number a b e = rw (accepted-is a b e)

@@ -4,9 +4,9 @@ use mathlib.Core.List.{List, [], _∷_}
 use mathlib.Core.Option.{Option, none, some}
 use Prim.Native.Nat.{ℕ}
 use Rattle.meaning.specs.Pack.{Pack}
-use Rattle.meaning.specs.WellFormed.{duplicates, prefixClash, dangling, broken, agree}
+use Rattle.meaning.specs.WellFormed.{duplicates, prefixClash, dangling, broken}
 use Rattle.pack.specs.Contents.{badSize}
-use Rattle.pack.specs.Unpack.{unpack, unpacking}
+use Rattle.pack.specs.Unpack.{unpack}
 
 pub data Checked : Type 0 where
   refused : ℕ → Checked
@@ -17,13 +17,13 @@ abbrev pub Refusal : Type 0
 Refusal = ℕ × (Pack → Bool)
 
 -- the number of the first one that is true
-unfoldable pub firstOf : List Refusal → Pack → Checked
-firstOf [] P = accepted P
-firstOf (r ∷ rs) P = elim (r .1 P) [ true ↦ refused (r .0) | false ↦ firstOf rs P ]
+unfoldable pub firstTrue : List Refusal → Pack → Checked
+firstTrue [] P = accepted P
+firstTrue (r ∷ rs) P = elim (r .1 P) [ true ↦ refused (r .0) | false ↦ firstTrue rs P ]
 
 unfoldable pub onPack : List Refusal → Option Pack → Checked
 onPack rs none = refused 4
-onPack rs (some P) = firstOf rs P
+onPack rs (some P) = firstTrue rs P
 
 -- 3, 4, then those of the list
 unfoldable pub checkBy : List Refusal → List ℕ → Checked
@@ -41,8 +41,3 @@ firstRefusal = checkBy ((5, duplicates) ∷ (6, prefixClash) ∷ (7, dangling) �
 abbrev pub numberOf : Checked → ℕ
 numberOf (refused n) = n
 numberOf (accepted P) = 0
-
--- opens the checks for computation
-unfoldable pub checking : Unit {0}
-unfolding unpacking firstOf onPack checkBy wellFormed firstRefusal duplicates prefixClash dangling agree broken
-checking = tt

@@ -5,8 +5,8 @@ use Rattle.pack.specs.Records.{anyByte, letter, prefixByte, variable}
 use Rattle.pack.specs.declared.bytes.Class.{Class}
 use Rattle.pack.specs.declared.bytes.Class.the-variants.{Any, Letter, Prefix, Variable}
 
-abbrev pub passes : Class → ℕ → Bool
-passes Any = anyByte
-passes Letter = letter
-passes Prefix = prefixByte
-passes Variable = variable
+abbrev pub inClass : Class → ℕ → Bool
+inClass Any = anyByte
+inClass Letter = letter
+inClass Prefix = prefixByte
+inClass Variable = variable

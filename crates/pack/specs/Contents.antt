@@ -27,8 +27,3 @@ bodyOf s k = take (lengthOf s k) (drop (startOf s k) s)
 -- 3: "The pack is under 36 or over 65,536 bytes, or 36 plus the lengths is not its size." The sum is exact.
 unfoldable pub badSize : List ℕ → Bool
 badSize s = not (within contentsBytes maxPackBytes (length s) && eqb (startOf s 9) (length s))
-
--- opens the contents
-unfoldable pub contents : Unit {0}
-unfolding word lengthOf startOf bodyOf badSize
-contents = tt

@@ -53,8 +53,3 @@ unfoldable pub sized : (ℕ → Bool) → ℕ → ℕ → Reader (List ℕ)
 sized ok lo hi = do
   n ← byteIn lo hi
   bytes ok n
-
--- opens the readers
-unfoldable pub readers : Unit {0}
-unfolding byte byteIn bytes sized
-readers = tt

@@ -6,7 +6,7 @@ use Prim.Native.Nat.{ℕ, zero, suc}
 use Rattle.meaning.specs.Limits.{maxValueBytes, maxColumns, maxNameBytes, literalTarget, maxArguments, maxPrefixBytes, maxAtoms, maxVariables}
 use Rattle.meaning.specs.Pack.{Text, Target, Literal, type, Multiplicity, one, optional, anyNumber, atLeastOne, ShapeRecord, Row, Atom, Term, Head, hasType, linksTo, linksToValue, Rule, Dependency, Constructor}
 use Rattle.meaning.specs.Tests.{within, elem}
-use Rattle.pack.specs.Readers.{Reader, give, only, _>>=_, byte, byteIn, sized, readers}
+use Rattle.pack.specs.Readers.{Reader, give, only, _>>=_, byte, byteIn, sized}
 
 -- ---- bytes that a text may hold
 
@@ -136,8 +136,3 @@ rowOf r xs = record { relation = r; cells = xs }
 
 unfoldable pub row : Reader Row
 row = tuple rowOf anyByte maxColumns
-
--- opens the kinds of record
-unfoldable pub recordKinds : Unit {0}
-unfolding readers prefixByte value relation dependency name targetOf multiplicityOf shape constructor tuple atom atoms term headOf rule row
-recordKinds = tt

@@ -8,9 +8,9 @@ use mathlib.Core.Path.{_≡_}
 use Prim.Native.Nat.{ℕ, zero, suc}
 use Rattle.meaning.specs.Limits.{maxValues, maxRelations, maxDependencies, maxTypes, maxPredicates, maxShapes, maxConstructors, maxRules, maxRows}
 use Rattle.meaning.specs.Pack.{Pack}
-use Rattle.pack.specs.Contents.{bodyOf, contents}
+use Rattle.pack.specs.Contents.{bodyOf}
 use Rattle.pack.specs.Readers.{Reader}
-use Rattle.pack.specs.Records.{value, relation, dependency, name, shape, constructor, rule, row, recordKinds}
+use Rattle.pack.specs.Records.{value, relation, dependency, name, shape, constructor, rule, row}
 
 module _ {A : Type 0} where
   abbrev pub also : A → Option (List A) → Option (List A)
@@ -71,8 +71,3 @@ Listed {A} reader s Q = (xs : List A) → readAll reader s ≡ some xs → Q xs
 -- It holds of the decoded pack, where there is one.
 abbrev pub Decoded : List ℕ → (Pack → Type 0) → Type 0
 Decoded s Q = (P : Pack) → unpack s ≡ some P → Q P
-
--- opens unpack and all that it goes by
-unfoldable pub unpacking : Unit {0}
-unfolding contents recordKinds records readAll body unpack
-unpacking = tt

@@ -5,7 +5,7 @@ ghost use lib.ListN.{length};
 ghost use lib.Seq.{slice};
 ghost use Rattle.meaning.specs.Tests.{within, every, elem};
 ghost use Rattle.pack.specs.Records.{prefixByte};
-ghost use Rattle.pack.specs.Classes.{passes};
+ghost use Rattle.pack.specs.Classes.{inClass};
 use meaning::MAX_VARIABLES;
 
 // What the bytes of a text may be.
@@ -58,7 +58,7 @@ pub fn prefix_byte(b: u8) -> bool
 }
 
 pub fn byte_passes(class: Class, b: u8) -> bool
-    ensures { λ r. ⌜ r ≡ passes class b ⌝ }
+    ensures { λ r. ⌜ r ≡ inClass class b ⌝ }
 {
     match class {
         Class::Any => true,
@@ -71,7 +71,7 @@ pub fn byte_passes(class: Class, b: u8) -> bool
 // Whether each of the n bytes at a place is of the class.
 fn each_passes(s: &[u8], at: usize, n: usize, class: Class) -> bool
     requires { ⌜ at + n ≤ length (now s) ⌝ }
-    ensures { λ r. ⌜ r ≡ every (passes class) (slice at (at + n) (now (s .entry))) ⌝ }
+    ensures { λ r. ⌜ r ≡ every (inClass class) (slice at (at + n) (now (s .entry))) ⌝ }
 {
     let end = at + n;
     let mut i = at;
@@ -87,7 +87,7 @@ fn each_passes(s: &[u8], at: usize, n: usize, class: Class) -> bool
 // The same: any byte is of the class Any.
 pub fn all_pass(s: &[u8], at: usize, n: usize, class: Class) -> bool
     requires { ⌜ at + n ≤ length (now s) ⌝ }
-    ensures { λ r. ⌜ r ≡ every (passes class) (slice at (at + n) (now (s .entry))) ⌝ }
+    ensures { λ r. ⌜ r ≡ every (inClass class) (slice at (at + n) (now (s .entry))) ⌝ }
 {
     match class {
         Class::Any => true,

@@ -1,7 +1,7 @@
 // A cursor over a body's bytes. Each method reads one record, or a part of one, and returns it with the moved cursor.
 ghost use Rattle.pack.specs.Readers.{byte, byteIn, sized};
 ghost use Rattle.pack.specs.Records.{value, relation, dependency, name, shape, constructor, tuple, atom, atomOf, term, termOf, row, rowOf, atoms, rule};
-ghost use Rattle.pack.specs.Classes.{passes};
+ghost use Rattle.pack.specs.Classes.{inClass};
 ghost use Rattle.pack.specs.Shown.{Placed, pair, ByteShown, TextShown, DependencyShown, ShapeShown, ConstructorShown, TupleShown, MovedShown, HeadShown, RuleShown};
 use crate::bytes::Class;
 use crate::bytes::all_pass;
@@ -142,7 +142,7 @@ impl Cursor {
     // A length or count in bounds, and that many bytes of the class.
     pub fn sized(self, s: &[u8], class: Class, lo: u8, hi: u8) -> TextRead
         requires { ⌜ Placed (now s) self ⌝ }
-        ensures { λ r. ⌜ TextShown (sized (passes class) lo hi) (now (s .entry)) self r ⌝ }
+        ensures { λ r. ⌜ TextShown (sized (inClass class) lo hi) (now (s .entry)) self r ⌝ }
     {
         let ByteRead::Byte { value, next } = self.byte_in(s, lo, hi) else {
             return TextRead::Bad;
@@ -288,7 +288,7 @@ impl Cursor {
     // A number, a count from 1 to the bound, and that many bytes of the class.
     pub fn tuple(self, s: &[u8], class: Class, most: u8) -> TupleRead
         requires { ⌜ Placed (now s) self ⌝ }
-        ensures { λ r. ⌜ TupleShown pair (tuple pair (passes class) most) (now (s .entry)) self r ⌝ }
+        ensures { λ r. ⌜ TupleShown pair (tuple pair (inClass class) most) (now (s .entry)) self r ⌝ }
     {
         let ByteRead::Byte {
             value: number,

@@ -8,9 +8,9 @@ use Prim.Native.Nat.{ℕ, _*_, _≤_}
 use Rattle.answers.specs.declared.pairs.Pairs.the-variants.{Listed, TooMany}
 use Rattle.answers.specs.declared.pairs.Pairs.{Pairs}
 use Rattle.calls.specs.Call.{Contents, gives, refuses, _becomes_}
-use Rattle.construct.specs.Outcome.{refusal}
+use Rattle.construct.specs.Outcome.{refusedAs}
 use Rattle.construct.specs.declared.Constructed.{Constructed}
-use Rattle.evaluate.proofs.Given.{graph-in}
+use Rattle.evaluate.proofs.InLists.{graph-in}
 use Rattle.evaluate.proofs.Started.{length-zeros}
 use Rattle.evaluate.specs.Answered.{PairsIn}
 use Rattle.evaluate.specs.GraphIn.{GraphIn}
@@ -56,7 +56,7 @@ module _ {pack query : Text} {tree : List ℕ} {parts : ℕ} {g : Constructed} {
   abbrev graph : GraphIn pack (b .ready .graph .of) points (g .nodes) links (g .triples)
   graph = b .ready .graph .graph
 
-  pub over : {nodes triples pairs : List ℕ} {h : Constructed} → x ≡ TooMany → h ≡ refusal 12
+  pub over : {nodes triples pairs : List ℕ} {h : Constructed} → x ≡ TooMany → h ≡ refusedAs 12
       → Comes pack query (record { graph = h; pairs = 0 }) (nodes becomes nodes) (triples becomes triples) (pairs becomes pairs)
   over e h =
       let t = subst (λ y. PairsIn pack query points (g .nodes) links (g .triples) y found) e p (b .ready .graph .of) graph (b .ready .held .expression) (b .ready .held .query) in

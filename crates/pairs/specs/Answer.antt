@@ -5,7 +5,7 @@ use mathlib.Core.Path.{_≡_}
 use Prim.Native.Nat.{ℕ}
 use Rattle.alive.specs.Worklist.{states}
 use Rattle.calls.specs.Call.{Call, Contents, Lent, _at-least_}
-use Rattle.construct.specs.Outcome.{SomeObeys, headsLength, refusal, rowsLength}
+use Rattle.construct.specs.Outcome.{SomeObeys, headsLength, refusedAs, rowsLength}
 use Rattle.grammar.specs.Grammar.{IsQuery}
 use Rattle.graph.specs.Fronts.{graphLists}
 use Rattle.meaning.specs.Certain.{PairList, TooManyPairs}
@@ -21,7 +21,7 @@ use Rattle.spelling.specs.Iri.{plain}
 -- 2, then 3 to 11, then 12; the pair count is then 0
 pub data Refuses (pack query : Text) (r : PairAnswer) : Type 0 where
   before-12 : Prepared.Refuses pack query (r .graph) → r .pairs ≡ 0 → Refuses pack query r
-  too-many : (e : Expr) → IsQuery query e → (P : Pack) → firstRefusal pack ≡ accepted P → ¬ TooLarge P → SomeObeys P → TooManyPairs (plain P) P e → r .graph ≡ refusal 12 → r .pairs ≡ 0
+  too-many : (e : Expr) → IsQuery query e → (P : Pack) → firstRefusal pack ≡ accepted P → ¬ TooLarge P → SomeObeys P → TooManyPairs (plain P) P e → r .graph ≡ refusedAs 12 → r .pairs ≡ 0
       → Refuses pack query r
 
 -- The graph, and the pairs: "exactly the pairs of named nodes that the query joins in every such graph", ascending; their
@@ -47,4 +47,4 @@ buffers rows heads alive queue seen =
 -- 1 to 12, or the graph and the pairs
 abbrev pub Answers : Text → Text → PairAnswer → Contents → Contents → Contents → Contents → Contents → Contents → Contents → Contents → Type 0
 Answers pack query r nodes triples pairs rows heads alive queue seen =
-    Call (record { graph = refusal 1; pairs = 0 }) (Refuses pack query) (Gives pack query) r (lists nodes triples pairs) (buffers rows heads alive queue seen)
+    Call (record { graph = refusedAs 1; pairs = 0 }) (Refuses pack query) (Gives pack query) r (lists nodes triples pairs) (buffers rows heads alive queue seen)

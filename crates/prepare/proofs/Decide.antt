@@ -6,29 +6,29 @@ use native.Mathlib.Omega.{arith}
 use Prim.Native.Nat.{ℕ, _≤_}
 use Rattle.calls.specs.Call.{Contents, Kept, Outcome, Written, gives, refuses}
 use Rattle.construct.proofs.Decide.{refuses-some}
-use Rattle.construct.specs.Outcome.{Constructs, refusal}
+use Rattle.construct.specs.Outcome.{Constructs, refusedAs}
 use Rattle.construct.specs.declared.Constructed.{Constructed}
 use Rattle.graph.specs.Fronts.{graphLists}
 use Rattle.meaning.specs.Limits.{maxQueryBytes}
 use Rattle.meaning.specs.Pack.{Text}
 use Rattle.prepare.specs.Prepared.{Gives, Prepares, Readied, Refuses, no-graph, no-query}
 use Rattle.prepare.specs.declared.Prepared.{Prepared}
-use Rattle.query.specs.Answer.{Answered, Held}
+use Rattle.query.specs.Answer.{Answered, HoldsQuery}
 use Rattle.query.specs.declared.Query.the-variants.{NoExpression, Parts}
 use Rattle.query.specs.declared.Query.{Query}
 
 -- ---- what the code finds
 
 -- 2
-pub not-read : (q : Query) (query tree : List ℕ) {pack : Text} {g : Constructed} {n : ℕ} (nodes triples : Contents) → Answered q query tree → q ≡ NoExpression → g ≡ refusal 2
+pub not-read : (q : Query) (query tree : List ℕ) {pack : Text} {g : Constructed} {n : ℕ} (nodes triples : Contents) → Answered q query tree → q ≡ NoExpression → g ≡ refusedAs 2
     → Kept (graphLists nodes triples) → Prepares pack query tree (record { graph = g; parts = n }) nodes triples
 not-read q query tree nodes triples a e h k = refuses (no-query (subst (λ y. Answered y query tree) e a) h) k
 
-pub as-held : (q : Query) (query tree : List ℕ) {n : ℕ} → Answered q query tree → q ≡ Parts n → Held query tree n
+pub as-held : (q : Query) (query tree : List ℕ) {n : ℕ} → Answered q query tree → q ≡ Parts n → HoldsQuery query tree n
 as-held q query tree a e = subst (λ x. Answered x query tree) e a
 
 -- 3 to 11, or the graph
-pub built : {pack query : Text} {tree : List ℕ} {g : Constructed} {n : ℕ} (nodes triples : Contents) → Held query tree n → maxQueryBytes ≤ length tree → Constructs pack g nodes triples
+pub built : {pack query : Text} {tree : List ℕ} {g : Constructed} {n : ℕ} (nodes triples : Contents) → HoldsQuery query tree n → maxQueryBytes ≤ length tree → Constructs pack g nodes triples
     → Prepares pack query tree (record { graph = g; parts = n }) nodes triples
 built nodes triples h l (refuses x k) = refuses (no-graph (h .expression) (h .query) x) k
 built nodes triples h l (gives fs G w) = gives fs (record { graph = G; held = h; room = let a = h .few in let b = h .query .fits in omega arith }) w

@@ -6,18 +6,18 @@ use mathlib.Core.Path.{_≡_}
 use Prim.Native.Nat.{ℕ, _≤_}
 use Rattle.calls.specs.Call.{Contents, Outcome}
 use Rattle.construct.specs.Outcome as Graph
-use Rattle.construct.specs.Outcome.{refusal}
+use Rattle.construct.specs.Outcome.{refusedAs}
 use Rattle.construct.specs.declared.Constructed.{Constructed}
 use Rattle.grammar.specs.Grammar.{IsQuery}
 use Rattle.graph.specs.Fronts.{graphLists}
 use Rattle.meaning.specs.Pack.{Text}
 use Rattle.meaning.specs.Query.{Expr}
 use Rattle.prepare.specs.declared.Prepared.{Prepared}
-use Rattle.query.specs.Answer.{Held, Refusal2}
+use Rattle.query.specs.Answer.{HoldsQuery, Refusal2}
 
 -- 2, or 3 to 11
 pub data Refuses (pack query : Text) (g : Constructed) : Type 0 where
-  no-query : Refusal2 query → g ≡ refusal 2 → Refuses pack query g
+  no-query : Refusal2 query → g ≡ refusedAs 2 → Refuses pack query g
   no-graph : (e : Expr) → IsQuery query e → Graph.Refuses pack g → Refuses pack query g
 
 -- The query is an expression within its bounds, and the pack has a graph.
@@ -29,7 +29,7 @@ pub record Gives (pack query : Text) (g : Constructed) (fronts : List (List ℕ)
 -- In code the expression's parts stand in a tree.
 pub record Readied (pack query : Text) (tree : List ℕ) (p : Prepared) (fronts : List (List ℕ)) : Type 0 where
   pub graph : Graph.Gives pack (p .graph) fronts
-  pub held : Held query tree (p .parts)
+  pub held : HoldsQuery query tree (p .parts)
   pub room : p .parts ≤ length tree
 
 abbrev pub Prepares : Text → Text → List ℕ → Prepared → Contents → Contents → Type 0

@@ -8,7 +8,7 @@ use Prim.Native.Nat.{ℕ, _≤_, _<_}
 use Rattle.meaning.specs.Limits.{maxOpenBrackets, maxQueryBytes}
 use Rattle.meaning.specs.Pack.{Text}
 use Rattle.meaning.specs.Query.{Expr}
-use Rattle.query.specs.Answer.{Held, Refusal2}
+use Rattle.query.specs.Answer.{HoldsQuery, Refusal2}
 use Rattle.grammar.specs.Grammar.{aUnion, IsQuery}
 use Rattle.grammar.specs.Parse.{Out, ok, parse}
 use Rattle.query.specs.Reading.{Reading}
@@ -34,7 +34,7 @@ module _ {q t t′ : List ℕ} {good : Bool} {j m : ℕ} (r : Reading q t t′ 0
       let b = s .within in
       ne (omega arith)
 
-  pub a-query : good ≡ true → j ≡ length q → length q ≤ maxQueryBytes → Held q t′ m
+  pub a-query : good ≡ true → j ≡ length q → length q ≤ maxQueryBytes → HoldsQuery q t′ m
   a-query h z le =
       let s = is-stored r h in
       let mv = s .moved in

@@ -14,12 +14,12 @@ abbrev pub Refusal2 : Text → Type 0
 Refusal2 q = (e : Expr) → IsQuery q e → ⊥
 
 -- The parts of t below n hold the expression of the query; there are no more parts than bytes.
-pub record Held (q : Text) (t : List ℕ) (n : ℕ) : Type 0 where
+pub record HoldsQuery (q : Text) (t : List ℕ) (n : ℕ) : Type 0 where
   pub expression : Expr
   pub query : IsQuery q expression
   pub holds : Holds q t 0 expression n
   pub few : n ≤ length q
 
 abbrev pub Answered : Query → Text → List ℕ → Type 0
-Answered (Parts n) q t = Held q t n
+Answered (Parts n) q t = HoldsQuery q t n
 Answered NoExpression q t = Refusal2 q

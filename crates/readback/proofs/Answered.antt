@@ -15,7 +15,7 @@ use Rattle.meaning.specs.Pack.{Pack, Text, Constructor}
 use Rattle.pack.proofs.Unpacking.{unpacked}
 use Rattle.pack.specs.Checked.{Checked, refused, accepted, wellFormed, numberOf}
 use Rattle.pack.proofs.Bounds.{constructor-bounded}
-use Rattle.readback.specs.Answer.{Answers, not-well-formed, no-iri, iri, refusal, term, read}
+use Rattle.readback.specs.Answer.{Answers, not-well-formed, no-iri, iri, unreadAs, term, read}
 use Rattle.readback.specs.declared.ReadBack.{ReadBack}
 use Rattle.readback.specs.Held.{OfPack, TextsHeld, ConstructorsHeld}
 use Rattle.spelling.proofs.Answer.{spelled-is-read, read-is-spelled, not-read, tables-read}
@@ -25,7 +25,7 @@ use Rattle.spelling.specs.Places.{Placed, Tables, textsAt, constructorsAt, iriR
 use Rattle.spelling.specs.ReadBack.{readFromBy, readBack}
 use Rattle.spelling.specs.Segment.{segment}
 
-pub read-none : (found : IriRead) → found .ok ≡ false → read found ≡ refusal 13
+pub read-none : (found : IriRead) → found .ok ≡ false → read found ≡ unreadAs 13
 read-none found e = rw e
 
 pub read-some : (found : IriRead) → found .ok ≡ true → read found ≡ record { refusal = 0; constructor = found .constructor; values = found .values }
@@ -33,11 +33,11 @@ read-some found e = rw e
 
 -- ---- a pack that is not well formed
 
-pub refused-answer : (pack text : Text) (k : ℕ) (r : ReadBack) → k ≡ numberOf (wellFormed pack) → (k ≡ 0 → ⊥) → r ≡ refusal k → Answers pack text r
+pub refused-answer : (pack text : Text) (k : ℕ) (r : ReadBack) → k ≡ numberOf (wellFormed pack) → (k ≡ 0 → ⊥) → r ≡ unreadAs k → Answers pack text r
 refused-answer pack text k r e n h = go (wellFormed pack) refl e
   where
     go : (c : Checked) → wellFormed pack ≡ c → k ≡ numberOf c → Answers pack text r
-    go (refused m) w q = not-well-formed m w (h ∙ ap refusal q)
+    go (refused m) w q = not-well-formed m w (h ∙ ap unreadAs q)
     go (accepted P) w q = absurd (n q)
 
 -- ---- a well-formed pack

@@ -6,7 +6,7 @@ use Prim.Native.Nat.{ℕ}
 use Rattle.access.proofs.Accepted.{well-formed}
 use Rattle.meaning.specs.Pack.{Pack, Text}
 use Rattle.pack.specs.Checked.{Checked, accepted, refused}
-use Rattle.readback.specs.Answer.{Answers, iri, no-iri, not-well-formed, refusal, term}
+use Rattle.readback.specs.Answer.{Answers, iri, no-iri, not-well-formed, unreadAs, term}
 use Rattle.readback.specs.declared.ReadBack.{ReadBack}
 use Rattle.spelling.proofs.Injective.{segment-writes}
 use Rattle.spelling.proofs.Reading.{reads-back-once}
@@ -24,7 +24,7 @@ module _ {c : Checked} where
 
 module _ {pack text : Text} {r s : ReadBack} where
   pub answers-once : Answers pack text r → Answers pack text s → r ≡ s
-  answers-once (not-well-formed k e q) (not-well-formed m f p) = q ∙ ap refusal (one-number e f) ∙ sym p
+  answers-once (not-well-formed k e q) (not-well-formed m f p) = q ∙ ap unreadAs (one-number e f) ∙ sym p
   answers-once (not-well-formed k e q) (no-iri P w n p) = not-both e w
   answers-once (not-well-formed k e q) (iri P c vs w b p) = not-both e w
   answers-once (no-iri P w n q) (not-well-formed m f p) = not-both f w

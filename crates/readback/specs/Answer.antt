@@ -12,8 +12,8 @@ use Rattle.spelling.specs.declared.iri.IriRead.{IriRead}
 use Rattle.spelling.specs.ReadBack.{ReadsBack}
 
 -- a refusal's number, every other place unused
-abbrev pub refusal : ℕ → ReadBack
-refusal k = record { refusal = k; constructor = unused; values = padded [] }
+abbrev pub unreadAs : ℕ → ReadBack
+unreadAs k = record { refusal = k; constructor = unused; values = padded [] }
 
 -- "the constructor number and, in argument order, as many value numbers as its arity, 65,535 in places unused"; refusal 0
 abbrev pub term : ℕ → List ℕ → ReadBack
@@ -21,10 +21,10 @@ term c vs = record { refusal = 0; constructor = c; values = padded vs }
 
 -- what was read of the text: the term, or that it is none
 abbrev pub read : IriRead → ReadBack
-read found = cond (found .ok) (record { refusal = 0; constructor = found .constructor; values = found .values }) (refusal 13)
+read found = cond (found .ok) (record { refusal = 0; constructor = found .constructor; values = found .values }) (unreadAs 13)
 
 -- "Read-back uses 3 to 7, then 13": "The text is no IRI of the pack's constructors over its values."
 pub data Answers (pack text : Text) (r : ReadBack) : Type 0 where
-  not-well-formed : (k : ℕ) → wellFormed pack ≡ refused k → r ≡ refusal k → Answers pack text r
-  no-iri : (P : Pack) → wellFormed pack ≡ accepted P → ((c : ℕ) (vs : List ℕ) → ReadsBack P text c vs → ⊥) → r ≡ refusal 13 → Answers pack text r
+  not-well-formed : (k : ℕ) → wellFormed pack ≡ refused k → r ≡ unreadAs k → Answers pack text r
+  no-iri : (P : Pack) → wellFormed pack ≡ accepted P → ((c : ℕ) (vs : List ℕ) → ReadsBack P text c vs → ⊥) → r ≡ unreadAs 13 → Answers pack text r
   iri : (P : Pack) (c : ℕ) (vs : List ℕ) → wellFormed pack ≡ accepted P → ReadsBack P text c vs → r ≡ term c vs → Answers pack text r

@@ -4,7 +4,7 @@ ghost use mathlib.Core.Path.{_≡_};
 ghost use Prim.Native.Nat.{_+_, _≤_};
 ghost use Rattle.access.specs.Places.{IsWellFormed};
 ghost use Rattle.meaning.specs.Limits.{maxValues, maxConstructors};
-ghost use Rattle.readback.specs.Answer.{Answers, refusal, read};
+ghost use Rattle.readback.specs.Answer.{Answers, unreadAs, read};
 ghost use Rattle.readback.specs.Held.{OfPack, TextsHeld, ConstructorsHeld, SamePlace};
 use meaning::MAX_ARGUMENTS;
 use meaning::MAX_CONSTRUCTORS;
@@ -25,7 +25,7 @@ pub struct ReadBack {
 }
 
 fn refused(k: u8) -> ReadBack
-    ensures { λ r. ⌜ r ≡ refusal k ⌝ }
+    ensures { λ r. ⌜ r ≡ unreadAs k ⌝ }
 {
     ReadBack {
         refusal: k,

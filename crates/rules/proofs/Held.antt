@@ -18,7 +18,7 @@ use Rattle.meaning.proofs.Model.Resolved.{Bound, headTerms, headVariables, reso
 use Rattle.meaning.specs.Member.{_∈_, here, there}
 use Rattle.meaning.specs.Pack.{Atom, Head, Pack, Row, Rule, Term, hasType, linksTo, linksToValue}
 use Rattle.meaning.specs.Tables.{RowsHeld}
-use Rattle.meaning.specs.Tests.{every, passes}
+use Rattle.meaning.specs.Tests.{every, thereAnd}
 use Rattle.meaning.specs.WellFormed.{dangling, goodAtom, goodDependency, goodHead, goodRow, goodRule, goodShape, hasArity}
 use Rattle.pack.proofs.Unpacking.{unpacked}
 use Rattle.pack.specs.Contents.{bodyOf}
@@ -32,7 +32,7 @@ use Rattle.rules.specs.declared.numbers.RuleNumbers.{RuleNumbers}
 same-arity : (arities : List ℕ) (r m n : ℕ) → T (hasArity arities r m) → T (hasArity arities r n) → m ≡ n
 same-arity arities r m n = go (getElem? arities r)
   where
-    go : (o : Option ℕ) → T (passes (eqb m) o) → T (passes (eqb n) o) → m ≡ n
+    go : (o : Option ℕ) → T (thereAnd (eqb m) o) → T (thereAnd (eqb n) o) → m ≡ n
     go none a b = absurd a
     go (some k) a b = eqb→eq m k a ∙ sym (eqb→eq n k b)
 

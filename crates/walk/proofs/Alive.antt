@@ -6,7 +6,7 @@ use native.Mathlib.Omega.{arith}
 use Prim.Native.Nat.{ℕ, zero, suc, _<_}
 use Rattle.meaning.specs.Query.{Expr, nested, sequence, union, star, View, Repeated, none, more, Joins}
 use Rattle.walk.specs.Parts.{Part, leaf, test, repeat, chain, either, Linked, Threaded}
-use Rattle.walk.specs.Walk.{StepBy, Step, Reached, start, onward, Alive, ended, moves, passes, stops, repeats, begins, goes-left, goes-right, Saturated, EdgesJoinNodes}
+use Rattle.walk.specs.Walk.{StepBy, Step, Reached, start, onward, Alive, ended, moves, tested, stops, repeats, begins, goes-left, goes-right, Saturated, EdgesJoinNodes}
 use Rattle.walk.proofs.Meanings.{before, kept, kept-back, joins-from, joins-to}
 
 -- The alive states are the least saturated set.
@@ -17,7 +17,7 @@ module _ (G : View) (part : ℕ → Part) (leaves : ℕ → Expr) (next : ℕ �
   pub alive-least : (B : ℕ → G .Node → Type 0) → Saturated G part leaves next done B → {i : ℕ} {n : G .Node} → Alive₀ i n → B i n
   alive-least B s (ended {n = n}) = s .ends n
   alive-least B s (moves {i = i} {n = n} {m = m} l e j a) = s .back i (next i) n m (l, subst (λ p. StepBy G part leaves next done B p i n (next i) m) (sym e) (refl, j)) (alive-least B s a)
-  alive-least B s (passes {i = i} {n = n} l e b a) = s .back i (next i) n n (l, subst (λ p. StepBy G part leaves next done B p i n (next i) n) (sym e) (refl, refl, alive-least B s b)) (alive-least B s a)
+  alive-least B s (tested {i = i} {n = n} l e b a) = s .back i (next i) n n (l, subst (λ p. StepBy G part leaves next done B p i n (next i) n) (sym e) (refl, refl, alive-least B s b)) (alive-least B s a)
   alive-least B s (stops {i = i} {n = n} l e h a) = s .back i (next i) n n (l, subst (λ p. StepBy G part leaves next done B p i n (next i) n) (sym e) (refl, inl (refl, h))) (alive-least B s a)
   alive-least B s (repeats {i = i} {body = b} {n = n} l e a) = s .back i b n n (l, subst (λ p. StepBy G part leaves next done B p i n b n) (sym e) (refl, inr refl)) (alive-least B s a)
   alive-least B s (begins {i = i} {left = b} {n = n} l e a) = s .back i b n n (l, subst (λ p. StepBy G part leaves next done B p i n b n) (sym e) (refl, refl)) (alive-least B s a)
@@ -29,7 +29,7 @@ module _ (G : View) (part : ℕ → Part) (leaves : ℕ → Expr) (next : ℕ �
     where
       go : (i j : ℕ) (n m : G .Node) → i < done → (p : Part) → part i ≡ p → StepBy G part leaves next done Alive₀ p i n j m → Alive₀ j m → Alive₀ i n
       go i j n m l leaf e (q, x) a = moves l e x (subst (λ k. Alive₀ k m) q a)
-      go i j n m l (test b) e (q, r, x) a = passes l e x (subst (λ k. Alive₀ k n) q (subst (λ o. Alive₀ j o) (sym r) a))
+      go i j n m l (test b) e (q, r, x) a = tested l e x (subst (λ k. Alive₀ k n) q (subst (λ o. Alive₀ j o) (sym r) a))
       go i j n m l (repeat b) e (r, inl (q, h)) a = stops l e h (subst (λ k. Alive₀ k n) q (subst (λ o. Alive₀ j o) (sym r) a))
       go i j n m l (repeat b) e (r, inr q) a = repeats l e (subst (λ k. Alive₀ k n) q (subst (λ o. Alive₀ j o) (sym r) a))
       go i j n m l (chain b c) e (r, q) a = begins l e (subst (λ k. Alive₀ k n) q (subst (λ o. Alive₀ j o) (sym r) a))
@@ -136,7 +136,7 @@ module _ (G : View) (whole : EdgesJoinNodes G) (part : ℕ → Part) (leaves : �
       go leaf e (k, s) rec = moves l e (subst (λ y. Joins G y n m) s j) a
       go (test b) e (k, (lt, s)) rec =
           let (p, o, x) = subst (λ y. Joins G y n m) s j in
-          passes l e (rec b lt n o x (subst (λ y. Alive′ y o) (sym k) ended)) (subst (λ y. Alive′ (next i) y) (sym p) a)
+          tested l e (rec b lt n o x (subst (λ y. Alive′ y o) (sym k) ended)) (subst (λ y. Alive′ (next i) y) (sym p) a)
       go (repeat b) e (k, (lt, s)) rec =
           let (v, r) = subst (λ y. Joins G y n m) s j in
           kept-back (λ o. Alive′ i o) (λ o u x w. repeats l e (rec b lt o u x (subst (λ y. Alive′ y u) (sym k) w))) r

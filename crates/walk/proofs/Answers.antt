@@ -8,7 +8,7 @@ use Prim.Native.Nat.{ℕ, zero, suc, _+_, _-_, _≤_, _<_}
 use Rattle.meaning.specs.Pack.{Text}
 use Rattle.meaning.specs.Query.{Expr, View, Joins, Satisfied}
 use Rattle.query.proofs.TreeLaws.{holds-lt}
-use Rattle.query.specs.Answer.{Held}
+use Rattle.query.specs.Answer.{HoldsQuery}
 use Rattle.walk.specs.Parts.{Part, leaf, test, repeat, chain, either, partOf, leafOf, Child, Linked, Threaded, listed}
 use Rattle.walk.specs.Walk.{Reached, Alive, EdgesJoinNodes}
 use Rattle.walk.proofs.Alive.{Says, forward, backward}
@@ -16,7 +16,7 @@ use Rattle.walk.proofs.Expressions.{exprOf, expr-says, root-at}
 use Rattle.walk.proofs.Trees.{Nest, below, holds-nest}
 
 -- What is to be done after a part is one of the parts, or the end.
-pub next-within : (q : Text) (t next : List ℕ) (n : ℕ) → Held q t n → Threaded (partOf t) (listed next) n → (i : ℕ) → i < n → listed next i ≤ n
+pub next-within : (q : Text) (t next : List ℕ) (n : ℕ) → HoldsQuery q t n → Threaded (partOf t) (listed next) n → (i : ℕ) → i < n → listed next i ≤ n
 next-within q t next n held threaded i l = from n i (omega arith) l
   where
     nest : Nest t 0 n
@@ -37,7 +37,7 @@ next-within q t next n held threaded i l = from n i (omega arith) l
         after i p (partOf t p) b (λ d y. nest .within p d (omega arith) b y .1) x (from f p (omega arith) b) (threaded .linked p b))
         (λ s. let r = threaded .root in let e : n - 1 ≡ i = omega arith in subst (λ y. listed next y ≤ n) e (omega arith))
 
-module _ (G : View) (whole : EdgesJoinNodes G) (q : Text) (t next : List ℕ) (n : ℕ) (held : Held q t n) (threaded : Threaded (partOf t) (listed next) n) where
+module _ (G : View) (whole : EdgesJoinNodes G) (q : Text) (t next : List ℕ) (n : ℕ) (held : HoldsQuery q t n) (threaded : Threaded (partOf t) (listed next) n) where
   short : n ≤ 256
   short = let a = held .few in let b = held .query .fits in omega arith
 

@@ -5,7 +5,7 @@ use mathlib.Core.Path.{_≡_}
 use Prim.Native.Nat.{ℕ, _-_}
 use Rattle.meaning.specs.Pack.{Text}
 use Rattle.meaning.specs.Query.{stay, step, anyStep, atIri, atLiteral}
-use Rattle.walk.specs.Parts.{leaf, test, repeat, chain, either, kindOf, firstOf, partBy, partOf, partText, leafBy, leafOf}
+use Rattle.walk.specs.Parts.{leaf, test, repeat, chain, either, kindOf, firstNumber, partBy, partOf, partText, leafBy, leafOf}
 
 module _ (t : List ℕ) (i : ℕ) where
   pub kind-test : kindOf t i ≡ 5 → partOf t i ≡ test (i - 1)
@@ -16,11 +16,11 @@ module _ (t : List ℕ) (i : ℕ) where
   unfolding partOf partBy
   kind-repeat e = rw e
 
-  pub kind-chain : kindOf t i ≡ 7 → partOf t i ≡ chain (firstOf t i) (i - 1)
+  pub kind-chain : kindOf t i ≡ 7 → partOf t i ≡ chain (firstNumber t i) (i - 1)
   unfolding partOf partBy
   kind-chain e = rw e
 
-  pub kind-either : kindOf t i ≡ 8 → partOf t i ≡ either (firstOf t i) (i - 1)
+  pub kind-either : kindOf t i ≡ 8 → partOf t i ≡ either (firstNumber t i) (i - 1)
   unfolding partOf partBy
   kind-either e = rw e
 

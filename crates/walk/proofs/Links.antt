@@ -8,7 +8,7 @@ use native.Mathlib.Decide.{ℕ-discrete}
 use native.Mathlib.Omega.{arith}
 use Prim.Native.Nat.{ℕ, zero, suc, _+_, _-_, _≤_, _<_}
 use Rattle.query.proofs.TreeLaws.{holds-lt}
-use Rattle.walk.specs.Parts.{Part, leaf, test, repeat, chain, either, Child, Ordered, kindOf, firstOf, partOf, Linked, Threaded, listed}
+use Rattle.walk.specs.Parts.{Part, leaf, test, repeat, chain, either, Child, Ordered, kindOf, firstNumber, partOf, Linked, Threaded, listed}
 use Rattle.walk.specs.Threading.{PartReady, PartLinked, Threadable}
 use Rattle.walk.proofs.KindLaws.{kind-leaf, kind-test, kind-repeat, kind-chain, kind-either}
 use Rattle.walk.proofs.Trees.{Nest, holds-nest}
@@ -24,11 +24,11 @@ module _ {t next : List ℕ} {n i : ℕ} (r : PartReady t next n i) where
   pub repeat-before : kindOf t i ≡ 6 → i - 1 < i
   repeat-before e = owns (kind-repeat t i e) (i - 1) refl
 
-  pub chain-before : kindOf t i ≡ 7 → (firstOf t i < i) × (i - 1 < i)
-  chain-before e = (owns (kind-chain t i e) (firstOf t i) (inl refl), owns (kind-chain t i e) (i - 1) (inr refl))
+  pub chain-before : kindOf t i ≡ 7 → (firstNumber t i < i) × (i - 1 < i)
+  chain-before e = (owns (kind-chain t i e) (firstNumber t i) (inl refl), owns (kind-chain t i e) (i - 1) (inr refl))
 
-  pub either-before : kindOf t i ≡ 8 → (firstOf t i < i) × (i - 1 < i)
-  either-before e = (owns (kind-either t i e) (firstOf t i) (inl refl), owns (kind-either t i e) (i - 1) (inr refl))
+  pub either-before : kindOf t i ≡ 8 → (firstNumber t i < i) × (i - 1 < i)
+  either-before e = (owns (kind-either t i e) (firstNumber t i) (inl refl), owns (kind-either t i e) (i - 1) (inr refl))
 
   -- ---- what is written
 
@@ -64,14 +64,14 @@ module _ {t next : List ℕ} {n i : ℕ} (r : PartReady t next n i) where
             ∙ getD-set-other next a c u 0 (λ z. k (subst (λ p. Child p c) (sym e) (subst (Child p) (sym z) x)));
       }
 
-  pub link-chain : kindOf t i ≡ 7 → PartLinked t next (set (set next (firstOf t i) (i - 1)) (i - 1) (getD next i 0)) n i
+  pub link-chain : kindOf t i ≡ 7 → PartLinked t next (set (set next (firstNumber t i) (i - 1)) (i - 1) (getD next i 0)) n i
   link-chain e =
-      two (chain (firstOf t i) (i - 1)) (kind-chain t i e) (firstOf t i) (i - 1) (i - 1) (getD next i 0) (subst Ordered (kind-chain t i e) (r .ordered)) (chain-before e .1) (inl refl) (inr refl)
+      two (chain (firstNumber t i) (i - 1)) (kind-chain t i e) (firstNumber t i) (i - 1) (i - 1) (getD next i 0) (subst Ordered (kind-chain t i e) (r .ordered)) (chain-before e .1) (inl refl) (inr refl)
       (λ next′ x y z. (x, y ∙ sym z))
 
-  pub link-either : kindOf t i ≡ 8 → PartLinked t next (set (set next (firstOf t i) (getD next i 0)) (i - 1) (getD next i 0)) n i
+  pub link-either : kindOf t i ≡ 8 → PartLinked t next (set (set next (firstNumber t i) (getD next i 0)) (i - 1) (getD next i 0)) n i
   link-either e =
-      two (either (firstOf t i) (i - 1)) (kind-either t i e) (firstOf t i) (i - 1) (getD next i 0) (getD next i 0) (subst Ordered (kind-either t i e) (r .ordered)) (either-before e .1) (inl refl) (inr refl)
+      two (either (firstNumber t i) (i - 1)) (kind-either t i e) (firstNumber t i) (i - 1) (getD next i 0) (getD next i 0) (subst Ordered (kind-either t i e) (r .ordered)) (either-before e .1) (inl refl) (inr refl)
       (λ next′ x y z. (x ∙ sym z, y ∙ sym z))
 
 -- ---- from the root down

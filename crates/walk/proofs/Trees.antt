@@ -14,12 +14,12 @@ use Rattle.meaning.specs.Query.{Expr, stay, step, anyStep, atIri, atLiteral, ne
 use Rattle.query.proofs.TreeLaws.{holds-lt}
 use Rattle.query.specs.Tree.{At, Holds, h-stay, h-any, h-step, h-iri, h-literal, h-nested, h-star, h-sequence, h-union}
 use Rattle.query.specs.Tree.{part as number}
-use Rattle.walk.specs.Parts.{Part, leaf, test, repeat, chain, either, Child, Ordered, kindOf, firstOf, secondOf, partBy, partOf, leafBy, leafOf}
+use Rattle.walk.specs.Parts.{Part, leaf, test, repeat, chain, either, Child, Ordered, kindOf, firstNumber, secondNumber, partBy, partOf, leafBy, leafOf}
 
 -- ---- the numbers of a part
 
 module _ (t : List ℕ) (i k a b : ℕ) (e : getD t i 0 ≡ number k a b) (la : a < 256) (lb : b < 256) where
-  unpacked : (kindOf t i ≡ k) × (firstOf t i ≡ a) × (secondOf t i ≡ b)
+  unpacked : (kindOf t i ≡ k) × (firstNumber t i ≡ a) × (secondNumber t i ≡ b)
   unfolding number
   unpacked = (omega arith, omega arith, omega arith)
 

@@ -38,11 +38,11 @@ Ordered (either left right) = left < right
 abbrev pub kindOf : List ℕ → ℕ → ℕ
 kindOf t i = getD t i 0 / 65536
 
-abbrev pub firstOf : List ℕ → ℕ → ℕ
-firstOf t i = getD t i 0 / 256 % 256
+abbrev pub firstNumber : List ℕ → ℕ → ℕ
+firstNumber t i = getD t i 0 / 256 % 256
 
-abbrev pub secondOf : List ℕ → ℕ → ℕ
-secondOf t i = getD t i 0 % 256
+abbrev pub secondNumber : List ℕ → ℕ → ℕ
+secondNumber t i = getD t i 0 % 256
 
 unfoldable pub partBy : ℕ → ℕ → ℕ → Part
 partBy kind left right =
@@ -54,7 +54,7 @@ partBy kind left right =
 
 -- The part i of the list t.
 unfoldable pub partOf : List ℕ → ℕ → Part
-partOf t i = partBy (kindOf t i) (firstOf t i) (i - 1)
+partOf t i = partBy (kindOf t i) (firstNumber t i) (i - 1)
 
 unfoldable pub leafBy : ℕ → Text → Expr
 leafBy kind s =
@@ -66,7 +66,7 @@ leafBy kind s =
 
 -- The name or label of the part i, a text of the query q.
 abbrev pub partText : Text → List ℕ → ℕ → Text
-partText q t i = take (secondOf t i) (drop (firstOf t i) q)
+partText q t i = take (secondNumber t i) (drop (firstNumber t i) q)
 
 -- The expression of a part that has no parts.
 unfoldable pub leafOf : Text → List ℕ → ℕ → Expr

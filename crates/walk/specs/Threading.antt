@@ -5,7 +5,7 @@ use mathlib.Core.Path.{_≡_}
 use Prim.Native.Nat.{ℕ, _≤_, _<_}
 use Rattle.meaning.specs.Limits.{maxQueryBytes}
 use Rattle.meaning.specs.Pack.{Text}
-use Rattle.query.specs.Answer.{Held}
+use Rattle.query.specs.Answer.{HoldsQuery}
 use Rattle.walk.specs.Parts.{partOf, Child, Ordered, Linked, listed}
 
 -- The part i is one of n, and its own parts stand before it.
@@ -25,6 +25,6 @@ pub record PartLinked (t next next′ : List ℕ) (n i : ℕ) : Type 0 where
 -- The list t holds a query in its first n parts, and there is room for what is to be done after each.
 pub record Threadable (t next : List ℕ) (n : ℕ) : Type 0 where
   pub text : Text
-  pub held : Held text t n
+  pub held : HoldsQuery text t n
   pub parts : n ≤ length t
   pub room : n ≤ length next

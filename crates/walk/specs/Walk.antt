@@ -28,7 +28,7 @@ module _ (G : View) (part : ℕ → Part) (leaves : ℕ → Expr) (next : ℕ �
   pub data Alive : ℕ → G .Node → Type 0 where
     ended : {n : G .Node} → Alive done n
     moves : {i : ℕ} {n m : G .Node} → i < done → part i ≡ leaf → Joins G (leaves i) n m → Alive (next i) m → Alive i n
-    passes : {i body : ℕ} {n : G .Node} → i < done → part i ≡ test body → Alive body n → Alive (next i) n → Alive i n
+    tested : {i body : ℕ} {n : G .Node} → i < done → part i ≡ test body → Alive body n → Alive (next i) n → Alive i n
     stops : {i body : ℕ} {n : G .Node} → i < done → part i ≡ repeat body → G .IsNode n → Alive (next i) n → Alive i n
     repeats : {i body : ℕ} {n : G .Node} → i < done → part i ≡ repeat body → Alive body n → Alive i n
     begins : {i left right : ℕ} {n : G .Node} → i < done → part i ≡ chain left right → Alive left n → Alive i n

@@ -5,7 +5,7 @@ use mathlib.Core.List.{List}
 use mathlib.Core.Path.{_≡_, refl}
 use Prim.Native.Nat.{ℕ, _≤_}
 use Rattle.calls.specs.Call.{Contents, gives, refuses}
-use Rattle.evaluate.proofs.Given.{graph-in}
+use Rattle.evaluate.proofs.InLists.{graph-in}
 use Rattle.evaluate.specs.Answered.{Ready, YesIn}
 use Rattle.meaning.specs.Limits.{nodeListLength, tripleListLength}
 use Rattle.meaning.specs.Pack.{Text}

@@ -7,7 +7,7 @@ use mathlib.Core.Path.{_≡_}
 use Prim.Native.Nat.{ℕ}
 use Rattle.alive.specs.Worklist.{states}
 use Rattle.calls.specs.Call.{Call, Contents, Lent, _at-least_}
-use Rattle.construct.specs.Outcome.{headsLength, refusal, rowsLength}
+use Rattle.construct.specs.Outcome.{headsLength, refusedAs, rowsLength}
 use Rattle.graph.specs.Fronts.{graphLists}
 use Rattle.meaning.specs.Certain.{CertainYes}
 use Rattle.meaning.specs.Pack.{Text}
@@ -32,4 +32,4 @@ buffers rows heads alive queue = rows at-least rowsLength ∷ heads at-least hea
 -- 1 to 11, or the graph and the answer
 abbrev pub Answers : Text → Text → YesNo → Contents → Contents → Contents → Contents → Contents → Contents → Type 0
 Answers pack query r nodes triples rows heads alive queue =
-    Call (record { graph = refusal 1; yes = false }) (Refuses pack query) (Gives pack query) r (graphLists nodes triples) (buffers rows heads alive queue)
+    Call (record { graph = refusedAs 1; yes = false }) (Refuses pack query) (Gives pack query) r (graphLists nodes triples) (buffers rows heads alive queue)

@@ -215,3 +215,10 @@ below-in t (suc n) h = go (ℕ-discrete t n) (below-in t n)
     go : Dec (t ≡ n) → (t < n → t ∈ below n) → t ∈ (n ∷ below n)
     go (yes e) rest = here e
     go (no ne) rest = there (rest (omega arith))
+
+-- ---- what is computed of each element
+
+-- two functions that map a list to one list agree at each element
+pub map-each : {A B : Type 0} (f g : A → B) (xs : List A) → map f xs ≡ map g xs → (x : A) → x ∈ xs → f x ≡ g x
+map-each f g (x ∷ xs) e y (here p) = let h : f x ≡ g x = cc in ap f p ∙ h ∙ ap g (sym p)
+map-each f g (x ∷ xs) e y (there m) = let t : map f xs ≡ map g xs = cc in map-each f g xs t y m

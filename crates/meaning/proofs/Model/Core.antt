@@ -40,16 +40,16 @@ module _ (P : Pack) where
   onward (yes q) m o = Option·map (λ (s : Shape). (m, s .target)) o
   onward (no q) m o = none
 
-  -- the type that a fact passes on from n of type S
-  unfoldable pub passes : Node → Target → Fact → Option (Node × Target)
+  -- the type that a fact passedOn on from n of type S
+  unfoldable pub passedOn : Node → Target → Fact → Option (Node × Target)
   unfolding onward same-node
-  passes n Literal f = none
-  passes n (type t) (typed k R) = none
-  passes n (type t) (triple k p m) = onward (same-node n k) m (shapeOf (P .setting) t p)
+  passedOn n Literal f = none
+  passedOn n (type t) (typed k R) = none
+  passedOn n (type t) (triple k p m) = onward (same-node n k) m (shapeOf (P .setting) t p)
 
   unfoldable pub spread : Node × Target → List (Node × Target)
-  unfolding filterMap facts passes
-  spread q = filterMap (passes (q .0) (q .1)) (facts P)
+  unfolding filterMap facts passedOn
+  spread q = filterMap (passedOn (q .0) (q .1)) (facts P)
 
   unfoldable pub firstTypes : List (Node × Target)
   unfolding filterMap facts typedIn
@@ -120,16 +120,16 @@ module _ (P : Pack) where
     CoreTyped q = CoreType P (q .0) (q .1)
 
     reached-type : {q : Node × Target} → Reached same-pair firstTypes spread q → CoreTyped q
-    unfolding firstTypes spread passes typedIn
+    unfolding firstTypes spread passedOn typedIn
     reached-type {q} (seed h) = let r = collect-only typedIn (facts P) h in go (r .0) (given-iff (r .0) .0 (r .1)) (r .2)
       where
         go : (f : Fact) → Given P f → typedIn f ≡ some q → CoreTyped q
         go (typed n S) g e = subst CoreTyped (Option·some-injective (n, S) q e) (given g)
         go (triple n p m) g e = absurd (Option·none-ne-some q e)
     reached-type {q} (step {x} r h) =
-        let c = collect-only (passes (x .0) (x .1)) (facts P) h in go (x .0) (x .1) (c .0) (reached-type r) (given-iff (c .0) .0 (c .1)) (c .2)
+        let c = collect-only (passedOn (x .0) (x .1)) (facts P) h in go (x .0) (x .1) (c .0) (reached-type r) (given-iff (c .0) .0 (c .1)) (c .2)
       where
-        go : (n : Node) (S : Target) (f : Fact) → CoreType P n S → Given P f → passes n S f ≡ some q → CoreTyped q
+        go : (n : Node) (S : Target) (f : Fact) → CoreType P n S → Given P f → passedOn n S f ≡ some q → CoreTyped q
         go n Literal f t g e = absurd (Option·none-ne-some q e)
         go n (type t) (typed k R) c g e = absurd (Option·none-ne-some q e)
         go n (type t) (triple k p m) c g e =
@@ -137,9 +137,9 @@ module _ (P : Pack) where
             subst CoreTyped (r .3) (passed c (record { is = r .2 }) (subst (λ x. Given P (triple x p m)) (sym (r .1)) g))
 
     type-reached : {n : Node} {S : Target} → CoreType P n S → Reached same-pair firstTypes spread (n, S)
-    unfolding firstTypes spread passes typedIn onward
+    unfolding firstTypes spread passedOn typedIn onward
     type-reached (given {n} {S} g) = seed (collect-in typedIn (given-iff _ .1 g) refl)
-    type-reached (passed {n} {m} {p} {T = t} {s} c d e) = step (type-reached c) (collect-in (passes n (type t)) (given-iff _ .1 e) (go (same-node n n)))
+    type-reached (passed {n} {m} {p} {T = t} {s} c d e) = step (type-reached c) (collect-in (passedOn n (type t)) (given-iff _ .1 e) (go (same-node n n)))
       where
         go : (q : Dec (n ≡ n)) → onward q m (shapeOf (P .setting) t p) ≡ some (m, s .target)
         go (yes q) = map-eq-some-iff {B = Node × Target} (λ (s : Shape). (m, s .target)) (shapeOf (P .setting) t p) .1 (s, d .is, refl)

@@ -12,7 +12,7 @@ use Prim.Native.Nat.{ℕ, zero, suc, _<_}
 use Rattle.meaning.proofs.Lists.Members.{any-only, both, every-at}
 use Rattle.meaning.proofs.Theory.Simulation.{last}
 use Rattle.meaning.specs.Member.{_∈_, here, there}
-use Rattle.meaning.specs.Pack.{Atom, Constructor, HasShape, Head, Pack, Row, Rule, Shape, ShapeRecord, Term, firstOf, hasType, linksTo, linksToValue, shapeIn, shapeOf, type}
+use Rattle.meaning.specs.Pack.{Atom, Constructor, HasShape, Head, Pack, Row, Rule, Shape, ShapeRecord, Term, firstShape, hasType, linksTo, linksToValue, shapeIn, shapeOf, type}
 use Rattle.meaning.specs.Tests.{any, elem, every}
 use Rattle.meaning.specs.WellFormed.{constructorArities, dangling, goodAtom, goodDependency, goodHead, goodPredicate, goodRow, goodRule, goodShape, goodTarget, goodTerm, goodType, hasArity, inAtoms}
 
@@ -46,11 +46,11 @@ pub record Resolved (P : Pack) : Type 0 where
 -- a shape comes from a record
 pub shapeIn-only : (ss : List ShapeRecord) (t p : ℕ) (s : Shape) → shapeIn ss t p ≡ some s
     → (r : ShapeRecord) × (r ∈ ss) × (t ≡ r .owner) × (p ≡ r .predicate) × (r .shape ≡ s)
-unfolding shapeIn firstOf
+unfolding shapeIn firstShape
 shapeIn-only [] t p s e = absurd (Option·none-ne-some s e)
 shapeIn-only (r ∷ rs) t p s e = go (Dec·and (ℕ-discrete t (r .owner)) (ℕ-discrete p (r .predicate))) e (shapeIn-only rs t p s)
   where
-    go : (d : Dec ((t ≡ r .owner) × (p ≡ r .predicate))) → firstOf d (r .shape) (shapeIn rs t p) ≡ some s
+    go : (d : Dec ((t ≡ r .owner) × (p ≡ r .predicate))) → firstShape d (r .shape) (shapeIn rs t p) ≡ some s
         → (shapeIn rs t p ≡ some s → (q : ShapeRecord) × (q ∈ rs) × (t ≡ q .owner) × (p ≡ q .predicate) × (q .shape ≡ s))
         → (q : ShapeRecord) × (q ∈ (r ∷ rs)) × (t ≡ q .owner) × (p ≡ q .predicate) × (q .shape ≡ s)
     go (yes m) e rest = (r, here refl, m .0, m .1, Option·some-injective (r .shape) s e)

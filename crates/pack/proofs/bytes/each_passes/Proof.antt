@@ -3,14 +3,14 @@ use borrow.Author.Tests.{not-true, not-false}
 use native.Mathlib.Omega.{arith}
 use mathlib.Core.Path.{refl, sym, _∙_}
 use Prim.Native.Nat.{_-_, _+_}
-use Rattle.pack.specs.Classes.{passes}
+use Rattle.pack.specs.Classes.{inClass}
 use Rattle.pack.proofs.Runs.{Passing, passing-on, passing-stops, passing-done}
 use borrow.Author.Needs.{needs}
 use Rattle.pack.proofs.bytes.each_passes.Statement.{statement}
 use Rattle.pack.proofs.bytes.each_passes.Tie as tie
 
 abbrev Inv-loop : tie.InvT-loop
-Inv-loop s at n class end i₀ i = Passing (passes class) s at i (at + n)
+Inv-loop s at n class end i₀ i = Passing (inClass class) s at i (at + n)
 
 abbrev μ-loop : tie.MeasureT-loop
 μ-loop s at n class end i₀ i = at + n - i
