@@ -1,4 +1,3 @@
 pub mod EveryName
 pub mod Once
-pub mod Publishing
 pub mod Shell

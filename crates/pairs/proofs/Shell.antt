@@ -19,10 +19,10 @@ use Rattle.graph.proofs.Fronts.{copied}
 use Rattle.graph.specs.Fronts.{frontsOf}
 use Rattle.meaning.specs.Limits.{maxPairs, nodeListLength, pairListLength, tripleListLength}
 use Rattle.meaning.specs.Pack.{Text}
-use Rattle.pairs.proofs.Publishing.{flat-length}
+use Rattle.pair_list.proofs.Publishing.{flat-length}
+use Rattle.pair_list.specs.Written.{Fits, PairsFit, withPairs}
 use Rattle.pairs.specs.Answer.{before-12, too-many}
 use Rattle.pairs.specs.Inner.{Built, Comes, ListRoom}
-use Rattle.pairs.specs.Written.{Fits, PairsFit, withPairs}
 use Rattle.prepare.proofs.Decide.{as-readied, as-refused}
 use Rattle.prepare.specs.Prepared.{Prepares}
 use Rattle.prepare.specs.declared.Prepared.{Prepared}

@@ -1,9 +1,7 @@
 -- What the functions behind the open call ask and answer, once the lengths are known. Assumes nothing.
-use lib.ListN.{length}
 use mathlib.Core.List.{List, _++_}
 use mathlib.Core.Path.{_≡_}
-use Prim.Native.Nat.{ℕ, _≤_}
-use Rattle.alive.specs.Worklist.{states}
+use Prim.Native.Nat.{ℕ}
 use Rattle.calls.specs.Call.{Contents, LongEnough, Outcome, _becomes_}
 use Rattle.construct.specs.Outcome.{counted}
 use Rattle.construct.specs.declared.Constructed.{Constructed}
@@ -21,10 +19,6 @@ Room nodes triples pairs rows heads alive queue seen =
 -- the three output lists are long enough
 abbrev pub ListRoom : List ℕ → List ℕ → List ℕ → Type 0
 ListRoom nodes triples pairs = LongEnough (lists (nodes becomes nodes) (triples becomes triples) (pairs becomes pairs))
-
--- the tables of states and the list of states are long enough
-abbrev pub TableRoom : List ℕ → List ℕ → List ℕ → Type 0
-TableRoom alive queue seen = (states ≤ length alive) × (states ≤ length queue) × (states ≤ length seen)
 
 -- A pack's graph, counted, stands in two lists, and the query's parts in the tree.
 pub record Built (pack query : Text) (tree : List ℕ) (parts : ℕ) (g : Constructed) (points links : List ℕ) : Type 0 where

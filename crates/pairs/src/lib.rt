@@ -1,12 +1,8 @@
 // Pairs, an open call: the pairs of named nodes that a query joins in every finite graph that obeys a pack.
-mod find; // the pairs, found
-mod publish; // the graph and the pairs, written into the lent lists
-
 ghost use Rattle.calls.specs.Call.{lent};
+ghost use Rattle.pair_list.specs.Written.{TableRoom};
 ghost use Rattle.pairs.specs.Answer.{Answers};
-ghost use Rattle.pairs.specs.Inner.{Built, Comes, ListRoom, Room, TableRoom};
-use crate::find::find_pairs;
-use crate::publish::publish;
+ghost use Rattle.pairs.specs.Inner.{Built, Comes, ListRoom, Room};
 use alive::STATES;
 use answers::pairs::Pairs;
 use calls::long_enough;
@@ -19,6 +15,8 @@ use meaning::MAX_QUERY_BYTES;
 use meaning::NODE_LIST_LENGTH;
 use meaning::PAIR_LIST_LENGTH;
 use meaning::TRIPLE_LIST_LENGTH;
+use pair_list::find::find_pairs;
+use pair_list::publish::publish;
 use prepare::prepare;
 use sets::buffers::clear_u8;
 use sets::buffers::clear_u16;

@@ -1,7 +1,7 @@
--- `pairs::find::find_pairs` meets its contract. Assumes nothing.
+-- `pair_list::find::find_pairs` meets its contract. Assumes nothing.
 use borrow.Author.Needs.{needs}
-use Rattle.pairs.proofs.find.find_pairs.Statement.{statement}
-use Rattle.pairs.proofs.find.find_pairs.Tie as tie
+use Rattle.pair_list.proofs.find.find_pairs.Statement.{statement}
+use Rattle.pair_list.proofs.find.find_pairs.Tie as tie
 use Rattle.evaluate.proofs.Started.{cleared}
 
 pub find-pairs-spec : {M : Type 1} → statement M

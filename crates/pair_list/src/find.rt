@@ -3,7 +3,7 @@ ghost use lib.ListN.{length};
 ghost use Prim.Native.Nat.{_≤_};
 ghost use Rattle.evaluate.specs.Answered.{PairsIn, Ready};
 ghost use Rattle.meaning.specs.Limits.{maxPairs};
-ghost use Rattle.pairs.specs.Inner.{TableRoom};
+ghost use Rattle.pair_list.specs.Written.{TableRoom};
 use answers::pairs::Pairs;
 use evaluate::pairs::pairs;
 use sets::buffers::clear_u8;

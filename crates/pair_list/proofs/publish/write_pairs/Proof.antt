@@ -1,11 +1,11 @@
--- `pairs::publish::write_pairs` meets its contract: in its loop, the pairs before are written. Assumes nothing.
+-- `pair_list::publish::write_pairs` meets its contract: in its loop, the pairs before are written. Assumes nothing.
 use borrow.Author.Needs.{needs}
 use lib.ListN.{getD, length-set}
 use native.Mathlib.Omega.{arith}
 use Prim.Native.Nat.{_-_, _*_, _/_, _≤_}
-use Rattle.pairs.proofs.Publishing.{Publishing, published, publishing-again, publishing-start, small-at}
-use Rattle.pairs.proofs.publish.write_pairs.Statement.{statement}
-use Rattle.pairs.proofs.publish.write_pairs.Tie as tie
+use Rattle.pair_list.proofs.Publishing.{Publishing, published, publishing-again, publishing-start, small-at}
+use Rattle.pair_list.proofs.publish.write_pairs.Statement.{statement}
+use Rattle.pair_list.proofs.publish.write_pairs.Tie as tie
 
 abbrev Inv-loop : tie.InvT-loop
 Inv-loop found k pairs₀ i₀ pairs i = (i ≤ k) × Publishing found i pairs₀ pairs

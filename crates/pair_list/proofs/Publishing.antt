@@ -8,7 +8,7 @@ use Prim.Native.Nat.{ℕ, zero, suc, _+_, _*_, _/_, _%_, _≤_, _<_}
 use Rattle.evaluate.specs.Answered.{AllPairs}
 use Rattle.evaluate.specs.Named.{pairOf}
 use Rattle.meaning.specs.Member.{_∈_, here, there}
-use Rattle.pairs.specs.Written.{withPairs}
+use Rattle.pair_list.specs.Written.{withPairs}
 
 pub flat-length : (xs : List ℕ) → length (flatten (map pairOf xs)) ≡ length xs * 2
 unfolding flatten

@@ -1,7 +1,9 @@
--- What is written into the lent lists: pairs as two 16-bit numbers each, and the graph. Assumes nothing.
+-- What is written into the lent lists, pairs as two 16-bit numbers each and the graph; and what they are searched with. Assumes
+-- nothing.
 use lib.ListN.{drop, length, take}
 use mathlib.Core.List.{List, _++_, flatten, map}
 use Prim.Native.Nat.{ℕ, _*_, _≤_}
+use Rattle.alive.specs.Worklist.{states}
 use Rattle.evaluate.specs.Answered.{AllPairs}
 use Rattle.evaluate.specs.Named.{pairOf}
 use Rattle.meaning.specs.Limits.{pairNumbers}
@@ -17,3 +19,9 @@ Fits n src dst = (n ≤ length src) × (n ≤ length dst)
 -- so are k pairs
 abbrev pub PairsFit : ℕ → List ℕ → List ℕ → Type 0
 PairsFit k found pairs = (k ≤ length found) × (k * pairNumbers ≤ length pairs) × AllPairs (take k found)
+
+-- ---- what is searched in
+
+-- the tables of states and the list of states are long enough
+abbrev pub TableRoom : List ℕ → List ℕ → List ℕ → Type 0
+TableRoom alive queue seen = (states ≤ length alive) × (states ≤ length queue) × (states ≤ length seen)

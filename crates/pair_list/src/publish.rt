@@ -1,7 +1,7 @@
 // What was found, written at the front of the lent lists.
 ghost use mathlib.Core.Path.{_≡_};
 ghost use Prim.Native.Nat.{_*_};
-ghost use Rattle.pairs.specs.Written.{Fits, PairsFit, withPairs};
+ghost use Rattle.pair_list.specs.Written.{Fits, PairsFit, withPairs};
 ghost use Rattle.sets.specs.Buffers.{overlaid};
 use sets::buffers::copy_front;
 

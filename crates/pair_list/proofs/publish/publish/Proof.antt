@@ -1,8 +1,8 @@
--- `pairs::publish::publish` meets its contract. Assumes nothing.
+-- `pair_list::publish::publish` meets its contract. Assumes nothing.
 use borrow.Author.Needs.{needs}
 use native.Mathlib.Omega.{arith}
-use Rattle.pairs.proofs.publish.publish.Statement.{statement}
-use Rattle.pairs.proofs.publish.publish.Tie as tie
+use Rattle.pair_list.proofs.publish.publish.Statement.{statement}
+use Rattle.pair_list.proofs.publish.publish.Tie as tie
 
 pub publish-spec : {M : Type 1} → statement M
 publish-spec =
