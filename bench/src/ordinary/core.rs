@@ -7,47 +7,63 @@ pub const FIRST_LITERAL: u64 = 1 << 36;
 /// The weight of Literal in a mask of types.
 pub const LITERAL_WEIGHT: u16 = 1 << 15;
 
-/// What the shapes say of each set of types.
-pub struct Tables {
-    pub targets: Vec<[u16; 12]>,
-    /// Predicates as masks.
-    pub required: Vec<u16>,
-    pub limited: Vec<u16>,
+/// The members of a set, a mask of types or of predicates, from the lowest upward.
+pub fn members(mut mask: u16) -> impl Iterator<Item = usize> {
+    std::iter::from_fn(move || {
+        (mask != 0).then(|| {
+            let lowest = mask.trailing_zeros() as usize;
+            mask &= mask - 1;
+            lowest
+        })
+    })
 }
 
-impl Tables {
-    pub fn new(pack: &Pack) -> Tables {
-        let mut targets = [[0u16; 12]; 8];
-        let mut required = [0u16; 8];
-        let mut limited = [0u16; 8];
+/// What the shapes say of each type.
+pub struct Shapes {
+    /// The target's weight, by predicate.
+    targets: [[u16; 12]; 8],
+    /// Predicates as masks.
+    required: [u16; 8],
+    limited: [u16; 8],
+}
+
+impl Shapes {
+    pub fn new(pack: &Pack) -> Shapes {
+        let mut shapes = Shapes {
+            targets: [[0; 12]; 8],
+            required: [0; 8],
+            limited: [0; 8],
+        };
         for shape in &pack.shapes {
             let (t, p) = (shape.owner as usize, shape.predicate as usize);
-            targets[t][p] = match shape.target {
+            shapes.targets[t][p] = match shape.target {
                 LITERAL => LITERAL_WEIGHT,
                 target => 1 << target,
             };
-            required[t] |= (matches!(shape.multiplicity, 1 | 4) as u16) << p;
-            limited[t] |= (matches!(shape.multiplicity, 1 | 2) as u16) << p;
+            shapes.required[t] |= (matches!(shape.multiplicity, 1 | 4) as u16) << p;
+            shapes.limited[t] |= (matches!(shape.multiplicity, 1 | 2) as u16) << p;
         }
-        let sets = 1 << pack.types.len();
-        let mut tables = Tables {
-            targets: vec![[0; 12]; sets],
-            required: vec![0; sets],
-            limited: vec![0; sets],
-        };
-        for set in 1..sets {
-            let t = set.trailing_zeros() as usize;
-            let rest = set & (set - 1);
-            let mut union = tables.targets[rest];
-            for (all, one) in union.iter_mut().zip(targets[t]) {
-                *all |= one;
-            }
-            tables.targets[set] = union;
-            tables.required[set] = tables.required[rest] | required[t];
-            tables.limited[set] = tables.limited[rest] | limited[t];
-        }
-        tables
+        shapes
     }
+
+    /// The targets of p in the shapes of a set's members.
+    pub fn targets(&self, set: u16, p: usize) -> u16 {
+        types(set).fold(0, |all, t| all | self.targets[t][p])
+    }
+
+    /// The predicates that some member requires.
+    pub fn required(&self, set: u16) -> u16 {
+        types(set).fold(0, |all, t| all | self.required[t])
+    }
+
+    /// Those of which some member allows one object only.
+    pub fn limited(&self, set: u16) -> u16 {
+        types(set).fold(0, |all, t| all | self.limited[t])
+    }
+}
+
+fn types(set: u16) -> impl Iterator<Item = usize> {
+    members(set & 255)
 }
 
 pub struct Core {
@@ -104,7 +120,7 @@ impl Split {
 }
 
 /// The core, or `None` where it is too large.
-pub fn core(pack: &Pack, tables: &Tables, heads: &mut [u64]) -> Option<Core> {
+pub fn core(pack: &Pack, shapes: &Shapes, heads: &mut [u64]) -> Option<Core> {
     let mut work = Work::default();
     let mut found: Vec<(&Head, &[u64])> = Vec::with_capacity(pack.rules.len());
     for (rule, part) in pack.rules.iter().zip(heads.chunks_exact_mut(1_024)) {
@@ -113,7 +129,7 @@ pub fn core(pack: &Pack, tables: &Tables, heads: &mut [u64]) -> Option<Core> {
     }
     let (nodes, iris) = nodes(&found)?;
     let (triples, mut types) = facts(&found, &nodes)?;
-    spread(tables, &triples, &mut types);
+    spread(shapes, &triples, &mut types);
     Some(Core {
         nodes,
         iris,
@@ -184,13 +200,13 @@ fn facts(found: &[(&Head, &[u64])], nodes: &[u64]) -> Option<(Vec<u32>, Vec<u16>
 }
 
 /// Passes types along the triples until a round adds nothing.
-fn spread(tables: &Tables, triples: &[u32], types: &mut [u16]) {
+fn spread(shapes: &Shapes, triples: &[u32], types: &mut [u16]) {
     loop {
         let mut changed = false;
         for &triple in triples {
             let (s, p, o) = parts(triple);
             let old = types[o];
-            let new = old | tables.targets[(types[s] & 255) as usize][p];
+            let new = old | shapes.targets(types[s], p);
             changed |= new != old;
             types[o] = new;
         }

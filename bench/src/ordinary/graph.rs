@@ -1,6 +1,6 @@
 //! From the core to the graph in its two lists. Refusals 10 and 11.
 
-use super::core::{parts, Core, Tables, FIRST_LITERAL, LITERAL_WEIGHT};
+use super::core::{members, parts, Core, Shapes, FIRST_LITERAL, LITERAL_WEIGHT};
 use super::pack::Pack;
 use super::{Counts, Refused};
 
@@ -9,17 +9,6 @@ const UNUSED: u16 = 65_535;
 /// The number of a set of types and Literal, below 512.
 fn set_number(mask: u16) -> usize {
     ((mask & 255) | mask >> 15 << 8) as usize
-}
-
-/// The predicates of a mask, ascending.
-fn predicates(mut mask: u16) -> impl Iterator<Item = usize> {
-    std::iter::from_fn(move || {
-        (mask != 0).then(|| {
-            let p = mask.trailing_zeros() as usize;
-            mask &= mask - 1;
-            p
-        })
-    })
 }
 
 fn record(pack: &Pack, core: &Core, node: usize) -> [u16; 7] {
@@ -43,11 +32,11 @@ fn record(pack: &Pack, core: &Core, node: usize) -> [u16; 7] {
     record
 }
 
-fn clash(pack: &Pack, core: &Core, tables: &Tables) -> Option<[u16; 22]> {
+fn clash(pack: &Pack, core: &Core, shapes: &Shapes) -> Option<[u16; 22]> {
     let two = core.triples.windows(2).find(|two| {
         two[0] >> 10 == two[1] >> 10 && {
             let (s, p, _) = parts(two[0]);
-            tables.limited[(core.types[s] & 255) as usize] >> p & 1 == 1
+            shapes.limited(core.types[s]) >> p & 1 == 1
         }
     })?;
     let (s, p, first) = parts(two[0]);
@@ -61,13 +50,12 @@ fn clash(pack: &Pack, core: &Core, tables: &Tables) -> Option<[u16; 22]> {
 }
 
 /// The sets of the invented nodes, as flags by number. `with_edge` has each core node's predicates.
-fn invent(core: &Core, tables: &Tables, with_edge: &[u16]) -> [bool; 512] {
+fn invent(core: &Core, shapes: &Shapes, with_edge: &[u16]) -> [bool; 512] {
     let mut invented = [false; 512];
     let mut left = Vec::new();
     let mut lead = |mask: u16, except: u16, left: &mut Vec<u16>| {
-        let types = (mask & 255) as usize;
-        for p in predicates(tables.required[types] & !except) {
-            let target = tables.targets[types][p];
+        for p in members(shapes.required(mask) & !except) {
+            let target = shapes.targets(mask, p);
             let flag = &mut invented[set_number(target)];
             if !*flag {
                 *flag = true;
@@ -98,11 +86,11 @@ fn mixed(core: &Core, invented: &[bool; 512]) -> bool {
 pub fn write(
     pack: &Pack,
     core: &Core,
-    tables: &Tables,
+    shapes: &Shapes,
     nodes: &mut [u16],
     triples: &mut [u16],
 ) -> Result<Counts, Refused> {
-    if let Some(clash) = clash(pack, core, tables) {
+    if let Some(clash) = clash(pack, core, shapes) {
         return Err(Refused { number: 10, clash });
     }
     let mut with_edge = vec![0u16; core.nodes.len()];
@@ -110,7 +98,7 @@ pub fn write(
         let (s, p, _) = parts(triple);
         with_edge[s] |= 1 << p;
     }
-    let invented = invent(core, tables, &with_edge);
+    let invented = invent(core, shapes, &with_edge);
     if mixed(core, &invented) {
         return Err(Refused::new(11));
     }
@@ -140,10 +128,10 @@ pub fn write(
     };
     let mut rest = core.triples.iter().copied().peekable();
     for s in 0..core.iris {
-        let types = (core.types[s] & 255) as usize;
-        for p in predicates(with_edge[s] | tables.required[types]) {
+        let types = core.types[s];
+        for p in members(with_edge[s] | shapes.required(types)) {
             if with_edge[s] >> p & 1 == 0 {
-                put(s, p, places[set_number(tables.targets[types][p])]);
+                put(s, p, places[set_number(shapes.targets(types, p))]);
                 continue;
             }
             let origin = (s << 4 | p) as u32;
@@ -152,12 +140,13 @@ pub fn write(
             }
         }
     }
-    for set in (1..tables.required.len()).filter(|set| invented[*set]) {
-        for p in predicates(tables.required[set]) {
+    for set in (1..256).filter(|set| invented[*set]) {
+        let types = set as u16;
+        for p in members(shapes.required(types)) {
             put(
                 places[set] as usize,
                 p,
-                places[set_number(tables.targets[set][p])],
+                places[set_number(shapes.targets(types, p))],
             );
         }
     }

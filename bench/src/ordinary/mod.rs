@@ -51,9 +51,9 @@ fn construct<'a>(
     heads: &mut [u64],
 ) -> Result<Built<'a>, Refused> {
     let pack = pack::read(bytes, checks).map_err(Refused::new)?;
-    let tables = core::Tables::new(&pack);
-    let core = core::core(&pack, &tables, heads).ok_or(Refused::new(9))?;
-    let counts = graph::write(&pack, &core, &tables, nodes, triples)?;
+    let shapes = core::Shapes::new(&pack);
+    let core = core::core(&pack, &shapes, heads).ok_or(Refused::new(9))?;
+    let counts = graph::write(&pack, &core, &shapes, nodes, triples)?;
     Ok(Built {
         pack,
         named: core.nodes,

@@ -17,7 +17,7 @@ use Rattle.meaning.specs.Pack.{Setting, Target, type}
 use Rattle.meaning.specs.Tables.{setOfMask}
 use Rattle.meaning.specs.TypeSet.{_∈ₜ_}
 use Rattle.shapes.proofs.Sets.{union-in}
-use Rattle.shapes.specs.Sets.{SetsTabled, TargetsOf}
+use Rattle.shapes.specs.Shapes.{Tabled, TargetsOf}
 use Rattle.sets.proofs.Ascending.{∈-at}
 
 -- ---- one triple
@@ -31,7 +31,7 @@ room-set [] o v h l r = absurd (not-suc-le-zero h)
 room-set (m ∷ ms) zero v h l r = omega arith
 room-set (m ∷ ms) (suc o) v h l r = let k : room (set ms o v) < room ms = room-set ms o v (le-of-suc-le-suc h) l r in omega arith
 
-module _ (table : List ℕ) (k t : ℕ) (d : List ℕ) (l : objectOf k < length d) (a : getD d (objectOf k) 0 < 2 ^ 16) (b : t < 2 ^ 16)
+module _ (table : List (List ℕ)) (k t : ℕ) (d : List ℕ) (l : objectOf k < length d) (a : getD d (objectOf k) 0 < 2 ^ 16) (b : t < 2 ^ 16)
     (f : TargetsOf table (getD d (subjectOf k) 0) (predicateOf k) t) where
   abbrev new : ℕ
   new = bitOr (getD d (objectOf k) 0) t
@@ -63,16 +63,16 @@ module _ (table : List ℕ) (k t : ℕ) (d : List ℕ) (l : objectOf k < length 
 
 -- ---- one round: the first i triples are done
 
-pub record RoundDone (table triples : List ℕ) (i : ℕ) (changed : Bool) (d₀ d : List ℕ) : Type 0 where
+pub record RoundDone (table : List (List ℕ)) (triples : List ℕ) (i : ℕ) (changed : Bool) (d₀ d : List ℕ) : Type 0 where
   pub within : i ≤ length triples
   pub long : length d ≡ length d₀
-  pub keeps : (S : Setting) → SetsTabled S table → (j : ℕ) (R : Target) → R ∈ₜ setOfMask (getD d₀ j 0) → R ∈ₜ setOfMask (getD d j 0)
-  pub only : (S : Setting) → SetsTabled S table → (j : ℕ) (R : Target) → R ∈ₜ setOfMask (getD d j 0) → Passed S triples d₀ j R
-  pub all : changed ≡ false → (S : Setting) → SetsTabled S table → (k : ℕ) → k ∈ take i triples → (j : ℕ) (R : Target) → Passes S d k j R
+  pub keeps : (S : Setting) → Tabled S table → (j : ℕ) (R : Target) → R ∈ₜ setOfMask (getD d₀ j 0) → R ∈ₜ setOfMask (getD d j 0)
+  pub only : (S : Setting) → Tabled S table → (j : ℕ) (R : Target) → R ∈ₜ setOfMask (getD d j 0) → Passed S triples d₀ j R
+  pub all : changed ≡ false → (S : Setting) → Tabled S table → (k : ℕ) → k ∈ take i triples → (j : ℕ) (R : Target) → Passes S d k j R
       → R ∈ₜ setOfMask (getD d j 0)
   pub progress : Progress changed d₀ d
 
-pub round-start : (table : List ℕ) (triples d : List ℕ) → RoundDone table triples 0 false d d
+pub round-start : (table : List (List ℕ)) (triples d : List ℕ) → RoundDone table triples 0 false d d
 round-start table triples d = record {
   within = zero-le;
   long = refl;
@@ -89,12 +89,12 @@ nearer false a b d p q = rw (← p) q
 true-not-false : {A : Type 0} → true ≡ false → A
 true-not-false e = absurd (let z : _≡_ {A = ℕ} 0 1 = cc in omega arith)
 
-module _ {table : List ℕ} {triples : List ℕ} {i : ℕ} {changed : Bool} {d₀ d : List ℕ} (r : RoundDone table triples i changed d₀ d)
+module _ {table : List (List ℕ)} {triples : List ℕ} {i : ℕ} {changed : Bool} {d₀ d : List ℕ} (r : RoundDone table triples i changed d₀ d)
     (h : i < length triples) (d′ : List ℕ) (p : PassedOnce table (getD triples i 0) d d′) (l : length d′ ≡ length d) where
   abbrev key : ℕ
   key = getD triples i 0
 
-  module _ (S : Setting) (tab : SetsTabled S table) where
+  module _ (S : Setting) (tab : Tabled S table) where
     only′ : (j : ℕ) (R : Target) → R ∈ₜ setOfMask (getD d′ j 0) → Passed S triples d₀ j R
     only′ j R m = go (p S tab j R .0 m)
       where
@@ -124,12 +124,12 @@ module _ {table : List ℕ} {triples : List ℕ} {i : ℕ} {changed : Bool} {d�
     progress = r .progress;
   })
     where
-      go : changed ≡ false → (S : Setting) → SetsTabled S table → (k : ℕ) → (k ∈ take i triples) ⊎ (k ≡ key) → (j : ℕ) (R : Target) → Passes S d k j R
+      go : changed ≡ false → (S : Setting) → Tabled S table → (k : ℕ) → (k ∈ take i triples) ⊎ (k ≡ key) → (j : ℕ) (R : Target) → Passes S d k j R
           → R ∈ₜ setOfMask (getD d j 0)
       go c S tab k (inl m) j R q = r .all c S tab k m j R q
       go c S tab k (inr f) j R q = subst (λ (x : List ℕ). R ∈ₜ setOfMask (getD x j 0)) e (p S tab j R .1 (inr (subst (λ x. Passes S d x j R) f q)))
 
-pub round-done : {table : List ℕ} {triples : List ℕ} {i : ℕ} {changed : Bool} {d₀ d : List ℕ} → RoundDone table triples i changed d₀ d
+pub round-done : {table : List (List ℕ)} {triples : List ℕ} {i : ℕ} {changed : Bool} {d₀ d : List ℕ} → RoundDone table triples i changed d₀ d
     → length triples ≤ i → Round table triples changed d₀ d
 round-done {triples} {i} r h = record {
   keeps = r .keeps;
@@ -138,17 +138,17 @@ round-done {triples} {i} r h = record {
   progress = r .progress;
 }
 
-pub round-nearer : {table : List ℕ} {triples d d′ : List ℕ} → Round table triples true d d′ → room d′ < room d
+pub round-nearer : {table : List (List ℕ)} {triples d d′ : List ℕ} → Round table triples true d d′ → room d′ < room d
 round-nearer r = r .progress
 
 -- ---- round by round
 
-pub record Spreading (table : List ℕ) (triples d₀ d : List ℕ) : Type 0 where
+pub record Spreading (table : List (List ℕ)) (triples d₀ d : List ℕ) : Type 0 where
   pub long : length d ≡ length d₀
-  pub keeps : (S : Setting) → SetsTabled S table → (j : ℕ) (R : Target) → R ∈ₜ setOfMask (getD d₀ j 0) → R ∈ₜ setOfMask (getD d j 0)
-  pub only : (S : Setting) → SetsTabled S table → (j : ℕ) (R : Target) → R ∈ₜ setOfMask (getD d j 0) → Passed S triples d₀ j R
+  pub keeps : (S : Setting) → Tabled S table → (j : ℕ) (R : Target) → R ∈ₜ setOfMask (getD d₀ j 0) → R ∈ₜ setOfMask (getD d j 0)
+  pub only : (S : Setting) → Tabled S table → (j : ℕ) (R : Target) → R ∈ₜ setOfMask (getD d j 0) → Passed S triples d₀ j R
 
-pub spread-start : (table : List ℕ) (triples d : List ℕ) → Spreading table triples d d
+pub spread-start : (table : List (List ℕ)) (triples d : List ℕ) → Spreading table triples d d
 spread-start table triples d = record { long = refl; keeps = λ S tab j R h. h; only = λ S tab j R h. held h }
 
 -- what follows from what follows
@@ -157,7 +157,7 @@ passed-again : {S : Setting} {triples d₀ d : List ℕ} → ((j : ℕ) (R : Tar
 passed-again f (held {i} {R} h) = f i R h
 passed-again f (along m q s e g) = along m (passed-again f q) s e g
 
-pub spread-again : {table : List ℕ} {triples d₀ d : List ℕ} {changed : Bool} → Spreading table triples d₀ d → (d′ : List ℕ)
+pub spread-again : {table : List (List ℕ)} {triples d₀ d : List ℕ} {changed : Bool} → Spreading table triples d₀ d → (d′ : List ℕ)
     → Round table triples changed d d′ → length d′ ≡ length d → Spreading table triples d₀ d′
 spread-again s d′ r l = record {
   long = l ∙ s .long;
@@ -166,7 +166,7 @@ spread-again s d′ r l = record {
 }
 
 -- after a round that adds nothing these are all
-pub spread-done : {table : List ℕ} {triples d₀ d : List ℕ} → Spreading table triples d₀ d → (d′ : List ℕ) → Round table triples false d d′
+pub spread-done : {table : List (List ℕ)} {triples d₀ d : List ℕ} → Spreading table triples d₀ d → (d′ : List ℕ) → Round table triples false d d′
     → length d′ ≡ length d → SpreadFrom table triples d₀ d′
 spread-done {table} {triples} {d₀} s d′ r l S tab j R = (spread-again s d′ r l .only S tab j R, complete)
   where

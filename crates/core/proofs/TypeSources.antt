@@ -27,7 +27,7 @@ use Rattle.meaning.specs.TypeSet.{_∈ₜ_}
 use Rattle.sets.proofs.Rank.{rank-le}
 use Rattle.sets.specs.Ordered.{rankOf}
 use Rattle.shapes.proofs.Sets.{none-in}
-use Rattle.shapes.specs.Sets.{SetsTabled}
+use Rattle.shapes.specs.Shapes.{Tabled}
 
 -- ---- the type fact of a head
 
@@ -127,7 +127,7 @@ module _ {rules : List (List ℕ)} {count : ℕ} {heads counts : List ℕ} (fit 
       (sym (y .2)) refl
 
   -- The types of the core's node at each place.
-  pub types-at : (table : List ℕ) → SetsTabled (P .setting) table → (after : List ℕ) → SpreadFrom table triples start after
+  pub types-at : (table : List (List ℕ)) → Tabled (P .setting) table → (after : List ℕ) → SpreadFrom table triples start after
       → (i : ℕ) (n : Node) → CoreNode P n → getElem? nodes i ≡ some (keyOf n) → (S : Target) → (S ∈ₜ setOfMask (getD after i 0)) ↔ CoreType P n S
   types-at table tab after spread i n c e S =
       let r = rank-at (keyOf n) nodes i (l .ascending) e in (

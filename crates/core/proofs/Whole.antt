@@ -20,12 +20,10 @@ use Rattle.meaning.specs.Limits.{maxCoreTriples, maxIris}
 use Rattle.meaning.specs.Member.{_∈_}
 use Rattle.meaning.specs.NoGraph.{CoreIri, CoreTriple}
 use Rattle.meaning.specs.Ordered.{InOrder, Over}
-use Rattle.meaning.specs.Pack.{Pack, Setting}
+use Rattle.meaning.specs.Pack.{Pack}
 use Rattle.sets.proofs.Rank.{rank-member}
 use Rattle.sets.specs.Buffers.{zeros}
 use Rattle.sets.specs.Ordered.{rankOf}
-use Rattle.shapes.specs.Sets.{SetsTabled}
-use Rattle.shapes.specs.Shapes.{Tabled}
 
 -- ---- types, from cleared masks on
 
@@ -36,10 +34,10 @@ zeros-at (suc n) (suc i) = zeros-at n i
 
 module _ {rules : List (List ℕ)} {count : ℕ} {heads counts : List ℕ} (fit : HeadsFit rules count heads counts) where
   pub types-answer : (nodes : List ℕ) → length nodes ≤ maxNodes → (triples before : List ℕ) → before ≡ zeros (length before) → (start : List ℕ)
-      → Marked (FromRules (TypeFact nodes) rules count heads counts) before start → (shapes : List (List ℕ)) (table after : List ℕ)
-      → ((S : Setting) → Tabled S shapes → SetsTabled S table) → SpreadFrom table triples start after → TypesAnswer shapes rules count heads counts nodes triples after
-  types-answer nodes few triples before e start marked shapes table after made spread P h b tab l ts =
-      types-at fit nodes few P h b l triples ts before start (λ i. ap (λ (x : List ℕ). getD x i 0) e ∙ zeros-at (length before) i) marked table (made (P .setting) tab) after spread
+      → Marked (FromRules (TypeFact nodes) rules count heads counts) before start → (table : List (List ℕ)) (after : List ℕ)
+      → SpreadFrom table triples start after → TypesAnswer table rules count heads counts nodes triples after
+  types-answer nodes few triples before e start marked table after spread P h b tab l ts =
+      types-at fit nodes few P h b l triples ts before start (λ i. ap (λ (x : List ℕ). getD x i 0) e ∙ zeros-at (length before) i) marked table tab after spread
 
   -- ---- what the passes suppose of each other
 

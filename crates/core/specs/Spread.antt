@@ -12,8 +12,7 @@ use Rattle.meaning.specs.Member.{_∈_}
 use Rattle.meaning.specs.Pack.{HasShape, Setting, Shape, Target, type}
 use Rattle.meaning.specs.Tables.{setOfMask}
 use Rattle.meaning.specs.TypeSet.{_∈ₜ_}
-use Rattle.shapes.specs.Sets.{SetsTabled}
-use Rattle.shapes.specs.Shapes.{SomeShape}
+use Rattle.shapes.specs.Shapes.{SomeShape, Tabled}
 
 -- ---- a triple's key, taken apart
 
@@ -46,9 +45,9 @@ pub data Passed (S : Setting) (triples start : List ℕ) : ℕ → Target → Ty
       → HasShape S t (predicateOf k) shape → i ≡ objectOf k → shape .target ≡ R → Passed S triples start i R
 
 -- after holds exactly these
-abbrev pub SpreadFrom : List ℕ → List ℕ → List ℕ → List ℕ → Type 0
+abbrev pub SpreadFrom : List (List ℕ) → List ℕ → List ℕ → List ℕ → Type 0
 SpreadFrom table triples start after =
-    (S : Setting) → SetsTabled S table → (i : ℕ) (R : Target) → (R ∈ₜ setOfMask (getD after i 0)) ↔ Passed S triples start i R
+    (S : Setting) → Tabled S table → (i : ℕ) (R : Target) → (R ∈ₜ setOfMask (getD after i 0)) ↔ Passed S triples start i R
 
 -- ---- one triple, one round
 
@@ -58,9 +57,9 @@ pub record Passes (S : Setting) (masks : List ℕ) (k i : ℕ) (R : Target) : Ty
   pub shape : SomeShape S (getD masks (subjectOf k) 0) (predicateOf k) (λ s. s .target ≡ R)
 
 -- after holds what before holds and what the triple passes
-abbrev pub PassedOnce : List ℕ → ℕ → List ℕ → List ℕ → Type 0
+abbrev pub PassedOnce : List (List ℕ) → ℕ → List ℕ → List ℕ → Type 0
 PassedOnce table k before after =
-    (S : Setting) → SetsTabled S table → (i : ℕ) (R : Target)
+    (S : Setting) → Tabled S table → (i : ℕ) (R : Target)
     → (R ∈ₜ setOfMask (getD after i 0)) ↔ ((R ∈ₜ setOfMask (getD before i 0)) ⊎ Passes S before k i R)
 
 -- how far the masks are from full, as numbers
@@ -74,9 +73,9 @@ Progress true before after = room after < room before
 Progress false before after = after ≡ before
 
 -- Types are only passed along; every triple's are, if nothing changed.
-pub record Round (table triples : List ℕ) (changed : Bool) (before after : List ℕ) : Type 0 where
-  pub keeps : (S : Setting) → SetsTabled S table → (i : ℕ) (R : Target) → R ∈ₜ setOfMask (getD before i 0) → R ∈ₜ setOfMask (getD after i 0)
-  pub only : (S : Setting) → SetsTabled S table → (i : ℕ) (R : Target) → R ∈ₜ setOfMask (getD after i 0) → Passed S triples before i R
-  pub all : changed ≡ false → (S : Setting) → SetsTabled S table → (k : ℕ) → k ∈ triples → (i : ℕ) (R : Target) → Passes S after k i R
+pub record Round (table : List (List ℕ)) (triples : List ℕ) (changed : Bool) (before after : List ℕ) : Type 0 where
+  pub keeps : (S : Setting) → Tabled S table → (i : ℕ) (R : Target) → R ∈ₜ setOfMask (getD before i 0) → R ∈ₜ setOfMask (getD after i 0)
+  pub only : (S : Setting) → Tabled S table → (i : ℕ) (R : Target) → R ∈ₜ setOfMask (getD after i 0) → Passed S triples before i R
+  pub all : changed ≡ false → (S : Setting) → Tabled S table → (k : ℕ) → k ∈ triples → (i : ℕ) (R : Target) → Passes S after k i R
       → R ∈ₜ setOfMask (getD after i 0)
   pub progress : Progress changed before after

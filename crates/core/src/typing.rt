@@ -62,15 +62,15 @@ fn mark_rules(
 }
 
 // Passes the subject's types along one triple; says whether that changed the object's.
-fn pass(sets: &[u16; 4096], key: u64, masks: &mut [u16]) -> bool
-    requires { ⌜ Placed key × (maxNodes ≤ length (now masks)) ⌝ }
-    ensures { λ r. ⌜ PassedOnce (now (sets .entry)) key (now (masks .entry)) (now (masks .exit)) × Progress r (now (masks .entry)) (now (masks .exit)) ⌝ }
+fn pass(shapes: &[[u16; 12]; 8], key: u64, masks: &mut [u16]) -> bool
+    requires { ⌜ CodesFit (now shapes) × Placed key × (maxNodes ≤ length (now masks)) ⌝ }
+    ensures { λ r. ⌜ PassedOnce (now (shapes .entry)) key (now (masks .entry)) (now (masks .exit)) × Progress r (now (masks .entry)) (now (masks .exit)) ⌝ }
 {
     let s = (key / SUBJECT_WEIGHT) as usize;
     let p = (key / PLACE_ROOM % PREDICATE_ROOM) as usize;
     let o = (key % PLACE_ROOM) as usize;
     let old = masks[o];
-    let new = old | shapes::table::targets(sets, masks[s], p);
+    let new = old | shapes::targets(shapes, masks[s], p);
     if new == old {
         return false;
     }
@@ -79,13 +79,13 @@ fn pass(sets: &[u16; 4096], key: u64, masks: &mut [u16]) -> bool
 }
 
 // Passes along every triple once; says whether anything changed.
-fn round(sets: &[u16; 4096], triples: &[u64], masks: &mut [u16]) -> bool
-    requires { ⌜ AllPlaced (now triples) × (maxNodes ≤ length (now masks)) ⌝ }
-    ensures { λ r. ⌜ Round (now (sets .entry)) (now (triples .entry)) r (now (masks .entry)) (now (masks .exit)) ⌝ }
+fn round(shapes: &[[u16; 12]; 8], triples: &[u64], masks: &mut [u16]) -> bool
+    requires { ⌜ CodesFit (now shapes) × AllPlaced (now triples) × (maxNodes ≤ length (now masks)) ⌝ }
+    ensures { λ r. ⌜ Round (now (shapes .entry)) (now (triples .entry)) r (now (masks .entry)) (now (masks .exit)) ⌝ }
 {
     let mut changed = false;
     for i in 0..triples.len() {
-        let more = pass(sets, triples[i], masks);
+        let more = pass(shapes, triples[i], masks);
         if more {
             changed = true;
         }
@@ -94,12 +94,12 @@ fn round(sets: &[u16; 4096], triples: &[u64], masks: &mut [u16]) -> bool
 }
 
 // Passes along the triples until a round adds nothing.
-fn spread(sets: &[u16; 4096], triples: &[u64], masks: &mut [u16])
-    requires { ⌜ AllPlaced (now triples) × (maxNodes ≤ length (now masks)) ⌝ }
-    ensures { λ _. ⌜ SpreadFrom (now (sets .entry)) (now (triples .entry)) (now (masks .entry)) (now (masks .exit)) ⌝ }
+fn spread(shapes: &[[u16; 12]; 8], triples: &[u64], masks: &mut [u16])
+    requires { ⌜ CodesFit (now shapes) × AllPlaced (now triples) × (maxNodes ≤ length (now masks)) ⌝ }
+    ensures { λ _. ⌜ SpreadFrom (now (shapes .entry)) (now (triples .entry)) (now (masks .entry)) (now (masks .exit)) ⌝ }
 {
     loop {
-        let changed = round(sets, triples, masks);
+        let changed = round(shapes, triples, masks);
         if !changed {
             return;
         }
@@ -121,6 +121,5 @@ pub fn typing(
     ensures { λ _. ⌜ TypesAnswer shapes rules count (now (heads .entry)) counts (now (nodes .entry)) (now (triples .entry)) (now (masks .exit)) ⌝ }
 {
     mark_rules(rules, count, heads, counts, nodes, masks);
-    let sets = shapes::table::sets_table(&shapes);
-    spread(&sets, triples, masks);
+    spread(&shapes, triples, masks);
 }

@@ -19,8 +19,8 @@ use Rattle.graph.proofs.Shaped.{requires-shape}
 use Rattle.meaning.proofs.Lists.Members.{∈-map⁻¹}
 use Rattle.meaning.specs.Member.{_∈_, here, there}
 use Rattle.meaning.specs.Ordered.{InOrder, _≺_, before, empty, equal, less}
-use Rattle.meaning.specs.Pack.{Pack}
-use Rattle.shapes.specs.Sets.{RequiredBy, SetsTabled, TargetsOf}
+use Rattle.meaning.specs.Pack.{Pack, requires}
+use Rattle.shapes.specs.Shapes.{SomePasses, Tabled, TargetsOf}
 
 -- ---- room: each origin has the core's edges, or one more
 
@@ -82,7 +82,7 @@ unfolding flatten
 edges-flat s p [] = refl
 edges-flat s p (k ∷ ks) = let r = edges-flat s p ks in omega arith
 
-module _ (table triples places : List ℕ) (a : InOrder _<_ triples) (s mask p from first : ℕ) (f : from ≡ keysBefore (s * 16 + p) triples) (out out₁ : List ℕ) (at : ℕ) (e : EdgesListed triples s p from first out out₁ at) where
+module _ (table : List (List ℕ)) (triples places : List ℕ) (a : InOrder _<_ triples) (s mask p from first : ℕ) (f : from ≡ keysBefore (s * 16 + p) triples) (out out₁ : List ℕ) (at : ℕ) (e : EdgesListed triples s p from first out out₁ at) where
   abbrev Edge : Pack → List ℕ → Type 0
   Edge P = EdgeFrom P triples places s mask p
 
@@ -126,14 +126,14 @@ module _ (table triples places : List ℕ) (a : InOrder _<_ triples) (s mask p f
         go [] z = sym (nothing-written (first * 3) out)
         go (x ∷ xs) z = absurd (let y : ⊥ = omega arith in y)
 
-    pub origin-free : (r : Bool) → r ≡ false → RequiredBy table mask p r → Listed table Edge first out out₁ first × (first + from ≤ first + 1 + from) × (from ≡ keysBefore (s * 16 + p + 1) triples)
+    pub origin-free : (r : Bool) → r ≡ false → SomePasses requires table mask p r → Listed table Edge first out out₁ first × (first + from ≤ first + 1 + from) × (from ≡ keysBefore (s * 16 + p + 1) triples)
     origin-free r f shown = (subst (λ o. Listed table Edge first out o first) (sym out-same) (listed-none first out none), omega arith, sym n ∙ passed)
       where
-        none : (P : Pack) → SetsTabled (P .setting) table → (x : List ℕ) → ¬ Edge P x
+        none : (P : Pack) → Tabled (P .setting) table → (x : List ℕ) → ¬ Edge P x
         none P h x (present k m o q) = no-origin (record { key = k; listed = m; is = o })
         none P h x (gotten j l q) = subst T f (shown (P .setting) h .1 (requires-shape P mask p .1 (l .leads .needs)))
 
-    pub origin-gets : (r : Bool) → r ≡ true → RequiredBy table mask p r → (m : ℕ) → m < 2 ^ 16 → TargetsOf table mask p m → (set : ℕ) → set ≡ numberOf m
+    pub origin-gets : (r : Bool) → r ≡ true → SomePasses requires table mask p r → (m : ℕ) → m < 2 ^ 16 → TargetsOf table mask p m → (set : ℕ) → set ≡ numberOf m
         → (out₂ : List ℕ) → out₂ ≡ overwritten (first * 3) (s ∷ p ∷ getD places set 0 ∷ []) out₁
         → Listed table Edge first out out₂ (first + 1) × (first + 1 + from ≤ first + 1 + at) × (at ≡ keysBefore (s * 16 + p + 1) triples)
     unfolding flatten
@@ -149,7 +149,7 @@ module _ (table triples places : List ℕ) (a : InOrder _<_ triples) (s mask p f
       passed,
     )
       where
-        forth : (P : Pack) → SetsTabled (P .setting) table → (x : List ℕ) → x ∈ ((s ∷ p ∷ getD places set 0 ∷ []) ∷ []) → Edge P x
+        forth : (P : Pack) → Tabled (P .setting) table → (x : List ℕ) → x ∈ ((s ∷ p ∷ getD places set 0 ∷ []) ∷ []) → Edge P x
         forth P h x (here q) =
             gotten (numberOf m) (record {
               none = no-origin;
@@ -162,7 +162,7 @@ module _ (table triples places : List ℕ) (a : InOrder _<_ triples) (s mask p f
             (q ∙ ap (λ (j : ℕ). s ∷ p ∷ getD places j 0 ∷ []) is)
         forth P h x (there i) = elim i [ ]
 
-        back : (P : Pack) → SetsTabled (P .setting) table → (x : List ℕ) → Edge P x → x ≡ s ∷ p ∷ getD places set 0 ∷ []
+        back : (P : Pack) → Tabled (P .setting) table → (x : List ℕ) → Edge P x → x ≡ s ∷ p ∷ getD places set 0 ∷ []
         back P h x (present k i o q) = absurd (no-origin (record { key = k; listed = i; is = o }))
         back P h x (gotten j l q) =
             let n = only table mask p [] r t shown m small ts P h j (l .leads) in
@@ -170,7 +170,7 @@ module _ (table triples places : List ℕ) (a : InOrder _<_ triples) (s mask p f
 
 -- ---- the edges of a set
 
-module _ (table triples flags places : List ℕ) (j first : ℕ) where
+module _ (table : List (List ℕ)) (triples flags places : List ℕ) (j first : ℕ) where
   pub set-unmarked : (out : List ℕ) → (getD flags j 0 ≡ 1 → ⊥) → Listed table (λ P. SetEdge triples flags places P j) first out out first × (first ≤ first + 12)
   set-unmarked out n = (listed-none first out (λ P h x e. n (e .marked)), omega arith)
 

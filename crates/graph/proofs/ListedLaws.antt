@@ -17,7 +17,7 @@ use Rattle.meaning.proofs.Lists.Members.{∈-append}
 use Rattle.meaning.specs.Member.{_∈_}
 use Rattle.meaning.specs.Ordered.{ListOf, _≺_, empty}
 use Rattle.meaning.specs.Pack.{Pack}
-use Rattle.shapes.specs.Sets.{SetsTabled}
+use Rattle.shapes.specs.Shapes.{Tabled}
 
 -- ---- lists in order
 
@@ -66,8 +66,8 @@ parts-written at a b out h =
     let l : at + length a + length b ≡ at + length (a ++ b) = let q = length-append a b in omega arith in
     rw (f, d, l) (ap (λ (x : List ℕ). x ++ drop (at + length (a ++ b)) out) (append-assoc (take at out) a b))
 
-module _ {table : List ℕ} where
-  pub listed-none : {Q : Pack → List ℕ → Type 0} (first : ℕ) (out : List ℕ) → ((P : Pack) → SetsTabled (P .setting) table → (x : List ℕ) → ¬ Q P x) → Listed table Q first out out first
+module _ {table : List (List ℕ)} where
+  pub listed-none : {Q : Pack → List ℕ → Type 0} (first : ℕ) (out : List ℕ) → ((P : Pack) → Tabled (P .setting) table → (x : List ℕ) → ¬ Q P x) → Listed table Q first out out first
   unfolding flatten
   listed-none first out n = record {
     records = [];

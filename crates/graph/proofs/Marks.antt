@@ -17,10 +17,10 @@ use Rattle.graph.proofs.SetNumbers.{number-lt, number-one, number-set}
 use Rattle.graph.proofs.Shaped.{requires-shape, targets-shape}
 use Rattle.meaning.proofs.Lists.Bits.{same-members}
 use Rattle.meaning.specs.Built.{BuiltNode, PTargets, invented}
-use Rattle.meaning.specs.Pack.{Pack, type}
+use Rattle.meaning.specs.Pack.{Pack, type, requires}
 use Rattle.meaning.specs.Tables.{setOfMask}
 use Rattle.meaning.specs.TypeSet.{TypeSet}
-use Rattle.shapes.specs.Sets.{RequiredBy, SetsTabled, TargetsOf}
+use Rattle.shapes.specs.Shapes.{SomePasses, Tabled, TargetsOf}
 
 -- ---- progress
 
@@ -99,12 +99,12 @@ upto-again {Q} {n} {d₀} {d} {d′} m s = record { marks = λ j. (λ e. forth j
 targets-one : (P : Pack) (b : BuiltNode) (p : ℕ) (X Y : TypeSet) → PTargets P b p X → PTargets P b p Y → X ≡ Y
 targets-one P b p X Y t u = same-members X Y (λ S. Iff·trans (t S) (Iff·symm (u S)))
 
-module _ (table : List ℕ) (mask p : ℕ) (d : List ℕ) where
-  pub not-required : (r : Bool) → r ≡ false → RequiredBy table mask p r → MarksTargets table mask p d d
+module _ (table : List (List ℕ)) (mask p : ℕ) (d : List ℕ) where
+  pub not-required : (r : Bool) → r ≡ false → SomePasses requires table mask p r → MarksTargets table mask p d d
   not-required r e s P h = marked-none d (λ j l. subst T e (s (P .setting) h .1 (requires-shape P mask p .1 (l .needs))))
 
-  module _ (r : Bool) (yes′ : r ≡ true) (rs : RequiredBy table mask p r) (m : ℕ) (m-lt : m < 2 ^ 16) (ts : TargetsOf table mask p m) where
-    module _ (P : Pack) (h : SetsTabled (P .setting) table) where
+  module _ (r : Bool) (yes′ : r ≡ true) (rs : SomePasses requires table mask p r) (m : ℕ) (m-lt : m < 2 ^ 16) (ts : TargetsOf table mask p m) where
+    module _ (P : Pack) (h : Tabled (P .setting) table) where
       pub targets-set : PTargets P (invented (setOfMask mask)) p (setAt (numberOf m))
       targets-set = subst (λ X. PTargets P (invented (setOfMask mask)) p X) (number-set m m-lt below) pt
         where

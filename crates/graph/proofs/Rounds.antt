@@ -55,11 +55,11 @@ pub rounding-done : {P : Pack} {d₀ d : List ℕ} {n : ℕ} → Rounding P d₀
 rounding-done r h = record { sound = r .sound; keeps = r .keeps; passes = λ i p j k. r .passes i p j (omega arith) }
 
 -- what a set leads to, by its mask, if it is marked
-pub following : (table : List ℕ) (n m : ℕ) → n < maxSets → m ≡ maskOf n → (d d′ : List ℕ) → getD d n 0 ≡ 1 → MarksAll table m d d′ → MarksFollowing table n d d′
+pub following : (table : List (List ℕ)) (n m : ℕ) → n < maxSets → m ≡ maskOf n → (d d′ : List ℕ) → getD d n 0 ≡ 1 → MarksAll table m d d′ → MarksFollowing table n d d′
 following table n m h e d d′ q a P s = marked-iff (λ j. (λ u. (q, u), λ (u : (getD d n 0 ≡ 1) × Upto (Leads P (invented (setAt n))) maxPredicates j). u .1))
     (subst (λ X. Marked (Upto (Leads P (invented X)) maxPredicates) d d′) (mask-set n h) ((rw e at a) P s))
 
-pub not-following : (table : List ℕ) (n : ℕ) (d : List ℕ) → (getD d n 0 ≡ 1 → ⊥) → MarksFollowing table n d d
+pub not-following : (table : List (List ℕ)) (n : ℕ) (d : List ℕ) → (getD d n 0 ≡ 1 → ⊥) → MarksFollowing table n d d
 not-following table n d k P s = marked-none d (λ j u. k (u .0))
 
 -- ---- rounds
@@ -87,7 +87,7 @@ closed {P} {d₀} {d} {d′} a r e j = (reached-again a r .sound j, all)
 
 -- ---- what a core node leads to
 
-module _ (table : List ℕ) (triples : List ℕ) (s mask p : ℕ) where
+module _ (table : List (List ℕ)) (triples : List ℕ) (s mask p : ℕ) where
   pub edge-there : HasOrigin triples (s * 16 + p) → (d : List ℕ) → SeedShown table triples s mask p d d
   edge-there o d P h = marked-none d (λ j l. l .none o)
 

@@ -39,7 +39,7 @@ use Rattle.meaning.specs.Tables.{setOfMask}
 use Rattle.meaning.specs.TypeSet.{TypeSet, _∈ₜ_}
 use Rattle.sets.proofs.Rank.{rank-above, rank-le}
 use Rattle.sets.specs.Ordered.{rankOf}
-use Rattle.shapes.specs.Sets.{SetsTabled}
+use Rattle.shapes.specs.Shapes.{Tabled}
 
 -- the element at a place of the first of two lists
 at-front : {A : Type 0} (xs ys : List A) (i : ℕ) (x : A) → getElem? xs i ≡ some x → getElem? (xs ++ ys) i ≡ some x
@@ -302,7 +302,7 @@ module _ {P : Pack} {shapes : List (List ℕ)} {nodes triples masks flags : List
         let r = rank-le firstLiteral nodes in
         by-subject (omega arith) x y (u .holds) (v .holds .edge)
 
-    pub triples-listed : {table : List ℕ} → SetsTabled (P .setting) table → SetPlaces flags (length nodes) places → {next r : ℕ} {out out₁ out₂ : List ℕ} → Listed table (IriEdge nodes triples masks places) 0 out out₁ next
+    pub triples-listed : {table : List (List ℕ)} → Tabled (P .setting) table → SetPlaces flags (length nodes) places → {next r : ℕ} {out out₁ out₂ : List ℕ} → Listed table (IriEdge nodes triples masks places) 0 out out₁ next
         → Listed table (λ Q. Upto (SetEdge triples flags places Q) 256) next out₁ out₂ r → next * 3 ≤ length out → r ≤ maxTriples → TriplesListed P bs out out₂ r
     triples-listed {table} tab sp {next} {r} {out} {out₁} {out₂} a b room few = record {
       records = both .records;

@@ -13,7 +13,7 @@ use Rattle.meaning.specs.Member.{_∈_}
 use Rattle.meaning.specs.Pack.{Pack}
 use Rattle.meaning.specs.Tables.{setOfMask}
 use Rattle.meaning.specs.TypeSet.{TypeSet}
-use Rattle.shapes.specs.Sets.{SetsTabled}
+use Rattle.shapes.specs.Shapes.{Tabled}
 
 -- how many sets there are of eight types and Literal
 abbrev pub maxSets : ℕ
@@ -56,18 +56,18 @@ abbrev pub Progress : Bool → List ℕ → List ℕ → Type 0
 Progress true before after = room after < room before
 Progress false before after = after ≡ before
 
-module _ (table : List ℕ) where
+module _ (table : List (List ℕ)) where
   abbrev pub MarksTargets : ℕ → ℕ → List ℕ → List ℕ → Type 0
-  MarksTargets mask p before after = (P : Pack) → SetsTabled (P .setting) table → Marked (Leads P (invented (setOfMask mask)) p) before after
+  MarksTargets mask p before after = (P : Pack) → Tabled (P .setting) table → Marked (Leads P (invented (setOfMask mask)) p) before after
 
   abbrev pub MarksAll : ℕ → List ℕ → List ℕ → Type 0
   MarksAll mask before after =
-      (P : Pack) → SetsTabled (P .setting) table → Marked (Upto (Leads P (invented (setOfMask mask))) maxPredicates) before after
+      (P : Pack) → Tabled (P .setting) table → Marked (Upto (Leads P (invented (setOfMask mask))) maxPredicates) before after
 
   -- if the set is marked
   abbrev pub MarksFollowing : ℕ → List ℕ → List ℕ → Type 0
   MarksFollowing n before after =
-      (P : Pack) → SetsTabled (P .setting) table → Marked (λ j. (getD before n 0 ≡ 1) × Upto (Leads P (invented (setAt n))) maxPredicates j) before after
+      (P : Pack) → Tabled (P .setting) table → Marked (λ j. (getD before n 0 ≡ 1) × Upto (Leads P (invented (setAt n))) maxPredicates j) before after
 
 -- ---- what follows from the sets that are marked
 
@@ -81,11 +81,11 @@ pub record Round (P : Pack) (before after : List ℕ) : Type 0 where
   pub keeps : (j : ℕ) → getD before j 0 ≡ 1 → getD after j 0 ≡ 1
   pub passes : (i p j : ℕ) → i < maxSets → p < maxPredicates → getD before i 0 ≡ 1 → Leads P (invented (setAt i)) p j → getD after j 0 ≡ 1
 
-abbrev pub RoundShown : List ℕ → List ℕ → List ℕ → Type 0
-RoundShown table before after = (P : Pack) → SetsTabled (P .setting) table → Round P before after
+abbrev pub RoundShown : List (List ℕ) → List ℕ → List ℕ → Type 0
+RoundShown table before after = (P : Pack) → Tabled (P .setting) table → Round P before after
 
-abbrev pub CloseShown : List ℕ → List ℕ → List ℕ → Type 0
-CloseShown table before after = (P : Pack) → SetsTabled (P .setting) table → (j : ℕ) → (getD after j 0 ≡ 1) ↔ Follows P before j
+abbrev pub CloseShown : List (List ℕ) → List ℕ → List ℕ → Type 0
+CloseShown table before after = (P : Pack) → Tabled (P .setting) table → (j : ℕ) → (getD after j 0 ≡ 1) ↔ Follows P before j
 
 -- ---- what the core's nodes get
 
@@ -100,23 +100,23 @@ pub record Lacks (P : Pack) (triples : List ℕ) (s mask p j : ℕ) : Type 0 whe
   pub none : ¬ HasOrigin triples (s * 16 + p)
   pub leads : Leads P (invented (setOfMask mask)) p j
 
-abbrev pub SeedShown : List ℕ → List ℕ → ℕ → ℕ → ℕ → List ℕ → List ℕ → Type 0
+abbrev pub SeedShown : List (List ℕ) → List ℕ → ℕ → ℕ → ℕ → List ℕ → List ℕ → Type 0
 SeedShown table triples s mask p before after =
-    (P : Pack) → SetsTabled (P .setting) table → Marked (Lacks P triples s mask p) before after
+    (P : Pack) → Tabled (P .setting) table → Marked (Lacks P triples s mask p) before after
 
-abbrev pub SeedNodeShown : List ℕ → List ℕ → ℕ → ℕ → List ℕ → List ℕ → Type 0
+abbrev pub SeedNodeShown : List (List ℕ) → List ℕ → ℕ → ℕ → List ℕ → List ℕ → Type 0
 SeedNodeShown table triples s mask before after =
-    (P : Pack) → SetsTabled (P .setting) table → Marked (Upto (Lacks P triples s mask) maxPredicates) before after
+    (P : Pack) → Tabled (P .setting) table → Marked (Upto (Lacks P triples s mask) maxPredicates) before after
 
-abbrev pub SeedsShown : List ℕ → List ℕ → List ℕ → List ℕ → List ℕ → List ℕ → Type 0
+abbrev pub SeedsShown : List (List ℕ) → List ℕ → List ℕ → List ℕ → List ℕ → List ℕ → Type 0
 SeedsShown table nodes triples masks before after =
-    (P : Pack) → SetsTabled (P .setting) table
+    (P : Pack) → Tabled (P .setting) table
     → Marked (Upto (λ s. Upto (Lacks P triples s (getD masks s 0)) maxPredicates) (length nodes)) before after
 
 -- A flag is set exactly if the invented node of its set is built.
 pub record InventedSets (P : Pack) (flags : List ℕ) : Type 0 where
   pub sets : (j : ℕ) → (getD flags j 0 ≡ 1) ↔ ((j < maxSets) × IsBuilt P (invented (setAt j)))
 
-abbrev pub InventShown : List ℕ → List ℕ → List ℕ → List ℕ → List ℕ → Type 0
+abbrev pub InventShown : List (List ℕ) → List ℕ → List ℕ → List ℕ → List ℕ → Type 0
 InventShown table nodes triples masks after =
-    (P : Pack) (shapes : List (List ℕ)) → Input P shapes nodes triples masks → SetsTabled (P .setting) table → InventedSets P after
+    (P : Pack) → Input P table nodes triples masks → InventedSets P after

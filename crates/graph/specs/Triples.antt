@@ -18,7 +18,7 @@ use Rattle.meaning.specs.NoGraph.{MixedKinds}
 use Rattle.meaning.specs.Ordered.{ListOf, _≺_}
 use Rattle.meaning.specs.Pack.{Pack}
 use Rattle.sets.specs.Ordered.{rankOf}
-use Rattle.shapes.specs.Sets.{SetsTabled}
+use Rattle.shapes.specs.Shapes.{Tabled}
 
 -- the most triples that the lent list holds
 abbrev pub maxTriples : ℕ
@@ -72,9 +72,9 @@ pub record SetsPlaced (triples flags places : List ℕ) : Type 0 where
   pub ascend : (i j : ℕ) → 0 < i → i < j → j < 256 → getD flags i 0 ≡ 1 → getD flags j 0 ≡ 1 → getD places i 0 < getD places j 0
 
 -- The records of Q, in order, stand from triple `first` on; the next number is r.
-pub record Listed (table : List ℕ) (Q : Pack → List ℕ → Type 0) (first : ℕ) (out out′ : List ℕ) (r : ℕ) : Type 0 where
+pub record Listed (table : List (List ℕ)) (Q : Pack → List ℕ → Type 0) (first : ℕ) (out out′ : List ℕ) (r : ℕ) : Type 0 where
   pub records : List (List ℕ)
-  pub are : (P : Pack) → SetsTabled (P .setting) table → ListOf _≺_ (Q P) records
+  pub are : (P : Pack) → Tabled (P .setting) table → ListOf _≺_ (Q P) records
   pub long : length (flatten records) ≡ length records * tripleNumbers
   pub count : r ≡ first + length records
   pub written : out′ ≡ overwritten (first * tripleNumbers) (flatten records) out
@@ -93,7 +93,7 @@ pub record TriplesListed (P : Pack) (inOrder : List BuiltNode) (out out′ : Lis
 abbrev pub Numbered : List BuiltNode → List ℕ → Type 0
 Numbered inOrder places = (i j : ℕ) → j < maxSets → getElem? inOrder i ≡ some (invented (setAt j)) → getD places j 0 ≡ i
 
-abbrev pub TriplesShown : List ℕ → List ℕ → List ℕ → List ℕ → List ℕ → List ℕ → List ℕ → List ℕ → ℕ → Type 0
+abbrev pub TriplesShown : List (List ℕ) → List ℕ → List ℕ → List ℕ → List ℕ → List ℕ → List ℕ → List ℕ → ℕ → Type 0
 TriplesShown table nodes triples masks flags places out out′ count =
-    (P : Pack) (shapes : List (List ℕ)) → Input P shapes nodes triples masks → SetsTabled (P .setting) table → InventedSets P flags → ¬ MixedKinds P
+    (P : Pack) → Input P table nodes triples masks → InventedSets P flags → ¬ MixedKinds P
     → (inOrder : List BuiltNode) → NodesInOrder P inOrder → Numbered inOrder places → TriplesListed P inOrder out out′ count

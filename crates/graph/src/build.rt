@@ -13,7 +13,6 @@ use crate::mixed::mixed;
 use crate::nodes::list_nodes;
 use crate::triples::list_triples;
 use sets::ordered::Found;
-use shapes::table::sets_table;
 
 // How many nodes and triples the graph has; or the place of a clash (refusal 10); or that kinds are mixed (refusal 11).
 pub enum Built {
@@ -42,12 +41,11 @@ pub fn build(
         Found::At(i) => return Built::Clash(i),
         Found::Nothing => {}
     }
-    let table = sets_table(&shapes);
-    invent(&table, nodes, triples, masks, flags);
+    invent(&shapes, nodes, triples, masks, flags);
     if mixed(nodes, masks, flags) {
         return Built::Mixed;
     }
     let n = list_nodes(arities, nodes, masks, flags, places, records);
-    let t = list_triples(&table, nodes, triples, masks, flags, places, edges);
+    let t = list_triples(&shapes, nodes, triples, masks, flags, places, edges);
     Built::Graph(n, t)
 }

@@ -7,11 +7,12 @@ ghost use Rattle.graph.specs.Input.{Placed, keysBefore, maxCoreNodes};
 ghost use Rattle.graph.specs.Invent.{maxSets, numberOf, maskOf, Progress, MarksTargets, MarksAll, RoundShown, MarksFollowing, CloseShown, SeedShown, SeedNodeShown, SeedsShown, InventShown};
 ghost use Rattle.meaning.specs.Limits.{maxPredicates};
 ghost use Rattle.meaning.specs.Ordered.{InOrder};
-ghost use Rattle.shapes.specs.Sets.{RequiredBy};
+ghost use Rattle.meaning.specs.Pack.{requires as Requires};
+ghost use Rattle.shapes.specs.Shapes.{CodesFit, SomePasses};
 use meaning::MAX_PREDICATES;
 use sets::buffers::clear_u16;
-use shapes::table::required;
-use shapes::table::targets;
+use shapes::required;
+use shapes::targets;
 
 // How many sets there are of the pack's types and Literal.
 pub const MAX_SETS: usize = 512;
@@ -32,11 +33,11 @@ fn set_mask(number: usize) -> u16
 }
 
 // Marks the p-targets of a set that is known to require p; says whether that is new.
-fn mark_set(table: &[u16; 4096], mask: u16, p: usize, flags: &mut [u16]) -> bool
-    requires { ⌜ (p < maxPredicates) × (maxSets ≤ length (now flags)) × RequiredBy (now table) mask p true ⌝ }
-    ensures { λ r. ⌜ Progress r (now (flags .entry)) (now (flags .exit)) × MarksTargets (now (table .entry)) mask p (now (flags .entry)) (now (flags .exit)) ⌝ }
+fn mark_set(shapes: &[[u16; 12]; 8], mask: u16, p: usize, flags: &mut [u16]) -> bool
+    requires { ⌜ (p < maxPredicates) × (maxSets ≤ length (now flags)) × SomePasses Requires (now shapes) mask p true × CodesFit (now shapes) ⌝ }
+    ensures { λ r. ⌜ Progress r (now (flags .entry)) (now (flags .exit)) × MarksTargets (now (shapes .entry)) mask p (now (flags .entry)) (now (flags .exit)) ⌝ }
 {
-    let j = set_number(targets(table, mask, p));
+    let j = set_number(targets(shapes, mask, p));
     if flags[j] == 1 {
         return false;
     }
@@ -45,24 +46,24 @@ fn mark_set(table: &[u16; 4096], mask: u16, p: usize, flags: &mut [u16]) -> bool
 }
 
 // Marks the p-targets of a set if it requires p; says whether that is new.
-fn mark_targets(table: &[u16; 4096], mask: u16, p: usize, flags: &mut [u16]) -> bool
-    requires { ⌜ (p < maxPredicates) × (maxSets ≤ length (now flags)) ⌝ }
-    ensures { λ r. ⌜ Progress r (now (flags .entry)) (now (flags .exit)) × MarksTargets (now (table .entry)) mask p (now (flags .entry)) (now (flags .exit)) ⌝ }
+fn mark_targets(shapes: &[[u16; 12]; 8], mask: u16, p: usize, flags: &mut [u16]) -> bool
+    requires { ⌜ (p < maxPredicates) × (maxSets ≤ length (now flags)) × CodesFit (now shapes) ⌝ }
+    ensures { λ r. ⌜ Progress r (now (flags .entry)) (now (flags .exit)) × MarksTargets (now (shapes .entry)) mask p (now (flags .entry)) (now (flags .exit)) ⌝ }
 {
-    if !required(table, mask, p) {
+    if !required(shapes, mask, p) {
         return false;
     }
-    mark_set(table, mask, p, flags)
+    mark_set(shapes, mask, p, flags)
 }
 
 // The same for every predicate.
-fn mark_all(table: &[u16; 4096], mask: u16, flags: &mut [u16]) -> bool
-    requires { ⌜ (maxSets ≤ length (now flags)) ⌝ }
-    ensures { λ r. ⌜ Progress r (now (flags .entry)) (now (flags .exit)) × MarksAll (now (table .entry)) mask (now (flags .entry)) (now (flags .exit)) ⌝ }
+fn mark_all(shapes: &[[u16; 12]; 8], mask: u16, flags: &mut [u16]) -> bool
+    requires { ⌜ (maxSets ≤ length (now flags)) × CodesFit (now shapes) ⌝ }
+    ensures { λ r. ⌜ Progress r (now (flags .entry)) (now (flags .exit)) × MarksAll (now (shapes .entry)) mask (now (flags .entry)) (now (flags .exit)) ⌝ }
 {
     let mut changed = false;
     for p in 0..MAX_PREDICATES {
-        let new = mark_targets(table, mask, p, flags);
+        let new = mark_targets(shapes, mask, p, flags);
         if new {
             changed = true;
         }
@@ -71,24 +72,24 @@ fn mark_all(table: &[u16; 4096], mask: u16, flags: &mut [u16]) -> bool
 }
 
 // Marks what follows from a set, if it is marked; says whether that is new.
-fn mark_following(table: &[u16; 4096], j: usize, flags: &mut [u16]) -> bool
-    requires { ⌜ (j < maxSets) × (maxSets ≤ length (now flags)) ⌝ }
-    ensures { λ r. ⌜ Progress r (now (flags .entry)) (now (flags .exit)) × MarksFollowing (now (table .entry)) j (now (flags .entry)) (now (flags .exit)) ⌝ }
+fn mark_following(shapes: &[[u16; 12]; 8], j: usize, flags: &mut [u16]) -> bool
+    requires { ⌜ (j < maxSets) × (maxSets ≤ length (now flags)) × CodesFit (now shapes) ⌝ }
+    ensures { λ r. ⌜ Progress r (now (flags .entry)) (now (flags .exit)) × MarksFollowing (now (shapes .entry)) j (now (flags .entry)) (now (flags .exit)) ⌝ }
 {
     if flags[j] != 1 {
         return false;
     }
-    mark_all(table, set_mask(j), flags)
+    mark_all(shapes, set_mask(j), flags)
 }
 
 // Marks what follows from each marked set; says whether anything is new.
-fn round(table: &[u16; 4096], flags: &mut [u16]) -> bool
-    requires { ⌜ (maxSets ≤ length (now flags)) ⌝ }
-    ensures { λ r. ⌜ Progress r (now (flags .entry)) (now (flags .exit)) × RoundShown (now (table .entry)) (now (flags .entry)) (now (flags .exit)) ⌝ }
+fn round(shapes: &[[u16; 12]; 8], flags: &mut [u16]) -> bool
+    requires { ⌜ (maxSets ≤ length (now flags)) × CodesFit (now shapes) ⌝ }
+    ensures { λ r. ⌜ Progress r (now (flags .entry)) (now (flags .exit)) × RoundShown (now (shapes .entry)) (now (flags .entry)) (now (flags .exit)) ⌝ }
 {
     let mut changed = false;
     for j in 0..MAX_SETS {
-        let new = mark_following(table, j, flags);
+        let new = mark_following(shapes, j, flags);
         if new {
             changed = true;
         }
@@ -97,12 +98,12 @@ fn round(table: &[u16; 4096], flags: &mut [u16]) -> bool
 }
 
 // Rounds until one adds nothing.
-fn close(table: &[u16; 4096], flags: &mut [u16])
-    requires { ⌜ (maxSets ≤ length (now flags)) ⌝ }
-    ensures { λ _. ⌜ CloseShown (now (table .entry)) (now (flags .entry)) (now (flags .exit)) ⌝ }
+fn close(shapes: &[[u16; 12]; 8], flags: &mut [u16])
+    requires { ⌜ (maxSets ≤ length (now flags)) × CodesFit (now shapes) ⌝ }
+    ensures { λ _. ⌜ CloseShown (now (shapes .entry)) (now (flags .entry)) (now (flags .exit)) ⌝ }
 {
     loop {
-        let changed = round(table, flags);
+        let changed = round(shapes, flags);
         if !changed {
             return;
         }
@@ -126,7 +127,7 @@ fn after(triples: &[u64], origin: u64, from: usize) -> usize
 
 // Marks the p-targets of a core node that requires p and has no p-edge; returns the place after its p-edges.
 fn seed_edge(
-    table: &[u16; 4096],
+    shapes: &[[u16; 12]; 8],
     triples: &[u64],
     subject: usize,
     mask: u16,
@@ -134,53 +135,59 @@ fn seed_edge(
     from: usize,
     flags: &mut [u16],
 ) -> usize
-    requires { ⌜ InOrder _<_ (now triples) × (subject < maxCoreNodes) × (p < maxPredicates) × (from ≡ keysBefore (subject * 16 + p) (now triples)) × (maxSets ≤ length (now flags)) ⌝ }
-    ensures { λ r. ⌜ SeedShown (now (table .entry)) (now (triples .entry)) subject mask p (now (flags .entry)) (now (flags .exit)) × (r ≡ keysBefore (subject * 16 + p + 1) (now (triples .entry))) ⌝ }
+    requires { ⌜ InOrder _<_ (now triples) × (subject < maxCoreNodes) × (p < maxPredicates) × (from ≡ keysBefore (subject * 16 + p) (now triples)) × (maxSets ≤ length (now flags)) × CodesFit (now shapes) ⌝ }
+    ensures { λ r. ⌜ SeedShown (now (shapes .entry)) (now (triples .entry)) subject mask p (now (flags .entry)) (now (flags .exit)) × (r ≡ keysBefore (subject * 16 + p + 1) (now (triples .entry))) ⌝ }
 {
     let at = after(triples, (subject * 16 + p) as u64, from);
     if at != from {
         return at;
     }
-    mark_targets(table, mask, p, flags);
+    mark_targets(shapes, mask, p, flags);
     at
 }
 
 // The same for every predicate.
 fn seed_node(
-    table: &[u16; 4096],
+    shapes: &[[u16; 12]; 8],
     triples: &[u64],
     subject: usize,
     mask: u16,
     from: usize,
     flags: &mut [u16],
 ) -> usize
-    requires { ⌜ InOrder _<_ (now triples) × (subject < maxCoreNodes) × (from ≡ keysBefore (subject * 16) (now triples)) × (maxSets ≤ length (now flags)) ⌝ }
-    ensures { λ r. ⌜ SeedNodeShown (now (table .entry)) (now (triples .entry)) subject mask (now (flags .entry)) (now (flags .exit)) × (r ≡ keysBefore (subject * 16 + maxPredicates) (now (triples .entry))) ⌝ }
+    requires { ⌜ InOrder _<_ (now triples) × (subject < maxCoreNodes) × (from ≡ keysBefore (subject * 16) (now triples)) × (maxSets ≤ length (now flags)) × CodesFit (now shapes) ⌝ }
+    ensures { λ r. ⌜ SeedNodeShown (now (shapes .entry)) (now (triples .entry)) subject mask (now (flags .entry)) (now (flags .exit)) × (r ≡ keysBefore (subject * 16 + maxPredicates) (now (triples .entry))) ⌝ }
 {
     let mut at = from;
     for p in 0..MAX_PREDICATES {
-        at = seed_edge(table, triples, subject, mask, p, at, flags);
+        at = seed_edge(shapes, triples, subject, mask, p, at, flags);
     }
     at
 }
 
 // The same for every core node.
-fn seed(table: &[u16; 4096], nodes: &[u64], triples: &[u64], masks: &[u16], flags: &mut [u16])
-    requires { ⌜ Placed (now nodes) (now triples) (now masks) × (maxSets ≤ length (now flags)) ⌝ }
-    ensures { λ _. ⌜ SeedsShown (now (table .entry)) (now (nodes .entry)) (now (triples .entry)) (now (masks .entry)) (now (flags .entry)) (now (flags .exit)) ⌝ }
+fn seed(shapes: &[[u16; 12]; 8], nodes: &[u64], triples: &[u64], masks: &[u16], flags: &mut [u16])
+    requires { ⌜ Placed (now nodes) (now triples) (now masks) × (maxSets ≤ length (now flags)) × CodesFit (now shapes) ⌝ }
+    ensures { λ _. ⌜ SeedsShown (now (shapes .entry)) (now (nodes .entry)) (now (triples .entry)) (now (masks .entry)) (now (flags .entry)) (now (flags .exit)) ⌝ }
 {
     let mut at = 0;
     for s in 0..nodes.len() {
-        at = seed_node(table, triples, s, masks[s], at, flags);
+        at = seed_node(shapes, triples, s, masks[s], at, flags);
     }
 }
 
 // The sets of the invented nodes: what the core leads to, and what follows.
-pub fn invent(table: &[u16; 4096], nodes: &[u64], triples: &[u64], masks: &[u16], flags: &mut [u16])
-    requires { ⌜ Placed (now nodes) (now triples) (now masks) × (maxSets ≤ length (now flags)) ⌝ }
-    ensures { λ _. ⌜ InventShown (now (table .entry)) (now (nodes .entry)) (now (triples .entry)) (now (masks .entry)) (now (flags .exit)) ⌝ }
+pub fn invent(
+    shapes: &[[u16; 12]; 8],
+    nodes: &[u64],
+    triples: &[u64],
+    masks: &[u16],
+    flags: &mut [u16],
+)
+    requires { ⌜ Placed (now nodes) (now triples) (now masks) × (maxSets ≤ length (now flags)) × CodesFit (now shapes) ⌝ }
+    ensures { λ _. ⌜ InventShown (now (shapes .entry)) (now (nodes .entry)) (now (triples .entry)) (now (masks .entry)) (now (flags .exit)) ⌝ }
 {
     clear_u16(flags);
-    seed(table, nodes, triples, masks, flags);
-    close(table, flags);
+    seed(shapes, nodes, triples, masks, flags);
+    close(shapes, flags);
 }

@@ -9,12 +9,13 @@ ghost use Rattle.graph.specs.Records.{SetPlaces, overwritten};
 ghost use Rattle.graph.specs.Triples.{EdgeFrom, EdgesListed, IriEdge, Listed, SetEdge, SetsPlaced, SubjectEdge, TriplesShown, maxTriples};
 ghost use Rattle.meaning.specs.Limits.{maxCoreTriples, maxIris, maxPredicates, tripleListLength};
 ghost use Rattle.meaning.specs.Ordered.{InOrder};
+ghost use Rattle.shapes.specs.Shapes.{CodesFit};
 use crate::invent::set_number;
 use crate::mixed::LITERALS;
 use meaning::MAX_PREDICATES;
 use sets::ordered::rank;
-use shapes::table::required;
-use shapes::table::targets;
+use shapes::required;
+use shapes::targets;
 
 // Writes a triple's three numbers at its place.
 fn write_triple(out: &mut [u16], triple: usize, subject: u16, predicate: u16, object: u16)
@@ -67,7 +68,7 @@ fn list_edges(
 
 // Writes the edges of a subject and a predicate: the core's, or else the one to the invented node of its p-targets.
 fn list_origin(
-    table: &[u16; 4096],
+    shapes: &[[u16; 12]; 8],
     triples: &[u64],
     places: &[u16],
     subject: usize,
@@ -76,8 +77,8 @@ fn list_origin(
     next: Next,
     out: &mut [u16],
 ) -> Next
-    requires { ⌜ InOrder _<_ (now triples) × (maxSets ≤ length (now places)) × (subject < 1024) × (p < maxPredicates) × (next .at ≡ keysBefore (subject * 16 + p) (now triples)) × (next .triple + keysBefore (subject * 16 + p + 1) (now triples) + 1 ≤ maxTriples + next .at) × (tripleListLength ≤ length (now out)) ⌝ }
-    ensures { λ r. ⌜ Listed (now (table .entry)) (λ P. EdgeFrom P (now (triples .entry)) (now (places .entry)) subject mask p) (next .triple) (now (out .entry)) (now (out .exit)) (r .triple) × (r .triple + next .at ≤ next .triple + 1 + r .at) × (r .at ≡ keysBefore (subject * 16 + p + 1) (now (triples .entry))) ⌝ }
+    requires { ⌜ InOrder _<_ (now triples) × (maxSets ≤ length (now places)) × (subject < 1024) × (p < maxPredicates) × (next .at ≡ keysBefore (subject * 16 + p) (now triples)) × (next .triple + keysBefore (subject * 16 + p + 1) (now triples) + 1 ≤ maxTriples + next .at) × (tripleListLength ≤ length (now out)) × CodesFit (now shapes) ⌝ }
+    ensures { λ r. ⌜ Listed (now (shapes .entry)) (λ P. EdgeFrom P (now (triples .entry)) (now (places .entry)) subject mask p) (next .triple) (now (out .entry)) (now (out .exit)) (r .triple) × (r .triple + next .at ≤ next .triple + 1 + r .at) × (r .at ≡ keysBefore (subject * 16 + p + 1) (now (triples .entry))) ⌝ }
 {
     let first = next.triple;
     let from = next.at;
@@ -88,10 +89,10 @@ fn list_origin(
             at,
         };
     }
-    if !required(table, mask, p) {
+    if !required(shapes, mask, p) {
         return next;
     }
-    let set = set_number(targets(table, mask, p));
+    let set = set_number(targets(shapes, mask, p));
     write_triple(out, first, subject as u16, p as u16, places[set]);
     Next {
         triple: first + 1,
@@ -101,7 +102,7 @@ fn list_origin(
 
 // The same for every predicate.
 fn list_subject(
-    table: &[u16; 4096],
+    shapes: &[[u16; 12]; 8],
     triples: &[u64],
     places: &[u16],
     subject: usize,
@@ -109,12 +110,12 @@ fn list_subject(
     first: Next,
     out: &mut [u16],
 ) -> Next
-    requires { ⌜ InOrder _<_ (now triples) × (maxSets ≤ length (now places)) × (subject < 1024) × (first .at ≡ keysBefore (subject * 16) (now triples)) × (first .triple + maxPredicates + keysBefore (subject * 16 + maxPredicates) (now triples) ≤ maxTriples + first .at) × (tripleListLength ≤ length (now out)) ⌝ }
-    ensures { λ r. ⌜ Listed (now (table .entry)) (λ P. SubjectEdge P (now (triples .entry)) (now (places .entry)) subject mask) (first .triple) (now (out .entry)) (now (out .exit)) (r .triple) × (r .triple + first .at ≤ first .triple + maxPredicates + r .at) × (r .at ≡ keysBefore (subject * 16 + maxPredicates) (now (triples .entry))) ⌝ }
+    requires { ⌜ InOrder _<_ (now triples) × (maxSets ≤ length (now places)) × (subject < 1024) × (first .at ≡ keysBefore (subject * 16) (now triples)) × (first .triple + maxPredicates + keysBefore (subject * 16 + maxPredicates) (now triples) ≤ maxTriples + first .at) × (tripleListLength ≤ length (now out)) × CodesFit (now shapes) ⌝ }
+    ensures { λ r. ⌜ Listed (now (shapes .entry)) (λ P. SubjectEdge P (now (triples .entry)) (now (places .entry)) subject mask) (first .triple) (now (out .entry)) (now (out .exit)) (r .triple) × (r .triple + first .at ≤ first .triple + maxPredicates + r .at) × (r .at ≡ keysBefore (subject * 16 + maxPredicates) (now (triples .entry))) ⌝ }
 {
     let mut next = first;
     for p in 0..MAX_PREDICATES {
-        let more = list_origin(table, triples, places, subject, mask, p, next, out);
+        let more = list_origin(shapes, triples, places, subject, mask, p, next, out);
         next = more;
     }
     next
@@ -122,20 +123,20 @@ fn list_subject(
 
 // Those of every IRI: literals come after all IRIs and have no edges.
 fn list_iris(
-    table: &[u16; 4096],
+    shapes: &[[u16; 12]; 8],
     nodes: &[u64],
     triples: &[u64],
     masks: &[u16],
     places: &[u16],
     out: &mut [u16],
 ) -> usize
-    requires { ⌜ Placed (now nodes) (now triples) (now masks) × (maxSets ≤ length (now places)) × (tripleListLength ≤ length (now out)) ⌝ }
-    ensures { λ r. ⌜ Listed (now (table .entry)) (IriEdge (now (nodes .entry)) (now (triples .entry)) (now (masks .entry)) (now (places .entry))) 0 (now (out .entry)) (now (out .exit)) r × (r ≤ maxCoreTriples + maxIris * maxPredicates) ⌝ }
+    requires { ⌜ Placed (now nodes) (now triples) (now masks) × (maxSets ≤ length (now places)) × (tripleListLength ≤ length (now out)) × CodesFit (now shapes) ⌝ }
+    ensures { λ r. ⌜ Listed (now (shapes .entry)) (IriEdge (now (nodes .entry)) (now (triples .entry)) (now (masks .entry)) (now (places .entry))) 0 (now (out .entry)) (now (out .exit)) r × (r ≤ maxCoreTriples + maxIris * maxPredicates) ⌝ }
 {
     let iris = rank(nodes, LITERALS);
     let mut next = Next { triple: 0, at: 0 };
     for s in 0..iris {
-        let more = list_subject(table, triples, places, s, masks[s], next, out);
+        let more = list_subject(shapes, triples, places, s, masks[s], next, out);
         next = more;
     }
     next.triple
@@ -143,7 +144,7 @@ fn list_iris(
 
 // Those of a set of types, if it is marked: its node comes after all subjects of the core.
 fn list_set_edges(
-    table: &[u16; 4096],
+    shapes: &[[u16; 12]; 8],
     triples: &[u64],
     flags: &[u16],
     places: &[u16],
@@ -151,8 +152,8 @@ fn list_set_edges(
     first: usize,
     out: &mut [u16],
 ) -> usize
-    requires { ⌜ SetsPlaced (now triples) (now flags) (now places) × InOrder _<_ (now triples) × (maxSets ≤ length (now flags)) × (maxSets ≤ length (now places)) × (0 < set) × (set < 256) × (first + maxPredicates ≤ maxTriples) × (tripleListLength ≤ length (now out)) ⌝ }
-    ensures { λ r. ⌜ Listed (now (table .entry)) (λ P. SetEdge (now (triples .entry)) (now (flags .entry)) (now (places .entry)) P set) first (now (out .entry)) (now (out .exit)) r × (r ≤ first + maxPredicates) ⌝ }
+    requires { ⌜ SetsPlaced (now triples) (now flags) (now places) × InOrder _<_ (now triples) × (maxSets ≤ length (now flags)) × (maxSets ≤ length (now places)) × (0 < set) × (set < 256) × (first + maxPredicates ≤ maxTriples) × (tripleListLength ≤ length (now out)) × CodesFit (now shapes) ⌝ }
+    ensures { λ r. ⌜ Listed (now (shapes .entry)) (λ P. SetEdge (now (triples .entry)) (now (flags .entry)) (now (places .entry)) P set) first (now (out .entry)) (now (out .exit)) r × (r ≤ first + maxPredicates) ⌝ }
 {
     if flags[set] != 1 {
         return first;
@@ -162,32 +163,32 @@ fn list_set_edges(
         triple: first,
         at: triples.len(),
     };
-    let next = list_subject(table, triples, places, subject, set as u16, from, out);
+    let next = list_subject(shapes, triples, places, subject, set as u16, from, out);
     next.triple
 }
 
 // Those of every marked set of types: the invented literal has no edges.
 fn list_sets_edges(
-    table: &[u16; 4096],
+    shapes: &[[u16; 12]; 8],
     triples: &[u64],
     flags: &[u16],
     places: &[u16],
     first: usize,
     out: &mut [u16],
 ) -> usize
-    requires { ⌜ SetsPlaced (now triples) (now flags) (now places) × InOrder _<_ (now triples) × (maxSets ≤ length (now flags)) × (maxSets ≤ length (now places)) × (first ≤ maxCoreTriples + maxIris * maxPredicates) × (tripleListLength ≤ length (now out)) ⌝ }
-    ensures { λ r. ⌜ Listed (now (table .entry)) (λ P. Upto (SetEdge (now (triples .entry)) (now (flags .entry)) (now (places .entry)) P) 256) first (now (out .entry)) (now (out .exit)) r × (r ≤ maxTriples) ⌝ }
+    requires { ⌜ SetsPlaced (now triples) (now flags) (now places) × InOrder _<_ (now triples) × (maxSets ≤ length (now flags)) × (maxSets ≤ length (now places)) × (first ≤ maxCoreTriples + maxIris * maxPredicates) × (tripleListLength ≤ length (now out)) × CodesFit (now shapes) ⌝ }
+    ensures { λ r. ⌜ Listed (now (shapes .entry)) (λ P. Upto (SetEdge (now (triples .entry)) (now (flags .entry)) (now (places .entry)) P) 256) first (now (out .entry)) (now (out .exit)) r × (r ≤ maxTriples) ⌝ }
 {
     let mut next = first;
     for j in 1..256 {
-        next = list_set_edges(table, triples, flags, places, j, next, out);
+        next = list_set_edges(shapes, triples, flags, places, j, next, out);
     }
     next
 }
 
 // Writes the records of all edges, ascending; returns how many there are.
 pub fn list_triples(
-    table: &[u16; 4096],
+    shapes: &[[u16; 12]; 8],
     nodes: &[u64],
     triples: &[u64],
     masks: &[u16],
@@ -195,9 +196,9 @@ pub fn list_triples(
     places: &[u16],
     out: &mut [u16],
 ) -> usize
-    requires { ⌜ Placed (now nodes) (now triples) (now masks) × SetPlaces (now flags) (length (now nodes)) (now places) × (maxSets ≤ length (now flags)) × (maxSets ≤ length (now places)) × (tripleListLength ≤ length (now out)) ⌝ }
-    ensures { λ r. ⌜ TriplesShown (now (table .entry)) (now (nodes .entry)) (now (triples .entry)) (now (masks .entry)) (now (flags .entry)) (now (places .entry)) (now (out .entry)) (now (out .exit)) r ⌝ }
+    requires { ⌜ Placed (now nodes) (now triples) (now masks) × SetPlaces (now flags) (length (now nodes)) (now places) × (maxSets ≤ length (now flags)) × (maxSets ≤ length (now places)) × (tripleListLength ≤ length (now out)) × CodesFit (now shapes) ⌝ }
+    ensures { λ r. ⌜ TriplesShown (now (shapes .entry)) (now (nodes .entry)) (now (triples .entry)) (now (masks .entry)) (now (flags .entry)) (now (places .entry)) (now (out .entry)) (now (out .exit)) r ⌝ }
 {
-    let next = list_iris(table, nodes, triples, masks, places, out);
-    list_sets_edges(table, triples, flags, places, next, out)
+    let next = list_iris(shapes, nodes, triples, masks, places, out);
+    list_sets_edges(shapes, triples, flags, places, next, out)
 }

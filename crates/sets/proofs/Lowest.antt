@@ -10,7 +10,7 @@ use native.Mathlib.Omega.{arith}
 use Prim.Native.Nat.{ℕ, zero, suc, _*_, _-_, _/_, _%_, _^_, _≤_, _<_, min}
 use Rattle.meaning.specs.TypeSet.{bit}
 use Rattle.sets.proofs.Cases.{even-or-odd}
-use Rattle.sets.proofs.Mask.{half-lt, bit-small, intersection-member}
+use Rattle.sets.proofs.Mask.{half-lt, intersection-member}
 
 -- the mask without its lowest member
 abbrev pub cleared : ℕ → ℕ
@@ -94,7 +94,3 @@ lowest zero n p h = absurd (let k : n < 1 = h in omega arith)
 lowest (suc d) n p h =
     even-or-odd n (λ e. rw e (lowest-even n _ p e (lowest d (n / 2) (omega arith) (half-lt n d h))))
     (λ e. rw e (lowest-odd n e))
-
--- it is below k where the mask is below 2 ^ k
-pub lowest-small : (d k n : ℕ) → 0 < n → n < 2 ^ d → n < 2 ^ k → trailingZeros d n < k
-lowest-small d k n p h l = bit-small k (trailingZeros d n) n (lowest d n p h .member) l

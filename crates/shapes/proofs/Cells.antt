@@ -1,9 +1,9 @@
 -- What a cell says of the shape that it holds. Assumes nothing.
-use mathlib.Core.List.{List, []}
+use mathlib.Core.List.{List}
 use mathlib.Core.Option.{Option, none, some}
-use mathlib.Core.Path.{_≡_, refl, sym, _∙_}
+use mathlib.Core.Path.{_≡_, refl, _∙_}
 use native.Mathlib.Omega.{arith}
-use Prim.Native.Nat.{ℕ, suc, _+_, _*_, _/_, _%_, _^_, _≤_, _<_}
+use Prim.Native.Nat.{ℕ, _/_, _%_, _≤_, _<_}
 use Rattle.meaning.specs.Limits.{maxTypes, maxPredicates}
 use Rattle.meaning.specs.Pack.{HasShape, Multiplicity, Setting, Shape, anyNumber, atLeastOne, multiplicityNumber, one, optional, shapeOf}
 use Rattle.meaning.specs.Tables.{ShapeTable, cellAt, cellOf, targetCode}

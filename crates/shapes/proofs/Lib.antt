@@ -1,6 +1,5 @@
 pub mod Sets
 pub mod Cells
-pub mod Rows
-pub mod Numbers
-pub mod Filling
 pub mod Search
+pub mod Passing
+pub mod Joining

@@ -1,6 +1,6 @@
 -- A mask of 16 bits as a type set: type t's bit is bit t, Literal's is bit 15. Assumes nothing.
 use lib.Bits.{bitAnd, bitOr, and-le-r, and-mask, or-lt}
-use lib.Dec.{T, leb, leb→le, le→leb, lit<}
+use lib.Dec.{leb, leb→le, le→leb, lit<}
 use lib.Pow.{pow-lt, suc-ones}
 use mathlib.Core.Logic.{_↔_, _⊎_, inl, inr}
 use mathlib.Core.Path.{_≡_, refl, sym, ap, _∙_, subst}
@@ -15,7 +15,7 @@ use Rattle.meaning.specs.TypeSet.{bit, _∈ₜ_}
 use Rattle.sets.proofs.Mask.{bit-small, intersection-member, union-member}
 
 -- 2 ^ k - 1 is the mask of all types below k
-pub ones-bit : (k t : ℕ) → t < k → bit t (2 ^ k - 1) ≡ 1
+ones-bit : (k t : ℕ) → t < k → bit t (2 ^ k - 1) ≡ 1
 unfolding bit
 ones-bit zero t h = absurd (not-suc-le-zero h)
 ones-bit (suc k) zero h = omega (arith, pow-suc 2 k, suc-ones k)

@@ -6,7 +6,7 @@ use mathlib.Core.Logic.{_↔_}
 use mathlib.Core.Path.{_≡_}
 use Prim.Native.Nat.{ℕ, _*_, _<_}
 use Rattle.meaning.specs.Limits.{maxTypes, maxPredicates}
-use Rattle.meaning.specs.Pack.{HasShape, Multiplicity, Setting, Shape, type}
+use Rattle.meaning.specs.Pack.{HasShape, Multiplicity, Setting, Shape, Target, type}
 use Rattle.meaning.specs.Tables.{ShapeTable, cellAt, setOfMask}
 use Rattle.meaning.specs.TypeSet.{_∈ₜ_}
 
@@ -31,6 +31,10 @@ pub record Tabled (S : Setting) (table : List (List ℕ)) : Type 0 where
 -- A cell's target code is below 16: so is every target's, 15 being Literal's.
 abbrev pub CodesFit : List (List ℕ) → Type 0
 CodesFit table = (t p : ℕ) → t < maxTypes → p < maxPredicates → cellAt table t p < 16 * 8
+
+-- "the targets of p in every shape of a member of X, required or not": r is the mask of their set
+abbrev pub TargetsOf : List (List ℕ) → ℕ → ℕ → ℕ → Type 0
+TargetsOf table mask p r = (S : Setting) → Tabled S table → (R : Target) → (R ∈ₜ setOfMask r) ↔ SomeShape S mask p (λ s. s .target ≡ R)
 
 -- some member's multiplicity for p passes the test
 abbrev pub SomePasses : (Multiplicity → Bool) → List (List ℕ) → ℕ → ℕ → Bool → Type 0

@@ -1,14 +1,49 @@
 // What a type set's shapes say of a predicate. A cell of the shape table is target code * 8 + multiplicity, 0 for no shape.
-ghost use mathlib.Core.Path.{_≡_};
+// "The members of a type set are taken from the lowest number upward."
 ghost use Prim.Native.Nat.{_<_};
 ghost use Rattle.meaning.specs.Limits.{maxPredicates};
-ghost use Rattle.meaning.specs.Pack.{limits as Limits};
-ghost use Rattle.shapes.specs.Shapes.{SomePasses};
-
-pub mod table; // targets and required predicates of every set of types
+ghost use Rattle.meaning.specs.Pack.{limits as Limits, requires as Requires};
+ghost use Rattle.shapes.specs.Shapes.{CodesFit, SomePasses, TargetsOf};
 
 // The types of a mask: all but Literal.
 pub const TYPES: u16 = 255;
+
+// The mask of the targets of p in the members' shapes.
+pub fn targets(shapes: &[[u16; 12]; 8], mask: u16, p: usize) -> u16
+    requires { ⌜ (p < maxPredicates) × CodesFit (now shapes) ⌝ }
+    ensures { λ r. ⌜ TargetsOf (now (shapes .entry)) mask p r ⌝ }
+{
+    let mut left = mask & TYPES;
+    let mut all = 0u16;
+    while left != 0 {
+        let t = u16::trailing_zeros(left) as usize;
+        left &= left - 1;
+        let cell = shapes[t][p];
+        if cell != 0 {
+            all |= 1u16 << (cell / 8);
+        }
+    }
+    all
+}
+
+// Whether some member's shape requires p.
+pub fn required(shapes: &[[u16; 12]; 8], mask: u16, p: usize) -> bool
+    requires { ⌜ p < maxPredicates ⌝ }
+    ensures { λ r. ⌜ SomePasses Requires (now (shapes .entry)) mask p r ⌝ }
+{
+    let mut left = mask & TYPES;
+    while left != 0 {
+        let t = u16::trailing_zeros(left) as usize;
+        left &= left - 1;
+        let cell = shapes[t][p];
+        if cell != 0 {
+            if meaning::requires_edge((cell % 8) as u8) {
+                return true;
+            }
+        }
+    }
+    false
+}
 
 // Whether some member's shape limits p to one object.
 pub fn limited(shapes: &[[u16; 12]; 8], mask: u16, p: usize) -> bool

@@ -8,10 +8,10 @@ use Rattle.core.proofs.typing.spread.Statement.{statement}
 use Rattle.core.proofs.typing.spread.Tie as tie
 
 abbrev Inv-loop : tie.InvT-loop
-Inv-loop sets triples masks₀ masks = Spreading sets triples masks₀ masks
+Inv-loop shapes triples masks₀ masks = Spreading shapes triples masks₀ masks
 
 abbrev μ-loop : tie.MeasureT-loop
-μ-loop sets triples masks₀ masks = room masks
+μ-loop shapes triples masks₀ masks = room masks
 
 pub spread-spec : {M : Type 1} → statement M
 spread-spec =
@@ -20,7 +20,7 @@ spread-spec =
     Inv-loop
     μ-loop
     (λ c. spread-start _ _ _)  -- loop-holds
-    (λ c κs. let s = c .before .before .before .before in (s .pre .0, omega (arith, c .before .loop .inv .long, s .pre .1)))  -- round-requires
+    (λ c κs. let s = c .before .before .before .before in (s .pre .0, s .pre .1, omega (arith, c .before .loop .inv .long, s .pre .2)))  -- round-requires
     (λ c. search needs)  -- same-length
     (λ c. let r = c .before .before .before .round in spread-done (c .before .before .before .before .before .loop .inv) _ (rw (not-true (r .result) (c .if1 .taken)) at (r .ensures)) (r .kept .1 .1 .0))  -- returns
     (λ c. let r = c .before .before .before .round in round-nearer (rw (not-false (r .result) (c .if1 .left)) at (r .ensures)))  -- loop-less

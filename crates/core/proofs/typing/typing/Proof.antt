@@ -9,7 +9,6 @@ typing-spec =
     tie.close
     (tie.spec
     (λ c κs. search needs)  -- mark-rules-requires
-    (λ c κs. search needs)  -- sets-table-requires
     (λ c κs. search needs)  -- spread-requires
     (λ c. search needs)  -- same-length
-    (λ c. let m = c .before .before .before .before .before .before .before .before .before in let s = m .before .before .before .before .before .before in let t = c .before .before .before .before .before .sets-table in let p = c .before .before .spread in types-answer (s .pre .1) (s .args .nodes .now) (s .pre .3) (s .args .triples .now) (s .args .masks .now) (s .pre .7) (m .mark-rules .last .1 .1 .1 .1 .1 .0) (m .mark-rules .ensures) (s .args .t1) (t .result) (p .last .1 .1 .0) (t .ensures) (p .ensures)))  -- returns
+    (λ c. let s = c .before .before .before .before .before .before .before .before .before .before .before .before .before in let m = c .before .before .before .before .before .before .before .mark-rules in let p = c .before .before .spread in types-answer (s .pre .1) (s .args .nodes .now) (s .pre .3) (s .args .triples .now) (s .args .masks .now) (s .pre .7) (m .last .1 .1 .1 .1 .1 .0) (m .ensures) (s .args .t1) (p .last .1 .1 .0) (p .ensures)))  -- returns

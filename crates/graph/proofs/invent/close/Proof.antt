@@ -9,13 +9,13 @@ use Rattle.graph.proofs.Rounds.{Reached, closed, reached-again, reached
 use Rattle.graph.proofs.invent.close.Statement.{statement}
 use Rattle.graph.proofs.invent.close.Tie as tie
 use Rattle.meaning.specs.Pack.{Pack}
-use Rattle.shapes.specs.Sets.{SetsTabled}
+use Rattle.shapes.specs.Shapes.{Tabled}
 
 abbrev Inv-loop : tie.InvT-loop
-Inv-loop table flags₀ flags = (length flags ≡ length flags₀) × ((P : Pack) → SetsTabled (P .setting) table → Reached P flags₀ flags)
+Inv-loop shapes flags₀ flags = (length flags ≡ length flags₀) × ((P : Pack) → Tabled (P .setting) shapes → Reached P flags₀ flags)
 
 abbrev μ-loop : tie.MeasureT-loop
-μ-loop table flags₀ flags = room flags
+μ-loop shapes flags₀ flags = room flags
 
 pub close-spec : {M : Type 1} → statement M
 close-spec =

@@ -3,6 +3,7 @@ use borrow.Author.Needs.{needs}
 use lib.ListN.{length}
 use Rattle.graph.proofs.Invented.{invented-sets}
 use Rattle.graph.proofs.Marks.{none-set}
+use Rattle.graph.proofs.Places.{shaped}
 use Rattle.graph.proofs.invent.invent.Statement.{statement}
 use Rattle.graph.proofs.invent.invent.Tie as tie
 
@@ -14,4 +15,4 @@ invent-spec =
     (λ c κs. search needs)  -- seed-requires
     (λ c κs. search needs)  -- close-requires
     (λ c. search needs)  -- same-length
-    (λ c. λ P shapes I h. invented-sets I (none-set (length (c .before .before .before .before .before .before .before .before .before .before .before .before .before .before .before .before .args .flags .now)) _ (c .before .before .before .before .before .before .before .before .before .before .clear-u16 .ensures)) (c .before .before .before .before .before .before .seed .ensures P h) _ (c .before .before .close .ensures P h)))  -- returns
+    (λ c. λ P I. invented-sets I (none-set (length (c .before .before .before .before .before .before .before .before .before .before .before .before .before .before .before .before .args .flags .now)) _ (c .before .before .before .before .before .before .before .before .before .before .clear-u16 .ensures)) (c .before .before .before .before .before .before .seed .ensures P (shaped I)) _ (c .before .before .close .ensures P (shaped I))))  -- returns

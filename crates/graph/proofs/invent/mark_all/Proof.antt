@@ -12,15 +12,15 @@ use Rattle.graph.proofs.invent.mark_all.Tie as tie
 use Rattle.meaning.specs.Built.{invented}
 use Rattle.meaning.specs.Pack.{Pack}
 use Rattle.meaning.specs.Tables.{setOfMask}
-use Rattle.shapes.specs.Sets.{SetsTabled}
+use Rattle.shapes.specs.Shapes.{Tabled}
 
 abbrev Inv-loop : tie.InvT-loop
-Inv-loop table mask flags₀ changed₀ p₀ flags changed p =
+Inv-loop shapes mask flags₀ changed₀ p₀ flags changed p =
     (p ≤ 12) × (length flags ≡ length flags₀) × Progress changed flags₀ flags
-    × ((P : Pack) → SetsTabled (P .setting) table → Marked (Upto (Leads P (invented (setOfMask mask))) p) flags₀ flags)
+    × ((P : Pack) → Tabled (P .setting) shapes → Marked (Upto (Leads P (invented (setOfMask mask))) p) flags₀ flags)
 
 abbrev μ-loop : tie.MeasureT-loop
-μ-loop table mask flags₀ changed₀ p₀ flags changed p = 12 - p
+μ-loop shapes mask flags₀ changed₀ p₀ flags changed p = 12 - p
 
 pub mark-all-spec : {M : Type 1} → statement M
 mark-all-spec =

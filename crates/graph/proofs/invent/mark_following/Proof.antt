@@ -11,9 +11,9 @@ mark-following-spec =
     (tie.spec
     (λ c. search needs)  -- mul-if1
     (λ c. search needs)  -- slice-read-if1
-    (λ c. let s = c .before .before .before in (refl, not-following (s .args .table .now) (s .args .j) (s .args .flags .now) (c .if1 .taken)))  -- returns
+    (λ c. let s = c .before .before .before in (refl, not-following (s .args .shapes .now) (s .args .j) (s .args .flags .now) (c .if1 .taken)))  -- returns
     (λ c κs. search needs)  -- set-mask-requires
     (λ c κs. search needs)  -- mark-all-requires
     (λ c. search needs)  -- same-length
     (λ c. let s = c .before .before .before .before .before .before .before .before in let m = c .before .before .mark-all in  -- returns-2
-    (m .ensures .0, following (s .args .table .now) (s .args .j) _ (s .pre .0) (c .before .before .before .before .set-mask .ensures) (s .args .flags .now) _ (c .before .before .before .before .before .if1 .left) (m .ensures .1))))
+    (m .ensures .0, following (s .args .shapes .now) (s .args .j) _ (s .pre .0) (c .before .before .before .before .set-mask .ensures) (s .args .flags .now) _ (c .before .before .before .before .before .if1 .left) (m .ensures .1))))

@@ -17,9 +17,9 @@ mark-set-spec =
     (λ c. omega (arith, c .set-number .ensures, number-lt (c .before .targets .result) (omega arith)))  -- mul-if1
     (λ c. omega (arith, c .before .set-number .ensures, number-lt (c .before .before .targets .result) (omega arith), c .before .before .before .before .pre .1))  -- slice-read-if1
     (λ c. let s = c .before .before .before .before .before in let t = c .before .before .before .targets in  -- returns
-    (refl, already (s .args .table .now) (s .args .mask) (s .args .p) (s .args .flags .now) true refl (s .pre .2) (t .result) (omega arith) (t .ensures) _ (c .before .before .set-number .ensures) (c .if1 .taken)))
+    (refl, already (s .args .shapes .now) (s .args .mask) (s .args .p) (s .args .flags .now) true refl (s .pre .2) (t .result) (omega arith) (t .ensures) _ (c .before .before .set-number .ensures) (c .if1 .taken)))
     (λ c. omega (arith, c .before .before .set-number .ensures, number-lt (c .before .before .before .targets .result) (omega arith)))  -- mul-flags
     (λ c. omega (arith, c .before .before .set-number .ensures, number-lt (c .before .before .before .targets .result) (omega arith), c .before .before .before .before .before .pre .1))  -- slice-write-flags
     (λ c. search needs)  -- same-length
     (λ c. let s = c .before .before .before .before .before in let t = c .before .before .before .targets in  -- returns-2
-    newly (s .args .table .now) (s .args .mask) (s .args .p) (s .args .flags .now) true refl (s .pre .2) (t .result) (omega arith) (t .ensures) _ (c .before .before .set-number .ensures) (s .pre .1) (c .if1 .left)))
+    newly (s .args .shapes .now) (s .args .mask) (s .args .p) (s .args .flags .now) true refl (s .pre .2) (t .result) (omega arith) (t .ensures) _ (c .before .before .set-number .ensures) (s .pre .1) (c .if1 .left)))

@@ -11,14 +11,14 @@ use Rattle.graph.proofs.Rounds.{Rounding, rounding-again, rounding-done
 use Rattle.graph.proofs.invent.round.Statement.{statement}
 use Rattle.graph.proofs.invent.round.Tie as tie
 use Rattle.meaning.specs.Pack.{Pack}
-use Rattle.shapes.specs.Sets.{SetsTabled}
+use Rattle.shapes.specs.Shapes.{Tabled}
 
 abbrev Inv-loop : tie.InvT-loop
-Inv-loop table flags₀ changed₀ j₀ flags changed j =
-    (j ≤ maxSets) × (length flags ≡ length flags₀) × Progress changed flags₀ flags × ((P : Pack) → SetsTabled (P .setting) table → Rounding P flags₀ flags j)
+Inv-loop shapes flags₀ changed₀ j₀ flags changed j =
+    (j ≤ maxSets) × (length flags ≡ length flags₀) × Progress changed flags₀ flags × ((P : Pack) → Tabled (P .setting) shapes → Rounding P flags₀ flags j)
 
 abbrev μ-loop : tie.MeasureT-loop
-μ-loop table flags₀ changed₀ j₀ flags changed j = maxSets - j
+μ-loop shapes flags₀ changed₀ j₀ flags changed j = maxSets - j
 
 pub round-spec : {M : Type 1} → statement M
 round-spec =

@@ -5,7 +5,7 @@ use mathlib.Core.Path.{_≡_}
 use native.Mathlib.Omega.{arith}
 use Prim.Native.Nat.{_*_, _-_, _≤_}
 use Rattle.graph.specs.Input.{keysBefore}
-use Rattle.shapes.specs.Sets.{SetsTabled}
+use Rattle.shapes.specs.Shapes.{Tabled}
 use Rattle.graph.specs.Invent.{Lacks, Marked, Upto}
 use Rattle.graph.proofs.Marks.{upto-again, upto-start}
 use Rattle.graph.proofs.Origin.{next-subject, no-subject}
@@ -15,12 +15,12 @@ use Rattle.meaning.specs.Limits.{maxPredicates}
 use Rattle.meaning.specs.Pack.{Pack}
 
 abbrev Inv-loop : tie.InvT-loop
-Inv-loop table nodes triples masks flags₀ at₀ s₀ s-end flags at s =
+Inv-loop shapes nodes triples masks flags₀ at₀ s₀ s-end flags at s =
     (s-end ≡ length nodes) × (s ≤ length nodes) × (length flags ≡ length flags₀) × (at ≡ keysBefore (s * 16) triples)
-    × ((P : Pack) → SetsTabled (P .setting) table → Marked (Upto (λ i. Upto (Lacks P triples i (getD masks i 0)) maxPredicates) s) flags₀ flags)
+    × ((P : Pack) → Tabled (P .setting) shapes → Marked (Upto (λ i. Upto (Lacks P triples i (getD masks i 0)) maxPredicates) s) flags₀ flags)
 
 abbrev μ-loop : tie.MeasureT-loop
-μ-loop table nodes triples masks flags₀ at₀ s₀ s-end flags at s = s-end - s
+μ-loop shapes nodes triples masks flags₀ at₀ s₀ s-end flags at s = s-end - s
 
 pub seed-spec : {M : Type 1} → statement M
 seed-spec =
@@ -31,7 +31,7 @@ seed-spec =
     (λ c. (search needs, search needs, search needs, no-subject _, λ P h. upto-start _))  -- loop-holds
     (λ c. omega (arith, c .before .before .before .before .before .before .pre .0 .few))  -- mul-seed-node
     (λ c. omega (arith, c .before .before .before .before .before .before .before .pre .0 .long))  -- shared-slice-read-seed-node
-    (λ c κs. let s = c .before .before .before .before .before .before .before .before in (s .pre .0 .triples-ascend, omega (arith, s .pre .0 .few), c .before .before .before .loop .inv .3, omega (arith, s .pre .1)))  -- seed-node-requires
+    (λ c κs. let s = c .before .before .before .before .before .before .before .before in (s .pre .0 .triples-ascend, omega (arith, s .pre .0 .few), c .before .before .before .loop .inv .3, omega (arith, s .pre .1), s .pre .2))  -- seed-node-requires
     (λ c. search needs)  -- add-s
     (λ c. search needs)  -- loop-less
     (λ c. let s = c .before .before .before .before .before .before .before .before .before .before .before in let l = c .before .before .before .before .before .before .loop in let m = c .before .before .seed-node in  -- loop-again

@@ -11,15 +11,15 @@ use Rattle.graph.proofs.Origin.{next-predicate, no-predicate}
 use Rattle.graph.proofs.invent.seed_node.Statement.{statement}
 use Rattle.graph.proofs.invent.seed_node.Tie as tie
 use Rattle.meaning.specs.Pack.{Pack}
-use Rattle.shapes.specs.Sets.{SetsTabled}
+use Rattle.shapes.specs.Shapes.{Tabled}
 
 abbrev Inv-loop : tie.InvT-loop
-Inv-loop table triples subject mask from flags₀ at₀ p₀ flags at p =
+Inv-loop shapes triples subject mask from flags₀ at₀ p₀ flags at p =
     (p ≤ 12) × (length flags ≡ length flags₀) × (at ≡ keysBefore (subject * 16 + p) triples)
-    × ((P : Pack) → SetsTabled (P .setting) table → Marked (Upto (Lacks P triples subject mask) p) flags₀ flags)
+    × ((P : Pack) → Tabled (P .setting) shapes → Marked (Upto (Lacks P triples subject mask) p) flags₀ flags)
 
 abbrev μ-loop : tie.MeasureT-loop
-μ-loop table triples subject mask from flags₀ at₀ p₀ flags at p = 12 - p
+μ-loop shapes triples subject mask from flags₀ at₀ p₀ flags at p = 12 - p
 
 pub seed-node-spec : {M : Type 1} → statement M
 seed-node-spec =

@@ -16,12 +16,12 @@ use Rattle.sets.proofs.Rank.{rank-le}
 use Rattle.sets.specs.Ordered.{rankOf}
 
 abbrev Inv-loop : tie.InvT-loop
-Inv-loop table nodes triples masks places out₀ iris next₀ s₀ out next s =
+Inv-loop shapes nodes triples masks places out₀ iris next₀ s₀ out next s =
     (s ≤ iris) × (iris ≡ rankOf firstLiteral nodes) × (length out ≡ length out₀) × (next .triple ≤ s * 12 + next .at) × (next .at ≡ keysBefore (s * 16) triples)
-    × Listed table (λ P. Upto (λ t. SubjectEdge P triples places t (getD masks t 0)) s) 0 out₀ out (next .triple)
+    × Listed shapes (λ P. Upto (λ t. SubjectEdge P triples places t (getD masks t 0)) s) 0 out₀ out (next .triple)
 
 abbrev μ-loop : tie.MeasureT-loop
-μ-loop table nodes triples masks places out₀ iris next₀ s₀ out next s = iris - s
+μ-loop shapes nodes triples masks places out₀ iris next₀ s₀ out next s = iris - s
 
 pub list-iris-spec : {M : Type 1} → statement M
 list-iris-spec =
@@ -43,6 +43,7 @@ list-iris-spec =
       l .inv .4,
       iri-room (a .triples .now) (s .pre .0 .short) (l .s) (l .next .triple) (l .next .at) (l .inv .3) (omega (arith, s .pre .0 .iris, l .inv .1)),
       omega (arith, s .pre .2, l .inv .2),
+      s .pre .3,
     ))
     (λ c. search needs)  -- add-s
     (λ c. search needs)  -- loop-less

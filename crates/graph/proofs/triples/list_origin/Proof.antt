@@ -18,11 +18,11 @@ list-origin-spec =
     (λ c. let s = c .before .before .before .before .before .before .before .before in omega (arith, s .pre .4, s .pre .5, c .before .before .before .list-edges .ensures .count, keys-next (s .args .subject * 16 + s .args .p) (s .args .triples .now)))  -- add-t17
     (λ c. search needs)  -- same-length
     (λ c. let s = c .before .before .before .before .before .before .before .before in let a = s .args in  -- returns
-    origin-present (a .table .now) (a .triples .now) (a .places .now) (s .pre .0) (a .subject) (a .mask) (a .p) (a .next .at) (a .next .triple) (s .pre .4) (a .out .now) _ _ (c .before .before .before .list-edges .ensures) (c .if1 .taken))
+    origin-present (a .shapes .now) (a .triples .now) (a .places .now) (s .pre .0) (a .subject) (a .mask) (a .p) (a .next .at) (a .next .triple) (s .pre .4) (a .out .now) _ _ (c .before .before .before .list-edges .ensures) (c .if1 .taken))
     (λ c κs. search needs)  -- required-requires
     (λ c. search needs)  -- same-length-2
     (λ c. let s = c .before .before .before .before .before .before .before .before .before .before in let a = s .args in let q = c .before .required in  -- returns-2
-    origin-free (a .table .now) (a .triples .now) (a .places .now) (s .pre .0) (a .subject) (a .mask) (a .p) (a .next .at) (a .next .triple) (s .pre .4) (a .out .now) _ _ (c .before .before .before .before .before .list-edges .ensures) (c .before .before .if1 .left) (q .result) (not-true (q .result) (c .if2 .taken)) (q .ensures))
+    origin-free (a .shapes .now) (a .triples .now) (a .places .now) (s .pre .0) (a .subject) (a .mask) (a .p) (a .next .at) (a .next .triple) (s .pre .4) (a .out .now) _ _ (c .before .before .before .before .before .list-edges .ensures) (c .before .before .if1 .left) (q .result) (not-true (q .result) (c .if2 .taken)) (q .ensures))
     (λ c κs. search needs)  -- targets-requires
     (λ c κs. search needs)  -- set-number-requires
     (λ c. search needs)  -- cast-write-triple
@@ -34,4 +34,4 @@ list-origin-spec =
     (λ c. search needs)  -- same-length-3
     (λ c. let s = c .before .before .before .before .before .before .before .before .before .before .before .before .before .before .before .before .before in let a = s .args in  -- returns-3
     let q = c .before .before .before .before .before .before .before .before .required in let t = c .before .before .before .before .before .before .targets in
-    origin-gets (a .table .now) (a .triples .now) (a .places .now) (s .pre .0) (a .subject) (a .mask) (a .p) (a .next .at) (a .next .triple) (s .pre .4) (a .out .now) _ _ (c .before .before .before .before .before .before .before .before .before .before .before .before .list-edges .ensures) (c .before .before .before .before .before .before .before .before .before .if1 .left) (q .result) (not-false (q .result) (c .before .before .before .before .before .before .before .if2 .left)) (q .ensures) (t .result) (omega arith) (t .ensures) _ (c .before .before .before .before .before .set-number .ensures) _ (c .before .before .write-triple .ensures)))
+    origin-gets (a .shapes .now) (a .triples .now) (a .places .now) (s .pre .0) (a .subject) (a .mask) (a .p) (a .next .at) (a .next .triple) (s .pre .4) (a .out .now) _ _ (c .before .before .before .before .before .before .before .before .before .before .before .before .list-edges .ensures) (c .before .before .before .before .before .before .before .before .before .if1 .left) (q .result) (not-false (q .result) (c .before .before .before .before .before .before .before .if2 .left)) (q .ensures) (t .result) (omega arith) (t .ensures) _ (c .before .before .before .before .before .set-number .ensures) _ (c .before .before .write-triple .ensures)))

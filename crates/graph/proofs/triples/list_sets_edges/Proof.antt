@@ -12,12 +12,12 @@ use Rattle.graph.proofs.triples.list_sets_edges.Statement.{statement}
 use Rattle.graph.proofs.triples.list_sets_edges.Tie as tie
 
 abbrev Inv-loop : tie.InvT-loop
-Inv-loop table triples flags places first out₀ next₀ j₀ out next j =
+Inv-loop shapes triples flags places first out₀ next₀ j₀ out next j =
     (0 < j) × (j ≤ 256) × (length out ≡ length out₀) × (next + 12 ≤ first + j * 12)
-    × Listed table (λ P. Upto (SetEdge triples flags places P) j) first out₀ out next
+    × Listed shapes (λ P. Upto (SetEdge triples flags places P) j) first out₀ out next
 
 abbrev μ-loop : tie.MeasureT-loop
-μ-loop table triples flags places first out₀ next₀ j₀ out next j = 256 - j
+μ-loop shapes triples flags places first out₀ next₀ j₀ out next j = 256 - j
 
 pub list-sets-edges-spec : {M : Type 1} → statement M
 list-sets-edges-spec =
@@ -25,9 +25,9 @@ list-sets-edges-spec =
     (tie.spec
     Inv-loop
     μ-loop
-    (λ c. let a = c .before .before .before .before .args in (search needs, search needs, search needs, search needs, sets-start (a .table .now) (a .triples .now) (a .flags .now) (a .places .now) 1 (a .first) _))  -- loop-holds
+    (λ c. let a = c .before .before .before .before .args in (search needs, search needs, search needs, search needs, sets-start (a .shapes .now) (a .triples .now) (a .flags .now) (a .places .now) 1 (a .first) _))  -- loop-holds
     (λ c κs. let s = c .before .before .before .before .before .before .before in let l = c .before .before .loop in  -- list-set-edges-requires
-    (s .pre .0, s .pre .1, s .pre .2, s .pre .3, l .inv .0, omega arith, omega (arith, l .inv .3, s .pre .4), omega (arith, s .pre .5, l .inv .2)))
+    (s .pre .0, s .pre .1, s .pre .2, s .pre .3, l .inv .0, omega arith, omega (arith, l .inv .3, s .pre .4), omega (arith, s .pre .5, l .inv .2), s .pre .6))
     (λ c. search needs)  -- add-j
     (λ c. search needs)  -- loop-less
     (λ c. let s = c .before .before .before .before .before .before .before .before .before .before in let l = c .before .before .before .before .before .loop in let m = c .before .before .list-set-edges in let a = s .args in  -- loop-again

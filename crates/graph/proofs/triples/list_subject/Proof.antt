@@ -14,12 +14,12 @@ use Rattle.graph.proofs.triples.list_subject.Statement.{statement}
 use Rattle.graph.proofs.triples.list_subject.Tie as tie
 
 abbrev Inv-loop : tie.InvT-loop
-Inv-loop table triples places subject mask out₀ next₀ p₀ out next p =
+Inv-loop shapes triples places subject mask out₀ next₀ p₀ out next p =
     (p ≤ 12) × (length out ≡ length out₀) × (next .triple + next₀ .at ≤ next₀ .triple + p + next .at) × (next .at ≡ keysBefore (subject * 16 + p) triples)
-    × Listed table (λ P. Upto (EdgeFrom P triples places subject mask) p) (next₀ .triple) out₀ out (next .triple)
+    × Listed shapes (λ P. Upto (EdgeFrom P triples places subject mask) p) (next₀ .triple) out₀ out (next .triple)
 
 abbrev μ-loop : tie.MeasureT-loop
-μ-loop table triples places subject mask out₀ next₀ p₀ out next p = 12 - p
+μ-loop shapes triples places subject mask out₀ next₀ p₀ out next p = 12 - p
 
 pub list-subject-spec : {M : Type 1} → statement M
 list-subject-spec =
@@ -30,7 +30,7 @@ list-subject-spec =
     (λ c. let s = c .before .before .before in let a = s .args in  -- loop-holds
     (search needs, search needs, omega arith, no-predicate (a .triples .now) (a .subject) (a .first .at) (s .pre .3), listed-start (λ P. EdgeFrom P (a .triples .now) (a .places .now) (a .subject) (a .mask)) _ _))
     (λ c κs. let s = c .before .before .before .before .before .before in let l = c .before .before .loop in let a = s .args in  -- list-origin-requires
-    (s .pre .0, s .pre .1, s .pre .2, omega arith, l .inv .3, origin-room (a .triples .now) (a .subject) (l .p) (l .next .triple) (l .next .at) (a .first .triple) (a .first .at) (omega arith) (l .inv .2) (s .pre .4), omega (arith, s .pre .5, l .inv .1)))
+    (s .pre .0, s .pre .1, s .pre .2, omega arith, l .inv .3, origin-room (a .triples .now) (a .subject) (l .p) (l .next .triple) (l .next .at) (a .first .triple) (a .first .at) (omega arith) (l .inv .2) (s .pre .4), omega (arith, s .pre .5, l .inv .1), s .pre .6))
     (λ c. search needs)  -- add-p
     (λ c. search needs)  -- loop-less
     (λ c. let s = c .before .before .before .before .before .before .before .before .before in let l = c .before .before .before .before .before .loop in let m = c .before .before .list-origin in let a = s .args in  -- loop-again
