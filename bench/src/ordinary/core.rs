@@ -201,10 +201,16 @@ fn facts(found: &[(&Head, &[u64])], nodes: &[u64]) -> Option<(Vec<u32>, Vec<u16>
 
 /// Passes types along the triples until a round adds nothing.
 fn spread(shapes: &Shapes, triples: &[u32], types: &mut [u16]) {
+    // The types that passed last along each triple.
+    let mut passed = vec![0; triples.len()];
     loop {
         let mut changed = false;
-        for &triple in triples {
+        for (&triple, passed) in triples.iter().zip(&mut passed) {
             let (s, p, o) = parts(triple);
+            if *passed == types[s] {
+                continue;
+            }
+            *passed = types[s];
             let old = types[o];
             let new = old | shapes.targets(types[s], p);
             changed |= new != old;

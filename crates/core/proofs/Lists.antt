@@ -1,16 +1,17 @@
 -- Laws of lists: a list of a set that is said in another way, lists of one element or none, the front of a list by one
--- more. Assumes nothing.
+-- more, lists of zeros. Assumes nothing.
 use lib.ListN.{length, getD, take}
 use lib.Seq.{take-suc}
 use mathlib.Core.List.{List, [], _∷_, _++_, List·Memᴰ·append-cases}
 use mathlib.Core.Logic.{_↔_, _⊎_, inl, inr, Iff·trans}
-use mathlib.Core.Path.{_≡_}
+use mathlib.Core.Path.{_≡_, refl}
 use native.Mathlib.Numerals.{add-one}
 use native.Mathlib.Omega.{arith}
 use Prim.Native.Nat.{ℕ, zero, suc, _+_, _-_, _<_}
 use Rattle.meaning.proofs.Lists.Members.{∈-append}
 use Rattle.meaning.specs.Member.{_∈_, here, there}
 use Rattle.meaning.specs.Ordered.{ListOf}
+use Rattle.sets.specs.Buffers.{zeros}
 
 -- the same set
 pub list-as : {A : Type 0} {R : A → A → Type 0} {Q Q′ : A → Type 0} {xs : List A} → ((y : A) → Q y ↔ Q′ y) → ListOf R Q xs → ListOf R Q′ xs
@@ -52,3 +53,8 @@ take-in (suc i) {xs = x ∷ xs} (there m) = there (take-in i m)
 -- from a on, up to a + b: b elements
 pub cut : (a b : ℕ) → a + b - a ≡ b
 cut a b = omega arith
+
+pub zeros-at : (n i : ℕ) → getD (zeros n) i 0 ≡ 0
+zeros-at zero i = refl
+zeros-at (suc n) zero = refl
+zeros-at (suc n) (suc i) = zeros-at n i

@@ -6,8 +6,8 @@ use mathlib.Core.Logic.{_⊎_, inl, inr}
 use mathlib.Core.Path.{_≡_, refl, sym, _∙_, ap, subst}
 use native.Mathlib.Decide.{ℕ-discrete}
 use native.Mathlib.Omega.{arith}
-use Prim.Native.Nat.{ℕ, zero, suc, _≤_, _<_}
-use Rattle.core.proofs.Lists.{one, only-new}
+use Prim.Native.Nat.{ℕ, _≤_, _<_}
+use Rattle.core.proofs.Lists.{one, only-new, zeros-at}
 use Rattle.core.proofs.NodeKeys.{link-keys, subject-in}
 use Rattle.core.proofs.TripleKeys.{link-triple, no-triple}
 use Rattle.core.proofs.TypeSources.{decoded, types-at}
@@ -26,11 +26,6 @@ use Rattle.sets.specs.Buffers.{zeros}
 use Rattle.sets.specs.Ordered.{rankOf}
 
 -- ---- types, from cleared masks on
-
-zeros-at : (n i : ℕ) → getD (zeros n) i 0 ≡ 0
-zeros-at zero i = refl
-zeros-at (suc n) zero = refl
-zeros-at (suc n) (suc i) = zeros-at n i
 
 module _ {rules : List (List ℕ)} {count : ℕ} {heads counts : List ℕ} (fit : HeadsFit rules count heads counts) where
   pub types-answer : (nodes : List ℕ) → length nodes ≤ maxNodes → (triples before : List ℕ) → before ≡ zeros (length before) → (start : List ℕ)

@@ -1,5 +1,5 @@
 -- Types passed along the triples: the least set. Assumes nothing.
-use lib.ListN.{getD}
+use lib.ListN.{getD, length}
 use mathlib.Core.Bool.{Bool, true, false}
 use mathlib.Core.List.{List, [], _∷_}
 use mathlib.Core.Logic.{_↔_, _⊎_}
@@ -57,10 +57,17 @@ pub record Passes (S : Setting) (masks : List ℕ) (k i : ℕ) (R : Target) : Ty
   pub shape : SomeShape S (getD masks (subjectOf k) 0) (predicateOf k) (λ s. s .target ≡ R)
 
 -- after holds what before holds and what the triple passes
-abbrev pub PassedOnce : List (List ℕ) → ℕ → List ℕ → List ℕ → Type 0
-PassedOnce table k before after =
-    (S : Setting) → Tabled S table → (i : ℕ) (R : Target)
-    → (R ∈ₜ setOfMask (getD after i 0)) ↔ ((R ∈ₜ setOfMask (getD before i 0)) ⊎ Passes S before k i R)
+abbrev pub PassedOnce : Setting → ℕ → List ℕ → List ℕ → Type 0
+PassedOnce S k before after =
+    (i : ℕ) (R : Target) → (R ∈ₜ setOfMask (getD after i 0)) ↔ ((R ∈ₜ setOfMask (getD before i 0)) ⊎ Passes S before k i R)
+
+abbrev pub PassShown : List (List ℕ) → ℕ → List ℕ → List ℕ → Type 0
+PassShown table k before after = (S : Setting) → Tabled S table → PassedOnce S k before after
+
+-- Each triple's object has the targets of what passed last along the triple.
+pub record Carried (S : Setting) (triples passed masks : List ℕ) : Type 0 where
+  pub held : (i : ℕ) → i < length triples → (R : Target) → SomeShape S (getD passed i 0) (predicateOf (getD triples i 0)) (λ s. s .target ≡ R)
+      → R ∈ₜ setOfMask (getD masks (objectOf (getD triples i 0)) 0)
 
 -- how far the masks are from full, as numbers
 abbrev pub room : List ℕ → ℕ
@@ -73,9 +80,11 @@ Progress true before after = room after < room before
 Progress false before after = after ≡ before
 
 -- Types are only passed along; every triple's are, if nothing changed.
-pub record Round (table : List (List ℕ)) (triples : List ℕ) (changed : Bool) (before after : List ℕ) : Type 0 where
-  pub keeps : (S : Setting) → Tabled S table → (i : ℕ) (R : Target) → R ∈ₜ setOfMask (getD before i 0) → R ∈ₜ setOfMask (getD after i 0)
-  pub only : (S : Setting) → Tabled S table → (i : ℕ) (R : Target) → R ∈ₜ setOfMask (getD after i 0) → Passed S triples before i R
-  pub all : changed ≡ false → (S : Setting) → Tabled S table → (k : ℕ) → k ∈ triples → (i : ℕ) (R : Target) → Passes S after k i R
-      → R ∈ₜ setOfMask (getD after i 0)
-  pub progress : Progress changed before after
+pub record Round (S : Setting) (triples : List ℕ) (changed : Bool) (before after : List ℕ) : Type 0 where
+  pub keeps : (i : ℕ) (R : Target) → R ∈ₜ setOfMask (getD before i 0) → R ∈ₜ setOfMask (getD after i 0)
+  pub only : (i : ℕ) (R : Target) → R ∈ₜ setOfMask (getD after i 0) → Passed S triples before i R
+  pub all : changed ≡ false → (k : ℕ) → k ∈ triples → (i : ℕ) (R : Target) → Passes S after k i R → R ∈ₜ setOfMask (getD after i 0)
+
+abbrev pub RoundShown : List (List ℕ) → List ℕ → Bool → List ℕ → List ℕ → List ℕ → List ℕ → Type 0
+RoundShown table triples changed passed passed′ before after =
+    (S : Setting) → Tabled S table → Carried S triples passed before → Round S triples changed before after × Carried S triples passed′ after

@@ -8,13 +8,14 @@ use crate::triples::SUBJECT_WEIGHT;
 ghost use mathlib.Core.Path.{_≡_};
 ghost use Prim.Native.Nat.{_≤_, _<_};
 ghost use lib.ListN.{length};
+ghost use Rattle.meaning.specs.Limits.{maxCoreTriples};
 ghost use Rattle.meaning.specs.Ordered.{InOrder};
 ghost use Rattle.sets.specs.Buffers.{zeros};
 ghost use Rattle.shapes.specs.Shapes.{CodesFit};
 ghost use Rattle.core.specs.Bounds.{HeadFits, KeyFits, KeysFit, HeadsFit, maxNodes};
 ghost use Rattle.core.specs.Collected.{FromKeys, FromRules, KnownMatch, KnownKeys, KnownRules, Marked, TypeFact};
 ghost use Rattle.core.specs.Outcomes.{TypesAnswer};
-ghost use Rattle.core.specs.Spread.{AllPlaced, PassedOnce, Placed, Progress, Round, SpreadFrom};
+ghost use Rattle.core.specs.Spread.{AllPlaced, PassShown, Placed, Progress, RoundShown, SpreadFrom};
 
 // Marks the type of one match, if the head gives one. Looks for the subject at near first, and answers its place, or near
 // if there is no type.
@@ -64,7 +65,7 @@ fn mark_rules(
 // Passes the subject's types along one triple; says whether that changed the object's.
 fn pass(shapes: &[[u16; 12]; 8], key: u64, masks: &mut [u16]) -> bool
     requires { ⌜ CodesFit (now shapes) × Placed key × (maxNodes ≤ length (now masks)) ⌝ }
-    ensures { λ r. ⌜ PassedOnce (now (shapes .entry)) key (now (masks .entry)) (now (masks .exit)) × Progress r (now (masks .entry)) (now (masks .exit)) ⌝ }
+    ensures { λ r. ⌜ PassShown (now (shapes .entry)) key (now (masks .entry)) (now (masks .exit)) × Progress r (now (masks .entry)) (now (masks .exit)) ⌝ }
 {
     let s = (key / SUBJECT_WEIGHT) as usize;
     let p = (key / PLACE_ROOM % PREDICATE_ROOM) as usize;
@@ -78,28 +79,39 @@ fn pass(shapes: &[[u16; 12]; 8], key: u64, masks: &mut [u16]) -> bool
     true
 }
 
-// Passes along every triple once; says whether anything changed.
-fn round(shapes: &[[u16; 12]; 8], triples: &[u64], masks: &mut [u16]) -> bool
-    requires { ⌜ CodesFit (now shapes) × AllPlaced (now triples) × (maxNodes ≤ length (now masks)) ⌝ }
-    ensures { λ r. ⌜ Round (now (shapes .entry)) (now (triples .entry)) r (now (masks .entry)) (now (masks .exit)) ⌝ }
+// Passes along every triple whose subject's types are not those that passed last; says whether anything changed.
+fn round(
+    shapes: &[[u16; 12]; 8],
+    triples: &[u64],
+    passed: &mut [u16; 1024],
+    masks: &mut [u16],
+) -> bool
+    requires { ⌜ CodesFit (now shapes) × AllPlaced (now triples) × (length (now triples) ≤ maxCoreTriples) × (maxNodes ≤ length (now masks)) ⌝ }
+    ensures { λ r. ⌜ RoundShown (now (shapes .entry)) (now (triples .entry)) r (now (passed .entry)) (now (passed .exit)) (now (masks .entry)) (now (masks .exit)) × Progress r (now (masks .entry)) (now (masks .exit)) ⌝ }
 {
     let mut changed = false;
     for i in 0..triples.len() {
-        let more = pass(shapes, triples[i], masks);
-        if more {
+        let key = triples[i];
+        let from = masks[(key / SUBJECT_WEIGHT) as usize];
+        if passed[i] == from {
+            continue;
+        }
+        passed[i] = from;
+        if pass(shapes, key, masks) {
             changed = true;
         }
     }
     changed
 }
 
-// Passes along the triples until a round adds nothing.
+// Passes along the triples until a round adds nothing. At the start nothing has passed along any.
 fn spread(shapes: &[[u16; 12]; 8], triples: &[u64], masks: &mut [u16])
-    requires { ⌜ CodesFit (now shapes) × AllPlaced (now triples) × (maxNodes ≤ length (now masks)) ⌝ }
+    requires { ⌜ CodesFit (now shapes) × AllPlaced (now triples) × (length (now triples) ≤ maxCoreTriples) × (maxNodes ≤ length (now masks)) ⌝ }
     ensures { λ _. ⌜ SpreadFrom (now (shapes .entry)) (now (triples .entry)) (now (masks .entry)) (now (masks .exit)) ⌝ }
 {
+    let mut passed = [0u16; 1024];
     loop {
-        let changed = round(shapes, triples, masks);
+        let changed = round(shapes, triples, &mut passed, masks);
         if !changed {
             return;
         }
@@ -117,7 +129,7 @@ pub fn typing(
     triples: &[u64],
     masks: &mut [u16],
 )
-    requires { ⌜ CodesFit shapes × HeadsFit rules count (now heads) counts × InOrder _<_ (now nodes) × (length (now nodes) ≤ maxNodes) × KnownRules (now nodes) rules count (now heads) counts × AllPlaced (now triples) × (maxNodes ≤ length (now masks)) × (now masks ≡ zeros (length (now masks))) ⌝ }
+    requires { ⌜ CodesFit shapes × HeadsFit rules count (now heads) counts × InOrder _<_ (now nodes) × (length (now nodes) ≤ maxNodes) × KnownRules (now nodes) rules count (now heads) counts × AllPlaced (now triples) × (length (now triples) ≤ maxCoreTriples) × (maxNodes ≤ length (now masks)) × (now masks ≡ zeros (length (now masks))) ⌝ }
     ensures { λ _. ⌜ TypesAnswer shapes rules count (now (heads .entry)) counts (now (nodes .entry)) (now (triples .entry)) (now (masks .exit)) ⌝ }
 {
     mark_rules(rules, count, heads, counts, nodes, masks);

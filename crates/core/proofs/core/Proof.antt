@@ -6,6 +6,7 @@ use mathlib.Core.Path.{_≡_, _∙_}
 use native.Mathlib.Omega.{arith}
 use mathlib.Core.List.{List}
 use Prim.Native.Nat.{ℕ, _≤_}
+use Rattle.meaning.specs.Limits.{maxCoreTriples}
 use Rattle.core.specs.Bounds.{maxNodes}
 use Rattle.core.specs.Outcomes.{NodesListed, TriplesListed}
 use Rattle.core.proofs.Whole.{all-placed, core-listed, known-rules}
@@ -52,6 +53,12 @@ module _ (c : tie.After-known-told2) where
   exact₂ : count₂ ≡ length (take count₂ triples)
   exact₂ = omega (arith, length-take count₂ triples, linked .grown .fits)
 
+  long₂ : length triples ≡ maxCoreTriples
+  long₂ = c .before .before .before .before .before .triples .kept .1 .1 .1 .1 .1 .0 ∙ start past .pre .3
+
+  few₂ : length (take count₂ triples) ≤ maxCoreTriples
+  few₂ = omega (arith, exact₂, linked .grown .fits, long₂)
+
 pub core-spec : {M : Type 1} → statement M
 core-spec =
     tie.close
@@ -68,7 +75,7 @@ core-spec =
     (λ c. exact (past (c .before)))  -- slice-aggregate-typing
     (λ c. linked (c .before) .grown .fits)  -- slice-reshare-prefix-typing-2
     (λ c. exact₂ (c .before .before))  -- slice-aggregate-typing-2
-    (λ c κs. let q = c .before .before .before in let p = past q in let s = start p .pre in let k = known-rules (s .1) (listed p .grown) in (s .0, s .1, listed p .grown .list .ascending, few p, k, all-placed (s .1) _ (listed p .grown .list .ascending) (few p) k (linked q .grown), s .4, s .5))  -- typing-requires
+    (λ c κs. let q = c .before .before .before in let p = past q in let s = start p .pre in let k = known-rules (s .1) (listed p .grown) in (s .0, s .1, listed p .grown .list .ascending, few p, k, all-placed (s .1) _ (listed p .grown .list .ascending) (few p) k (linked q .grown), few₂ q, s .4, s .5))  -- typing-requires
     (λ c. search needs)  -- same-length
     (λ c. λ P h b. inl ((rw (c .enum-told .given .1) at (c .before .before .before .before .nodes .ensures)) P h b))  -- returns
     (λ c. search needs)  -- same-length-2
@@ -77,4 +84,4 @@ core-spec =
     (λ c. search needs)  -- same-length-4
     (λ c. search needs)  -- same-length-5
     (λ c. search needs)  -- same-length-6
-    (λ c. let q = c .before .before .before .before .before .before in let p = past q in let a = c .before .before .typing in core-listed (listed p) (linked q) (a .ensures) (long p) (q .before .before .before .before .before .triples .kept .1 .1 .1 .1 .1 .0 ∙ start p .pre .3) (omega (arith, a .kept .1 .1 .1 .1 .1 .1 .1 .0, start p .pre .4))))  -- returns-3
+    (λ c. let q = c .before .before .before .before .before .before in let p = past q in let a = c .before .before .typing in core-listed (listed p) (linked q) (a .ensures) (long p) (long₂ q) (omega (arith, a .kept .1 .1 .1 .1 .1 .1 .1 .0, start p .pre .4))))  -- returns-3

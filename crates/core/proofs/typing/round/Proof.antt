@@ -4,16 +4,16 @@ use lib.ListN.{length}
 use mathlib.Core.Logic.{⊎-elim}
 use native.Mathlib.Omega.{arith}
 use Prim.Native.Nat.{_-_}
-use Rattle.core.proofs.Spreading.{RoundDone, round-start, round-hit, round-miss, round-done}
+use Rattle.core.proofs.Spreading.{RoundDone, round-start, round-hit, round-miss, round-skip, round-done}
 use Rattle.sets.proofs.Ascending.{∈-at}
 use Rattle.core.proofs.typing.round.Statement.{statement}
 use Rattle.core.proofs.typing.round.Tie as tie
 
 abbrev Inv-loop : tie.InvT-loop
-Inv-loop shapes triples masks₀ changed₀ i₀ i-end masks changed i = RoundDone shapes triples i changed masks₀ masks
+Inv-loop shapes triples passed₀ masks₀ changed₀ i₀ i-end passed masks changed i = RoundDone shapes triples i changed passed₀ passed masks₀ masks
 
 abbrev μ-loop : tie.MeasureT-loop
-μ-loop shapes triples masks₀ changed₀ i₀ i-end masks changed i = length triples - i
+μ-loop shapes triples passed₀ masks₀ changed₀ i₀ i-end passed masks changed i = length triples - i
 
 pub round-spec : {M : Type 1} → statement M
 round-spec =
@@ -21,12 +21,22 @@ round-spec =
     (tie.spec
     Inv-loop
     μ-loop
-    (λ c. round-start _ _ _)  -- loop-holds
-    (λ c. search needs)  -- mul-pass
-    (λ c. search needs)  -- shared-slice-read-pass
-    (λ c κs. let s = c .before .before .before .before .before .before in (s .pre .0, s .pre .1 _ (∈-at (s .args .triples .now) (c .before .before .before .loop .i) (omega arith)), omega (arith, c .before .before .before .loop .inv .long, s .pre .2)))  -- pass-requires
+    (λ c. round-start _ _ _ _)  -- loop-holds
+    (λ c. search needs)  -- mul-key
+    (λ c. search needs)  -- shared-slice-read-key
+    (λ c. let s = c .before .before .before .before .before in omega (arith, s .pre .1 _ (∈-at (s .args .triples .now) (c .before .before .loop .i) (omega arith)) .from))  -- mul-from
+    (λ c. let s = c .before .before .before .before .before .before in let l = c .before .before .before .loop in omega (arith, s .pre .1 _ (∈-at (s .args .triples .now) (l .i) (omega arith)) .from, l .inv .long, s .pre .3))  -- slice-read-from
+    (λ c. search needs)  -- mul-if1
+    (λ c. search needs)  -- element-copy-out-if1
     (λ c. search needs)  -- add-i
     (λ c. search needs)  -- loop-less
-    (λ c. let l = c .before .before .before .before .before .before .before .loop in let p = c .before .before .before .pass in ⊎-elim (λ w. rw (w .1) (round-hit (l .inv) (omega arith) _ (p .ensures .0) (p .kept .1 .1 .0) (rw (w .0 .taken) at (p .ensures .1)))) (λ w. rw (w .1) (round-miss (l .inv) (omega arith) _ (p .ensures .0) (p .kept .1 .1 .0) (rw (w .0 .left) at (p .ensures .1)))) (c .if1 .came))  -- loop-again
+    (λ c. round-skip (c .before .before .before .before .before .loop .inv) (c .before .before .before .before .loop-test .taken) (c .if1 .taken))  -- loop-again
+    (λ c. search needs)  -- mul-passed
+    (λ c. search needs)  -- element-write-passed
+    (λ c κs. let s = c .before .before .before .before .before .before .before .before .before in let l = c .before .before .before .before .before .before .loop in (s .pre .0, s .pre .1 _ (∈-at (s .args .triples .now) (l .i) (omega arith)), omega (arith, l .inv .long, s .pre .3)))  -- pass-requires
+    (λ c. search needs)  -- add-i-2
+    (λ c. search needs)  -- loop-less-2
+    (λ c. let l = c .before .before .before .before .before .before .before .before .before .before .loop in let h = c .before .before .before .before .before .before .before .before .before .loop-test .taken in let p = c .before .before .before .pass in  -- loop-again-2
+    ⊎-elim (λ w. rw (w .1) (round-hit (l .inv) h _ (p .ensures .0) (p .kept .1 .1 .0) (rw (w .0 .taken) at (p .ensures .1)))) (λ w. rw (w .1) (round-miss (l .inv) h _ (p .ensures .0) (p .kept .1 .1 .0) (rw (w .0 .left) at (p .ensures .1)))) (c .if2 .came))
     (λ c. search needs)  -- same-length
-    (λ c. round-done (c .before .loop .inv) (omega arith)))  -- returns
+    (λ c. (round-done (c .before .loop .inv) (omega arith), c .before .loop .inv .progress)))  -- returns

@@ -3,15 +3,15 @@ use borrow.Author.Needs.{needs}
 use borrow.Author.Tests.{not-true, not-false}
 use native.Mathlib.Omega.{arith}
 use Rattle.core.specs.Spread.{room}
-use Rattle.core.proofs.Spreading.{Spreading, spread-start, spread-again, spread-done, round-nearer}
+use Rattle.core.proofs.Spreading.{Spreading, spread-start, spread-again, spread-done}
 use Rattle.core.proofs.typing.spread.Statement.{statement}
 use Rattle.core.proofs.typing.spread.Tie as tie
 
 abbrev Inv-loop : tie.InvT-loop
-Inv-loop shapes triples masks₀ masks = Spreading shapes triples masks₀ masks
+Inv-loop shapes triples masks₀ passed₀ masks passed = Spreading shapes triples passed masks₀ masks
 
 abbrev μ-loop : tie.MeasureT-loop
-μ-loop shapes triples masks₀ masks = room masks
+μ-loop shapes triples masks₀ passed₀ masks passed = room masks
 
 pub spread-spec : {M : Type 1} → statement M
 spread-spec =
@@ -19,9 +19,9 @@ spread-spec =
     (tie.spec
     Inv-loop
     μ-loop
-    (λ c. spread-start _ _ _)  -- loop-holds
-    (λ c κs. let s = c .before .before .before .before in (s .pre .0, s .pre .1, omega (arith, c .before .loop .inv .long, s .pre .2)))  -- round-requires
+    (λ c. spread-start _ _ _ 1024)  -- loop-holds
+    (λ c κs. let s = c .before .before .before .before .before .pre in (s .0, s .1, s .2, omega (arith, c .before .before .loop .inv .long, s .3)))  -- round-requires
     (λ c. search needs)  -- same-length
-    (λ c. let r = c .before .before .before .round in spread-done (c .before .before .before .before .before .loop .inv) _ (rw (not-true (r .result) (c .if1 .taken)) at (r .ensures)) (r .kept .1 .1 .0))  -- returns
-    (λ c. let r = c .before .before .before .round in round-nearer (rw (not-false (r .result) (c .if1 .left)) at (r .ensures)))  -- loop-less
-    (λ c. let r = c .before .before .before .round in spread-again (c .before .before .before .before .before .loop .inv) _ (r .ensures) (r .kept .1 .1 .0)))  -- loop-again
+    (λ c. let r = c .before .before .before .round in spread-done (c .before .before .before .before .before .before .loop .inv) (r .kept .1 .1 .1 .0) (r .ensures .0) (not-true (r .result) (c .if1 .taken)))  -- returns
+    (λ c. let r = c .before .before .before .round in rw (not-false (r .result) (c .if1 .left)) at (r .ensures .1))  -- loop-less
+    (λ c. let r = c .before .before .before .round in spread-again (c .before .before .before .before .before .before .loop .inv) (r .kept .1 .1 .1 .0) (r .ensures .0)))  -- loop-again
