@@ -1,11 +1,11 @@
 -- What is known of a pack that none of 3 to 8 refuses. Assumes nothing.
 use mathlib.Core.Bool.{Bool, true, false}
-use mathlib.Core.List.{List, [], _∷_}
+use mathlib.Core.List.{List}
 use mathlib.Core.Option.{Option, none, some}
 use mathlib.Core.Path.{_≡_, refl, sym, ap, _∙_}
 use native.Mathlib.Omega.{arith}
 use Prim.Native.Nat.{ℕ}
-use Rattle.access.proofs.Accepted.{WellFormed, well-formed}
+use Rattle.access.proofs.Accepted.{WellFormed}
 use Rattle.meaning.proofs.Theory.Theorem.{has-graph, none-obeys}
 use Rattle.meaning.specs.NoGraph.{NoGraph}
 use Rattle.meaning.specs.Pack.{Pack}

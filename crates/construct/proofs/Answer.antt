@@ -10,12 +10,12 @@ use Rattle.access.specs.Places.{IsWellFormed}
 use Rattle.construct.proofs.Accepted.{Accepts, none-obey, some-obeys}
 use Rattle.calls.specs.Call.{gives, refuses, _becomes_}
 use Rattle.construct.specs.Outcome.{Constructs, Gives, HasGraph, counted, mixed-kinds, not-accepted, refusedAs, too-large, two-objects}
-use Rattle.construct.specs.Steps.{FromCore, FromHeads, OfHeads, clash, graph, large, mixed, small}
+use Rattle.construct.specs.Steps.{FromCore, FromHeads, clash, graph, large, mixed, small}
 use Rattle.construct.specs.declared.Constructed.{Constructed}
-use Rattle.meaning.specs.NoGraph.{NoGraph, TooLarge}
+use Rattle.meaning.specs.NoGraph.{TooLarge}
 use Rattle.meaning.specs.Pack.{Pack, Text}
 use Rattle.pack.proofs.Unpacking.{unpacked}
-use Rattle.pack.specs.Checked.{Checked, accepted, firstRefusal, numberOf, refused, wellFormed}
+use Rattle.pack.specs.Checked.{Checked, accepted, firstRefusal, numberOf, refused}
 use Rattle.rows.specs.Loaded.{LoadedFrom}
 use Rattle.rules.specs.Answer.{RowsFrom}
 

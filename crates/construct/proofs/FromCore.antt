@@ -3,8 +3,8 @@ use lib.ListN.{drop, length}
 use mathlib.Core.List.{List, [], _∷_, _++_, append-nil}
 use mathlib.Core.Path.{_≡_, ap, subst, _∙_}
 use native.Mathlib.Omega.{arith}
-use Prim.Native.Nat.{ℕ, suc, _+_, _<_}
-use Rattle.construct.specs.Outcome.{clashing, counted, refusedAs}
+use Prim.Native.Nat.{ℕ, _+_, _<_}
+use Rattle.construct.specs.Outcome.{counted, refusedAs}
 use Rattle.construct.specs.Steps.{CoreGiven, FromCore, OfCore, clash, graph, mixed}
 use Rattle.construct.specs.declared.Constructed.{Constructed}
 use Rattle.graph.proofs.ClashRecords.{clash-place}

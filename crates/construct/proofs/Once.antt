@@ -3,7 +3,7 @@
 -- nothing.
 use lib.ListN.{length}
 use mathlib.Core.List.{List, [], _∷_, flatten}
-use mathlib.Core.Path.{_≡_, refl, sym, ap, subst, _∙_}
+use mathlib.Core.Path.{_≡_, sym, ap, subst, _∙_}
 use Prim.Native.Nat.{ℕ}
 use Rattle.calls.proofs.Once.{Fixed}
 use Rattle.construct.specs.Outcome.{Gives, NoneObeys, Refuses, SomeObeys, counted, mixed-kinds, not-accepted, refusedAs, too-large, two-objects}

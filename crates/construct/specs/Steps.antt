@@ -5,14 +5,12 @@ use Prim.Native.Nat.{ℕ}
 use Rattle.calls.specs.Call.{_becomes_}
 use Rattle.construct.specs.Outcome.{clashing, counted, refusedAs}
 use Rattle.construct.specs.declared.Constructed.{Constructed}
-use Rattle.core.specs.Bounds.{Bounded}
 use Rattle.graph.specs.Build.{GraphWritten}
 use Rattle.graph.specs.Input.{Input}
 use Rattle.graph.specs.Records.{Arities}
 use Rattle.meaning.specs.Listing.{ClashGiven}
 use Rattle.meaning.specs.NoGraph.{MixedKinds, TooLarge, TwoObjects}
 use Rattle.meaning.specs.Pack.{Pack}
-use Rattle.meaning.specs.Tables.{ShapeTable}
 use Rattle.pack.specs.Checked.{accepted, wellFormed}
 use Rattle.rules.specs.Answer.{HeadsFound}
 use Rattle.rules.specs.declared.heads.AllHeads.{AllHeads}

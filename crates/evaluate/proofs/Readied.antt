@@ -1,9 +1,8 @@
 -- What the functions of a query's evaluation ask, from what a call has ready. Assumes nothing.
-use lib.ListN.{getD, length, getD-replicate}
+use lib.ListN.{length, getD-replicate}
 use mathlib.Core.List.{List}
-use mathlib.Core.Path.{_≡_}
 use native.Mathlib.Omega.{arith}
-use Prim.Native.Nat.{ℕ, _≤_, _<_}
+use Prim.Native.Nat.{ℕ, _≤_}
 use Rattle.access.specs.Places.{IsWellFormed}
 use Rattle.evaluate.proofs.InLists.{formed}
 use Rattle.evaluate.specs.Answered.{Ready}

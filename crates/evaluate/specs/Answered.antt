@@ -10,7 +10,6 @@ use Rattle.answers.specs.declared.pairs.Pairs.the-variants.{Listed, TooMany}
 use Rattle.evaluate.specs.GraphIn.{GraphIn, SomeGraph}
 use Rattle.evaluate.specs.Named.{pairOf}
 use Rattle.grammar.specs.Grammar.{IsQuery}
-use Rattle.meaning.specs.Built.{BuiltNode}
 use Rattle.meaning.specs.Certain.{CertainYes, PairList, TooManyPairs}
 use Rattle.meaning.specs.Limits.{maxPairs}
 use Rattle.meaning.specs.Member.{_∈_}

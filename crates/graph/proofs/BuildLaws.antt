@@ -1,7 +1,7 @@
 -- The two lists are those of the pack's graph. Assumes nothing.
 use lib.ListN.{drop}
 use mathlib.Core.List.{List, [], _∷_, _++_, flatten}
-use mathlib.Core.Path.{_≡_, refl, sym, ap, _∙_}
+use mathlib.Core.Path.{refl, sym, ap, _∙_}
 use Prim.Native.Nat.{ℕ}
 use Rattle.calls.specs.Call.{_becomes_}
 use Rattle.graph.proofs.Fronts.{node-length, triple-length}

@@ -17,7 +17,7 @@ use Rattle.evaluate.specs.GraphIn.{GraphIn}
 use Rattle.evaluate.specs.Named.{pairOf}
 use Rattle.graph.proofs.Fronts.{copied}
 use Rattle.graph.specs.Fronts.{frontsOf}
-use Rattle.meaning.specs.Limits.{maxPairs, nodeListLength, pairListLength, tripleListLength}
+use Rattle.meaning.specs.Limits.{maxPairs, nodeListLength, tripleListLength}
 use Rattle.meaning.specs.Pack.{Text}
 use Rattle.pair_list.proofs.Publishing.{flat-length}
 use Rattle.pair_list.specs.Written.{Fits, PairsFit, withPairs}

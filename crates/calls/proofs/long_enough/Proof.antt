@@ -2,7 +2,6 @@
 use borrow.Author.Needs.{needs}
 use lib.ListN.{length}
 use mathlib.Core.Path.{_≡_}
-use native.Mathlib.Omega.{arith}
 use Prim.Native.Nat.{_-_}
 use Rattle.calls.proofs.Lengths.{Comparing, comparing-again, comparing-done, comparing-short, comparing-start}
 use Rattle.calls.proofs.long_enough.Statement.{statement}

@@ -1,6 +1,5 @@
 -- `pair_list::publish::publish` meets its contract. Assumes nothing.
 use borrow.Author.Needs.{needs}
-use native.Mathlib.Omega.{arith}
 use Rattle.pair_list.proofs.publish.publish.Statement.{statement}
 use Rattle.pair_list.proofs.publish.publish.Tie as tie
 
