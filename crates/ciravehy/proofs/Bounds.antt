@@ -1,13 +1,12 @@
 -- The counts of an answer fit into 16 bits. Assumes nothing.
-use mathlib.Core.Bool.{Bool, true, false}
+use mathlib.Core.Bool.{false}
 use mathlib.Core.List.{List}
-use mathlib.Core.Path.{_≡_, sym, subst}
+use mathlib.Core.Path.{sym, subst}
 use native.Mathlib.Omega.{arith}
 use Prim.Native.Nat.{ℕ, _<_}
 use Rattle.calls.proofs.Meets.{every}
 use Rattle.calls.specs.Call.{Call, Lent}
 use Rattle.ciravehy.proofs.Pairs.{few-pairs}
-use Rattle.report.specs.Report.{number}
 use Rattle.construct.specs.Outcome.{Gives, Refuses, mixed-kinds, not-accepted, refusedAs, too-large, two-objects}
 use Rattle.construct.specs.declared.Constructed.{Constructed}
 use Rattle.meaning.specs.Pack.{Text}
@@ -25,10 +24,6 @@ Small n = n < 65536
 
 zero-small : Small 0
 zero-small = omega arith
-
-said-small : (said : Bool) → Small (number said)
-said-small true = omega arith
-said-small false = omega arith
 
 -- ---- what a pack comes to
 
@@ -51,15 +46,13 @@ unprepared-small (Prepared.no-graph e i f) = refused-small f
 
 -- ---- the three answers: refusal 1, or what the pack and the query come to
 
-pub build-small : {pack : Text} {r : Constructed} {lists buffers : List Lent} → Call (refusedAs 1) (Refuses pack) (Gives pack) r lists buffers → Small (r .nodes) × Small (r .triples) × Small 0
-build-small A = let (n, t) = every Counts (zero-small, zero-small) refused-small (λ _ G. given-small G) A in (n, t, zero-small)
+pub build-small : {pack : Text} {r : Constructed} {lists buffers : List Lent} → Call (refusedAs 1) (Refuses pack) (Gives pack) r lists buffers → Small (r .nodes) × Small (r .triples)
+build-small A = every Counts (zero-small, zero-small) refused-small (λ _ G. given-small G) A
 
 module _ {pack query : Text} {r : YesNo} where
-  pub yes-no-small : {lists buffers : List Lent} {said : ℕ} → Call (record { graph = refusedAs 1; yes = false }) (YesOrNo.Refuses pack query) (YesOrNo.Gives pack query) r lists buffers → said ≡ number (r .yes)
-      → Small (r .graph .nodes) × Small (r .graph .triples) × Small said
-  yes-no-small A e =
-      let (n, t) = every (λ x. Counts (x .graph)) (zero-small, zero-small) (λ x. unprepared-small (x .cause)) (λ _ G. given-small (G .asked .graph)) A in
-      (n, t, subst Small (sym e) (said-small (r .yes)))
+  pub yes-no-small : {lists buffers : List Lent} → Call (record { graph = refusedAs 1; yes = false }) (YesOrNo.Refuses pack query) (YesOrNo.Gives pack query) r lists buffers
+      → Small (r .graph .nodes) × Small (r .graph .triples)
+  yes-no-small A = every (λ x. Counts (x .graph)) (zero-small, zero-small) (λ x. unprepared-small (x .cause)) (λ _ G. given-small (G .asked .graph)) A
 
 abbrev pub All : PairAnswer → Type 0
 All a = Small (a .graph .nodes) × Small (a .graph .triples) × Small (a .pairs)

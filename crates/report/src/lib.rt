@@ -21,7 +21,7 @@ pub fn numbers(nodes: usize, triples: usize, answer: usize, clash: [u16; 22]) ->
 
 // Yes is 1, no is 0.
 pub fn said(yes: bool) -> usize
-    ensures { λ r. ⌜ r ≡ number yes ⌝ }
+    ensures { λ r. ⌜ (r ≡ number yes) × (r < 2) ⌝ }
 {
     if yes { 1 } else { 0 }
 }

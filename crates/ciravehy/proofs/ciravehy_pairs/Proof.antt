@@ -11,7 +11,7 @@ ciravehy-pairs-spec =
     tie.close
     (tie.spec
     (λ c κs. search needs)  -- pairs-requires
-    (λ c κs. let s = pairs-small (c .before .before .before .before .before .before .before .before .before .before .before .before .before .before .before .before .before .before .pairs .ensures) in (omega (arith, s .0), omega (arith, s .1), omega (arith, s .2)))  -- numbers-requires
+    (λ c κs. let s = pairs-small (c .before .before .before .before .before .before .before .before .before .before .before .before .before .before .before .before .before .before .pairs .ensures) in (omega (arith, s .0, s .1, s .2), omega (arith, s .0, s .1, s .2), omega (arith, s .0, s .1, s .2)))  -- numbers-requires
     (λ c. search needs)  -- same-length
     (λ c. search needs)  -- same-length-2
     (λ c. search needs)  -- same-length-3
