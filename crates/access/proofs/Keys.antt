@@ -186,6 +186,15 @@ looking-done {ls} {rs} {l} {r} {n} {i} p h =
     let g : length (take n ls) ≤ i = omega (arith, length-take-le n ls (omega (arith, p .few, p .lefts-long)), h) in
     ap (λ z. differs l r z (drop i (take n rs))) (sym (drop-of-length-le (take n ls) g)) ∙ p .is
 
+-- after two entries
+pub looking-two : {ls rs : List ℕ} {l r n : ℕ} (i : ℕ) → Looking ls rs l r n (i + 1 + 1) → Looking ls rs l r n (i + 2)
+looking-two {ls} {rs} {l} {r} {n} i p = subst (Looking ls rs l r n) (let z : i + 1 + 1 ≡ i + 2 = omega arith in z) p
+
+-- the last entry decides
+pub looking-last : {ls rs : List ℕ} {l r n i : ℕ} → Looking ls rs l r n i → i < n → n ≤ i + 1 → (b : Bool) → b ≡ (eqb (getD ls i 0) l && not (eqb (getD rs i 0) r)) → b ≡ differs l r (take n ls) (take n rs)
+looking-last p h g true e = looking-found p h (sym e)
+looking-last p h g false e = looking-done (looking-on p h (sym e)) g
+
 -- ---- rows that break a dependency with one
 
 pub differs-rows : (d : Dependency) (w : ℕ) (y : Row) → fits d w y ≡ true → (xs : List Row) → every (fits d w) xs ≡ true

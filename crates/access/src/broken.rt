@@ -52,7 +52,7 @@ fn differ(x: u64, left: u64, y: u64, right: u64) -> bool
     y != right
 }
 
-// Whether one of the first n entries of the lists has this left key and another right key.
+// Whether one of the first n entries of the lists has this left key and another right key. Two are looked at in a turn.
 fn some_differs(
     lefts: &[u64; MAX_ROWS],
     rights: &[u64; MAX_ROWS],
@@ -64,11 +64,17 @@ fn some_differs(
     ensures { λ r. ⌜ r ≡ differs left right (take n (now (lefts .entry))) (take n (now (rights .entry))) ⌝ }
 {
     let mut i = 0;
-    while i < n {
+    while i + 1 < n {
         if differ(lefts[i], left, rights[i], right) {
             return true;
         }
-        i += 1;
+        if differ(lefts[i + 1], left, rights[i + 1], right) {
+            return true;
+        }
+        i += 2;
+    }
+    if i < n {
+        return differ(lefts[i], left, rights[i], right);
     }
     false
 }
