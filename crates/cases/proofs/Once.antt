@@ -1,53 +1,22 @@
 -- A call on a pack has one outcome: of two cases of the same call on the same pack, only one outcome is so. Assumes nothing.
 use mathlib.Core.List.{List, _∷_}
-use mathlib.Core.Path.{_≡_, refl, sym, ap, subst, _∙_}
+use mathlib.Core.Path.{_≡_, refl, sym, ap, _∙_}
 use native.Mathlib.Omega.{arith}
 use Prim.Native.Nat.{ℕ}
 use Rattle.access.proofs.Accepted.{well-formed, zero-accepted}
 use Rattle.cases.specs.Says.{Call, Outcome, Says, answer, ask-gives, ask-refused, build-gives, build-refused, graph, iri, is-fine, is-refused, read-gives, read-refused, refused, spelled, term}
-use Rattle.construct.proofs.Once.{accepted-once, not-given, one-refusal}
-use Rattle.construct.specs.Outcome.{Gives}
-use Rattle.construct.specs.declared.Constructed.{Constructed}
-use Rattle.meaning.proofs.Lists.Ordered.{by-key, list-unique}
+use Rattle.construct.proofs.Once.{not-given, one-records, one-refusal}
 use Rattle.meaning.proofs.Lists.Places.{inside}
-use Rattle.meaning.proofs.Theory.OneGraph.{graph-unique}
-use Rattle.meaning.specs.Built.{BuiltNode}
-use Rattle.meaning.specs.Certain.{PairList}
 use Rattle.meaning.specs.Limits.{unused}
-use Rattle.meaning.specs.Listing.{GraphLists, NodesInOrder, nodeKey}
-use Rattle.meaning.specs.Pack.{Pack, Text}
-use Rattle.meaning.specs.Query.{Expr}
+use Rattle.meaning.specs.Pack.{Text}
 use Rattle.pack.proofs.Unpacking.{unpacked}
 use Rattle.pack.specs.Checked.{numberOf}
-use Rattle.pairs.specs.Answer as Pairs
-use Rattle.pairs.specs.declared.PairAnswer.{PairAnswer}
-use Rattle.prepare.proofs.Once as prepared
+use Rattle.pairs.proofs.Once.{one-list}
 use Rattle.readback.proofs.Once.{answers-once, not-both, one-number, one-pack}
 use Rattle.readback.specs.Answer.{Answers, iri as reads, no-iri, not-well-formed, unreadAs}
 use Rattle.readback.specs.declared.ReadBack.{ReadBack}
-use Rattle.spelling.specs.Iri.{iriOf, plain}
+use Rattle.spelling.specs.Iri.{iriOf}
 use Rattle.yes_no.proofs.Once as yes_no
-
--- ---- one graph
-
-module _ {pack : Text} {r s : Constructed} {fs gs : List (List ℕ)} (G : Gives pack r fs) (H : Gives pack s gs) where
-  one-lists : (G .has .graph .node-records ≡ H .has .graph .node-records) × (G .has .graph .triple-records ≡ H .has .graph .triple-records)
-  one-lists =
-      graph-unique (H .of) _ _ _ _
-      (subst (λ X. GraphLists X (G .has .graph .node-records) (G .has .graph .triple-records)) (accepted-once pack (G .has .is) (H .has .is)) (G .has .graph .lists))
-      (H .has .graph .lists)
-
--- ---- one list of pairs
-
-module _ {pack q : Text} {r s : PairAnswer} {fs gs : List (List ℕ)} (G : Pairs.Gives pack q r fs) (H : Pairs.Gives pack q s gs) where
-  one-pairs : G .records ≡ H .records
-  one-pairs =
-      let o = prepared.one-question (G .asked) (H .asked) in
-      let nodes = G .asked .graph .has .graph .lists in
-      let n = list-unique (by-key nodeKey) (subst (λ (z : Pack × Expr). NodesInOrder (z .0) (nodes .inOrder)) o (nodes .ordered)) (H .asked .graph .has .graph .lists .ordered) in
-      list-unique (by-key (λ t. t))
-      (subst (λ (z : (Pack × Expr) × List BuiltNode). PairList (plain (z .0 .0)) (z .0 .0) (z .0 .1) (z .1) (G .records)) (λ k. (o k, n k)) (G .certain))
-      (H .certain)
 
 -- ---- read-back: a refusal's number is not 0
 
@@ -77,7 +46,7 @@ says-once (build-refused x e) (build-refused y f) = ap refused (sym e ∙ one-re
 says-once (build-refused x e) (build-gives G n t) = absurd (not-given x G)
 says-once (build-gives G n t) (build-refused y f) = absurd (not-given y G)
 says-once (build-gives G n t) (build-gives H m u) =
-    let l = one-lists G H in
+    let l = one-records G H in
     let ns = sym n ∙ l .0 ∙ m in
     let ts = sym t ∙ l .1 ∙ u in
     λ i. graph (ns i) (ts i)
@@ -86,7 +55,7 @@ says-once (ask-refused {q} x e z d) (ask-gives Y f H u) = absurd (yes_no.fixed _
 says-once (ask-gives {q} X e G t) (ask-refused y f w c) = absurd (yes_no.fixed _ q .not-both y X)
 says-once (ask-gives {q} X e G t) (ask-gives Y f H u) =
     let b = sym e ∙ yes_no.fixed _ q .one-result X Y .0 .yes-or-no ∙ f in
-    let ps = sym t ∙ one-pairs G H ∙ u in
+    let ps = sym t ∙ one-list G H ∙ u in
     λ i. answer (b i) (ps i)
 says-once (read-refused x) (read-refused y) = ap (λ (r : ReadBack). refused (r .refusal)) (answers-once x y)
 says-once (read-refused x) (read-gives y) = refused-or-read x y

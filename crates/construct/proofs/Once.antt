@@ -8,6 +8,7 @@ use Prim.Native.Nat.{ℕ}
 use Rattle.calls.proofs.Once.{Fixed}
 use Rattle.construct.specs.Outcome.{Gives, NoneObeys, Refuses, SomeObeys, counted, mixed-kinds, not-accepted, refusedAs, too-large, two-objects}
 use Rattle.construct.specs.declared.Constructed.{Constructed}
+use Rattle.graph.specs.Fronts.{GraphFronts}
 use Rattle.meaning.proofs.Theory.OneGraph.{graph-unique}
 use Rattle.meaning.specs.Listing.{GraphLists}
 use Rattle.meaning.specs.NoGraph.{TooLarge, TwoObjects}
@@ -75,17 +76,25 @@ not-given x g = not-refused (g .has .is) (g .has .small) (g .has .obeyed) x
 
 -- ---- one graph
 
-pub one-graph : {pack : Text} {r s : Constructed} {fs gs : List (List ℕ)} → Gives pack r fs → Gives pack s gs → (r ≡ s) × (fs ≡ gs)
-one-graph {pack} {r} {s} g h =
-    let G = g .has .graph in
-    let H = h .has .graph in
-    let e = one-pack (g .has .is) (h .has .is) in
-    let u = graph-unique (h .of) (G .node-records) (H .node-records) (G .triple-records) (H .triple-records) (subst (λ X. GraphLists X (G .node-records) (G .triple-records)) e (G .lists)) (H .lists) in
-    let n : r .nodes ≡ s .nodes = G .node-count ∙ ap length (u .0) ∙ sym (H .node-count) in
-    let t : r .triples ≡ s .triples = G .triple-count ∙ ap length (u .1) ∙ sym (H .triple-count) in (
-      g .counts ∙ (λ i. counted (n i) (t i)) ∙ sym (h .counts),
-      G .fronts-are ∙ (λ i. flatten (u .0 i) ∷ flatten (u .1 i) ∷ []) ∙ sym (H .fronts-are),
-    )
+module _ {pack : Text} {r s : Constructed} {fs gs : List (List ℕ)} (g : Gives pack r fs) (h : Gives pack s gs) where
+  abbrev G : GraphFronts (g .of) (r .nodes) (r .triples) fs
+  G = g .has .graph
+
+  abbrev H : GraphFronts (h .of) (s .nodes) (s .triples) gs
+  H = h .has .graph
+
+  pub one-records : (G .node-records ≡ H .node-records) × (G .triple-records ≡ H .triple-records)
+  one-records =
+      graph-unique (h .of) (G .node-records) (H .node-records) (G .triple-records) (H .triple-records)
+      (subst (λ X. GraphLists X (G .node-records) (G .triple-records)) (one-pack (g .has .is) (h .has .is)) (G .lists)) (H .lists)
+
+  pub one-graph : (r ≡ s) × (fs ≡ gs)
+  one-graph =
+      let n : r .nodes ≡ s .nodes = G .node-count ∙ ap length (one-records .0) ∙ sym (H .node-count) in
+      let t : r .triples ≡ s .triples = G .triple-count ∙ ap length (one-records .1) ∙ sym (H .triple-count) in (
+        g .counts ∙ (λ i. counted (n i) (t i)) ∙ sym (h .counts),
+        G .fronts-are ∙ (λ i. flatten (one-records .0 i) ∷ flatten (one-records .1 i) ∷ []) ∙ sym (H .fronts-are),
+      )
 
 pub constructs-fixed : (pack : Text) → Fixed Alike (Refuses pack) (Gives pack)
 constructs-fixed pack = record {

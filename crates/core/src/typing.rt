@@ -5,6 +5,7 @@ use crate::heads::NAMED;
 use crate::triples::PLACE_ROOM;
 use crate::triples::PREDICATE_ROOM;
 use crate::triples::SUBJECT_WEIGHT;
+use meaning::MAX_CORE_TRIPLES;
 ghost use mathlib.Core.Path.{_≡_};
 ghost use Prim.Native.Nat.{_≤_, _<_};
 ghost use lib.ListN.{length};
@@ -83,7 +84,7 @@ fn pass(shapes: &[[u16; 12]; 8], key: u64, masks: &mut [u16]) -> bool
 fn round(
     shapes: &[[u16; 12]; 8],
     triples: &[u64],
-    passed: &mut [u16; 1024],
+    passed: &mut [u16; MAX_CORE_TRIPLES],
     masks: &mut [u16],
 ) -> bool
     requires { ⌜ CodesFit (now shapes) × AllPlaced (now triples) × (length (now triples) ≤ maxCoreTriples) × (maxNodes ≤ length (now masks)) ⌝ }
@@ -109,7 +110,7 @@ fn spread(shapes: &[[u16; 12]; 8], triples: &[u64], masks: &mut [u16])
     requires { ⌜ CodesFit (now shapes) × AllPlaced (now triples) × (length (now triples) ≤ maxCoreTriples) × (maxNodes ≤ length (now masks)) ⌝ }
     ensures { λ _. ⌜ SpreadFrom (now (shapes .entry)) (now (triples .entry)) (now (masks .entry)) (now (masks .exit)) ⌝ }
 {
-    let mut passed = [0u16; 1024];
+    let mut passed = [0u16; MAX_CORE_TRIPLES];
     loop {
         let changed = round(shapes, triples, &mut passed, masks);
         if !changed {

@@ -1,14 +1,10 @@
--- What a call has before the walk: a query in its tree, and tables that are cleared. Assumes nothing.
+-- What a call has before the walk: tables that are cleared. Assumes nothing.
 use lib.ListN.{getD, getD-replicate, length, length-replicate}
 use mathlib.Core.List.{List}
-use mathlib.Core.Path.{_≡_, ap, subst, _∙_}
+use mathlib.Core.Path.{_≡_, ap, _∙_}
 use native.Mathlib.Omega.{arith}
 use Prim.Native.Nat.{ℕ, _≤_}
 use Rattle.alive.specs.Worklist.{Unmarked, states}
-use Rattle.meaning.specs.Pack.{Text}
-use Rattle.query.specs.Answer.{Answered, HoldsQuery}
-use Rattle.query.specs.declared.Query.the-variants.{Parts}
-use Rattle.query.specs.declared.Query.{Query}
 use Rattle.sets.specs.Buffers.{zeros}
 
 pub length-zeros : (n : ℕ) → length (zeros n) ≡ n
@@ -21,6 +17,3 @@ cleared table before queue e a b = record {
   room = b;
   below = λ x l. let h = ap (λ t. getD t x 0) e ∙ getD-replicate (length before) x 0 0 (omega arith) in omega arith;
 }
-
-pub as-held : (q : Query) (query : Text) (tree : List ℕ) {n : ℕ} → Answered q query tree → q ≡ Parts n → HoldsQuery query tree n
-as-held q query tree a e = subst (λ x. Answered x query tree) e a

@@ -27,12 +27,12 @@ record-length (core (iriNode c (a ∷ b ∷ d ∷ e ∷ vs))) = refl
 record-length (core (literalNode v)) = refl
 record-length (invented X) = refl
 
-pub node-flat : {P : Pack} (bs : List BuiltNode) (rs : List (List ℕ)) → Forall₂ (NodeRecord P) bs rs → length (flatten rs) ≡ length rs * 7
+node-flat : {P : Pack} (bs : List BuiltNode) (rs : List (List ℕ)) → Forall₂ (NodeRecord P) bs rs → length (flatten rs) ≡ length rs * 7
 unfolding flatten
 node-flat [] [] Forall₂·nil = refl
 node-flat (b ∷ bs) (r ∷ rs) (Forall₂·cons h t) = let l = length-append r (flatten rs) in let m = node-flat bs rs t in omega (arith, ap length (h .are), record-length b)
 
-pub triple-flat : {P : Pack} {bs : List BuiltNode} (rs : List (List ℕ)) → ((r : List ℕ) → r ∈ rs → TripleRecord P bs r) → length (flatten rs) ≡ length rs * 3
+triple-flat : {P : Pack} {bs : List BuiltNode} (rs : List (List ℕ)) → ((r : List ℕ) → r ∈ rs → TripleRecord P bs r) → length (flatten rs) ≡ length rs * 3
 unfolding flatten
 triple-flat [] h = refl
 triple-flat (r ∷ rs) h = let l = length-append r (flatten rs) in let m = triple-flat rs (λ q i. h q (there i)) in omega (arith, ap length (h r (here refl) .are))

@@ -13,8 +13,8 @@ abbrev pub withPairs : ℕ → List ℕ → List ℕ → List ℕ
 withPairs k found pairs = flatten (map pairOf (take k found)) ++ drop (k * pairNumbers) pairs
 
 -- n numbers are there, and have room
-abbrev pub Fits : ℕ → List ℕ → List ℕ → Type 0
-Fits n src dst = (n ≤ length src) × (n ≤ length dst)
+abbrev pub CanCopy : ℕ → List ℕ → List ℕ → Type 0
+CanCopy n src dst = (n ≤ length src) × (n ≤ length dst)
 
 -- so are k pairs
 abbrev pub PairsFit : ℕ → List ℕ → List ℕ → Type 0

@@ -1,7 +1,8 @@
 // What was found, written at the front of the lent lists.
 ghost use mathlib.Core.Path.{_≡_};
 ghost use Prim.Native.Nat.{_*_};
-ghost use Rattle.pair_list.specs.Written.{Fits, PairsFit, withPairs};
+ghost use Rattle.meaning.specs.Limits.{nodeNumbers, tripleNumbers};
+ghost use Rattle.pair_list.specs.Written.{CanCopy, PairsFit, withPairs};
 ghost use Rattle.sets.specs.Buffers.{overlaid};
 use sets::buffers::copy_front;
 
@@ -30,8 +31,8 @@ pub fn publish(
     triples: &mut [u16],
     pairs: &mut [u16],
 )
-    requires { ⌜ Fits (count * 7) (now points) (now nodes) × Fits (edges * 3) (now links) (now triples) × PairsFit k (now found) (now pairs) ⌝ }
-    ensures { λ _. ⌜ (now (nodes .exit) ≡ overlaid (count * 7) (now (points .entry)) (now (nodes .entry))) × (now (triples .exit) ≡ overlaid (edges * 3) (now (links .entry)) (now (triples .entry))) × (now (pairs .exit) ≡ withPairs k (now (found .entry)) (now (pairs .entry))) ⌝ }
+    requires { ⌜ CanCopy (count * nodeNumbers) (now points) (now nodes) × CanCopy (edges * tripleNumbers) (now links) (now triples) × PairsFit k (now found) (now pairs) ⌝ }
+    ensures { λ _. ⌜ (now (nodes .exit) ≡ overlaid (count * nodeNumbers) (now (points .entry)) (now (nodes .entry))) × (now (triples .exit) ≡ overlaid (edges * tripleNumbers) (now (links .entry)) (now (triples .entry))) × (now (pairs .exit) ≡ withPairs k (now (found .entry)) (now (pairs .entry))) ⌝ }
 {
     copy_front(points, count * 7, nodes);
     copy_front(links, edges * 3, triples);

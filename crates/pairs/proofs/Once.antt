@@ -60,16 +60,20 @@ module _ {pack query : Text} {r s : PairAnswer} where
   not-both (too-many e i P o n w x q a) h =
       h .few (subst (λ (z : Pack × Expr). TooManyPairs (plain (z .0)) (z .0) (z .1)) (λ k. (accepted-once pack o (h .asked .graph .has .is) k, one-expression query e (h .asked .expression) i (h .asked .is) k)) x)
 
-  one-result : {fs gs : List (List ℕ)} → Gives pack query r fs → Gives pack query s gs → Alike r s × (fs ≡ gs)
-  one-result g h =
-      let (e, f) = prepared.one-result (g .asked) (h .asked) in
-      let o = prepared.one-question (g .asked) (h .asked) in
-      let G = g .asked .graph .has .graph .lists in
-      let H = h .asked .graph .has .graph .lists in
-      let w = list-unique (by-key nodeKey) (subst (λ (z : Pack × Expr). NodesInOrder (z .0) (G .inOrder)) o (G .ordered)) (H .ordered) in
-      let x = subst (λ (z : (Pack × Expr) × List BuiltNode). PairList (plain (z .0 .0)) (z .0 .0) (z .0 .1) (z .1) (g .records)) (λ k. (o k, w k)) (g .certain) in
-      let z = list-unique (by-key (λ t. t)) x (h .certain) in
-      (record { graph = graph.equal e; pair-count = g .count ∙ ap length z ∙ sym (h .count) }, g .fronts-are ∙ (λ i. f i ++ (flatten (z i) ∷ [])) ∙ sym (h .fronts-are))
+  module _ {fs gs : List (List ℕ)} (g : Gives pack query r fs) (h : Gives pack query s gs) where
+    pub one-list : g .records ≡ h .records
+    one-list =
+        let o = prepared.one-question (g .asked) (h .asked) in
+        let G = g .asked .graph .has .graph .lists in
+        let H = h .asked .graph .has .graph .lists in
+        let w = list-unique (by-key nodeKey) (subst (λ (z : Pack × Expr). NodesInOrder (z .0) (G .inOrder)) o (G .ordered)) (H .ordered) in
+        let x = subst (λ (z : (Pack × Expr) × List BuiltNode). PairList (plain (z .0 .0)) (z .0 .0) (z .0 .1) (z .1) (g .records)) (λ k. (o k, w k)) (g .certain) in
+        list-unique (by-key (λ t. t)) x (h .certain)
+
+    one-result : Alike r s × (fs ≡ gs)
+    one-result =
+        let (e, f) = prepared.one-result (g .asked) (h .asked) in
+        (record { graph = graph.equal e; pair-count = g .count ∙ ap length one-list ∙ sym (h .count) }, g .fronts-are ∙ (λ i. f i ++ (flatten (one-list i) ∷ [])) ∙ sym (h .fronts-are))
 
 pub fixed : (pack query : Text) → Fixed Alike (Refuses pack query) (Gives pack query)
 fixed pack query = record { equal = equal; one-refusal = one-refusal; not-both = not-both; one-result = one-result }

@@ -20,9 +20,9 @@ use Rattle.graph.specs.Fronts.{frontsOf}
 use Rattle.meaning.specs.Limits.{maxPairs, nodeListLength, tripleListLength}
 use Rattle.meaning.specs.Pack.{Text}
 use Rattle.pair_list.proofs.Publishing.{flat-length}
-use Rattle.pair_list.specs.Written.{Fits, PairsFit, withPairs}
+use Rattle.pair_list.specs.Written.{CanCopy, PairsFit, withPairs}
 use Rattle.pairs.specs.Answer.{before-12, too-many}
-use Rattle.pairs.specs.Inner.{Built, Comes, ListRoom}
+use Rattle.pairs.specs.Inner.{CountedGraph, Comes, ListRoom}
 use Rattle.prepare.proofs.Decide.{as-readied, as-refused}
 use Rattle.prepare.specs.Prepared.{Prepares}
 use Rattle.prepare.specs.declared.Prepared.{Prepared}
@@ -43,7 +43,7 @@ module _ {pack query : Text} {tree : List ℕ} {p : Prepared} (points links : Co
       → Comes pack query (record { graph = p .graph; pairs = 0 }) (nodes becomes nodes) (triples becomes triples) (pairs becomes pairs)
   refused n = refuses (before-12 (as-refused points links c n .0) refl) (refl, (refl, (refl, tt)))
 
-  pub built : p .graph .refusal ≡ 0 → nodeListLength ≤ length (points .after) → tripleListLength ≤ length (links .after) → Built pack query tree (p .parts) (p .graph) (points .after) (links .after)
+  pub built : p .graph .refusal ≡ 0 → nodeListLength ≤ length (points .after) → tripleListLength ≤ length (links .after) → CountedGraph pack query tree (p .parts) (p .graph) (points .after) (links .after)
   built z a b = let (fs, R, w) = as-readied points links c z in record {
     ready = record { graph = record { of = R .graph .of; graph = graph-in (R .graph) points links w a b }; held = R .held; room = R .room };
     counts = R .graph .counts;
@@ -51,7 +51,7 @@ module _ {pack query : Text} {tree : List ℕ} {p : Prepared} (points links : Co
 
 -- ---- 12, or the pairs
 
-module _ {pack query : Text} {tree : List ℕ} {parts : ℕ} {g : Constructed} {points links : List ℕ} (b : Built pack query tree parts g points links)
+module _ {pack query : Text} {tree : List ℕ} {parts : ℕ} {g : Constructed} {points links : List ℕ} (b : CountedGraph pack query tree parts g points links)
     (x : Pairs) (found : List ℕ) (p : PairsIn pack query points (g .nodes) links (g .triples) x found) where
   abbrev graph : GraphIn pack (b .ready .graph .of) points (g .nodes) links (g .triples)
   graph = b .ready .graph .graph
@@ -67,7 +67,7 @@ module _ {pack query : Text} {tree : List ℕ} {parts : ℕ} {g : Constructed} {
     listed-in = subst (λ y. PairsIn pack query points (g .nodes) links (g .triples) y found) e p
 
     -- what is written has room
-    pub fits : (nodes triples pairs : List ℕ) → ListRoom nodes triples pairs → Fits (g .nodes * 7) points nodes × Fits (g .triples * 3) links triples × PairsFit k found pairs
+    pub fits : (nodes triples pairs : List ℕ) → ListRoom nodes triples pairs → CanCopy (g .nodes * 7) points nodes × CanCopy (g .triples * 3) links triples × PairsFit k found pairs
     fits nodes triples pairs r =
         let n = graph .has .graph .few-nodes in
         let t = graph .has .graph .few-triples in

@@ -21,7 +21,7 @@ abbrev pub ListRoom : List ℕ → List ℕ → List ℕ → Type 0
 ListRoom nodes triples pairs = LongEnough (lists (nodes becomes nodes) (triples becomes triples) (pairs becomes pairs))
 
 -- A pack's graph, counted, stands in two lists, and the query's parts in the tree.
-pub record Built (pack query : Text) (tree : List ℕ) (parts : ℕ) (g : Constructed) (points links : List ℕ) : Type 0 where
+pub record CountedGraph (pack query : Text) (tree : List ℕ) (parts : ℕ) (g : Constructed) (points links : List ℕ) : Type 0 where
   pub ready : Ready pack query tree parts points (g .nodes) links (g .triples)
   pub counts : g ≡ counted (g .nodes) (g .triples)
 

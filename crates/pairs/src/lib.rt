@@ -2,7 +2,7 @@
 ghost use Rattle.calls.specs.Call.{lent};
 ghost use Rattle.pair_list.specs.Written.{TableRoom};
 ghost use Rattle.pairs.specs.Answer.{Answers};
-ghost use Rattle.pairs.specs.Inner.{Built, Comes, ListRoom, Room};
+ghost use Rattle.pairs.specs.Inner.{CountedGraph, Comes, ListRoom, Room};
 use alive::STATES;
 use answers::pairs::Pairs;
 use calls::long_enough;
@@ -46,7 +46,7 @@ fn in_lists(
     queue: &mut [u32],
     seen: &mut [u16],
 ) -> PairAnswer
-    requires { ⌜ Built (now pack) (now query) (now tree) parts graph (now points) (now links) × ListRoom (now nodes) (now triples) (now pairs) × TableRoom (now alive) (now queue) (now seen) ⌝ }
+    requires { ⌜ CountedGraph (now pack) (now query) (now tree) parts graph (now points) (now links) × ListRoom (now nodes) (now triples) (now pairs) × TableRoom (now alive) (now queue) (now seen) ⌝ }
     ensures { λ r. ⌜ Comes (now (pack .entry)) (now (query .entry)) r (lent nodes) (lent triples) (lent pairs) ⌝ }
 {
     let mut found = [0u32; MAX_PAIRS];

@@ -40,7 +40,7 @@ module _ (P : Pack) where
   onward (yes q) m o = Option·map (λ (s : Shape). (m, s .target)) o
   onward (no q) m o = none
 
-  -- the type that a fact passedOn on from n of type S
+  -- the type that a fact passes on from n of type S
   unfoldable pub passedOn : Node → Target → Fact → Option (Node × Target)
   unfolding onward same-node
   passedOn n Literal f = none

@@ -3,6 +3,7 @@ use borrow.Author.Needs.{needs}
 use borrow.Author.Tests.{not-true, not-false}
 use native.Mathlib.Omega.{arith}
 use Rattle.core.specs.Spread.{room}
+use Rattle.meaning.specs.Limits.{maxCoreTriples}
 use Rattle.core.proofs.Spreading.{Spreading, spread-start, spread-again, spread-done}
 use Rattle.core.proofs.typing.spread.Statement.{statement}
 use Rattle.core.proofs.typing.spread.Tie as tie
@@ -19,7 +20,7 @@ spread-spec =
     (tie.spec
     Inv-loop
     μ-loop
-    (λ c. spread-start _ _ _ 1024)  -- loop-holds
+    (λ c. spread-start _ _ _ maxCoreTriples)  -- loop-holds
     (λ c κs. let s = c .before .before .before .before .before .pre in (s .0, s .1, s .2, omega (arith, c .before .before .loop .inv .long, s .3)))  -- round-requires
     (λ c. search needs)  -- same-length
     (λ c. let r = c .before .before .before .round in spread-done (c .before .before .before .before .before .before .loop .inv) (r .kept .1 .1 .1 .0) (r .ensures .0) (not-true (r .result) (c .if1 .taken)))  -- returns
