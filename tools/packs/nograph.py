@@ -66,17 +66,27 @@ def reasons(pack):
     return list(clashes(core)) or list(mixed(core))
 
 
-def clashes(core):
-    """10: a core node has two p-objects and a type with multiplicity 1 or 2 for p."""
-    for node, edges in core.edges.items():
-        for predicate, objects in edges.items():
+def order(node):
+    """Node order: IRIs by constructor and arguments, then literals by value."""
+    return (0, *node) if isinstance(node, tuple) else (1, node)
+
+
+def clashing(core):
+    """Each node and predicate of refusal 10 with its two lowest objects and a type that allows one. The calls show the first."""
+    for node in sorted(core.edges, key=order):
+        for predicate, objects in sorted(core.edges[node].items()):
             single = [number for number in core.types.get(node, ()) if number != limits.LITERAL
                       and (shape := core.shapes.get((number, predicate))) and shape.multiplicity in (1, 2)]
             if single and len(objects) > 1:
-                first, second = objects[:2]
-                why = (f"{core.text(node)} has {core.predicate(predicate)} {core.text(second)} and {core.text(first)}; "
-                       f"the shape of {core.type(single[0])} allows one")
-                yield Reason(10, why, tuple(core.triples[node, predicate, object] for object in (second, first)))
+                yield node, predicate, sorted(objects, key=order)[:2], min(single)
+
+
+def clashes(core):
+    """10: a core node has two p-objects and a type with multiplicity 1 or 2 for p."""
+    for node, predicate, (first, second), number in clashing(core):
+        why = (f"{core.text(node)} has {core.predicate(predicate)} {core.text(first)} and {core.text(second)}; "
+               f"the shape of {core.type(number)} allows one")
+        yield Reason(10, why, tuple(core.triples[node, predicate, object] for object in (second, first)))
 
 
 def mixed(core):

@@ -1,5 +1,5 @@
 -- What an open call answers and leaves is fixed by the bytes and the lengths of what it is lent, if its outcome is fixed by the
--- bytes (`call-once`): two answers to the same bytes, with lists of the same lengths, are alike, keep all lists or write the
+-- bytes (`call-once`): two answers to the same bytes, with lists of the same lengths, are equal, keep all lists or write the
 -- same at the front of each, whatever the lists held before, and leave lists and buffers alike that were alike. Assumes
 -- nothing.
 use lib.ListN.{drop, length}
@@ -20,13 +20,12 @@ SameLengths = Each₂ (λ b c. (b .least ≡ c .least) × (length (b .before) �
 abbrev pub AlikeAfter : List Lent → List Lent → Type 0
 AlikeAfter = Each₂ (λ b c. b .before ≡ c .before → b .after ≡ c .after)
 
-module _ {A : Type 0} (Alike : A → A → Type 0) (Refuses : A → Type 0) (Gives : A → List (List ℕ) → Type 0) where
-  -- Which outcome it is, and what it says and gives, are fixed, but for what two alike answers may differ in.
+module _ {A : Type 0} (Refuses : A → Type 0) (Gives : A → List (List ℕ) → Type 0) where
+  -- Which outcome it is, and what it says and gives, are fixed.
   pub record Fixed : Type 0 where
-    pub equal : {r s : A} → r ≡ s → Alike r s
-    pub one-refusal : {r s : A} → Refuses r → Refuses s → Alike r s
+    pub one-refusal : {r s : A} → Refuses r → Refuses s → r ≡ s
     pub not-both : {r s : A} {gs : List (List ℕ)} → Refuses r → Gives s gs → ⊥
-    pub one-result : {r s : A} {fs gs : List (List ℕ)} → Gives r fs → Gives s gs → Alike r s × (fs ≡ gs)
+    pub one-result : {r s : A} {fs gs : List (List ℕ)} → Gives r fs → Gives s gs → (r ≡ s) × (fs ≡ gs)
 
   -- What two calls leave in their output lists.
   pub data SameLists (r s : A) (lists lists₂ : List Lent) : Type 0 where
@@ -34,7 +33,7 @@ module _ {A : Type 0} (Alike : A → A → Type 0) (Refuses : A → Type 0) (Giv
     both-written : (fronts : List (List ℕ)) → Gives r fronts → Gives s fronts → Written fronts lists → Written fronts lists₂ → SameLists r s lists lists₂
 
   pub record Same (r s : A) (lists lists₂ buffers buffers₂ : List Lent) : Type 0 where
-    pub answer : Alike r s
+    pub answer : r ≡ s
     pub fronts : SameLists r s lists lists₂
     pub list-contents : AlikeAfter lists lists₂
     pub buffer-contents : AlikeAfter buffers buffers₂
@@ -86,8 +85,8 @@ written-alike [] (b ∷ bs) cs e k m = absurd k
 
 -- ---- the theorem
 
-module _ {A : Type 0} {Alike : A → A → Type 0} {Refuses : A → Type 0} {Gives : A → List (List ℕ) → Type 0} (fixed : Fixed Alike Refuses Gives) {r s : A} {lists lists₂ buffers buffers₂ : List Lent} where
-  outcome-once : SameLengths lists lists₂ → AlikeAfter buffers buffers₂ → Outcome Refuses Gives r lists → Outcome Refuses Gives s lists₂ → Same Alike Refuses Gives r s lists lists₂ buffers buffers₂
+module _ {A : Type 0} {Refuses : A → Type 0} {Gives : A → List (List ℕ) → Type 0} (fixed : Fixed Refuses Gives) {r s : A} {lists lists₂ buffers buffers₂ : List Lent} where
+  outcome-once : SameLengths lists lists₂ → AlikeAfter buffers buffers₂ → Outcome Refuses Gives r lists → Outcome Refuses Gives s lists₂ → Same Refuses Gives r s lists lists₂ buffers buffers₂
   outcome-once e z (refuses x k) (refuses y m) = record { answer = fixed .one-refusal x y; fronts = both-kept k m; list-contents = kept-alike lists lists₂ e k m; buffer-contents = z }
   outcome-once e z (refuses x k) (gives gs y m) = absurd (fixed .not-both x y)
   outcome-once e z (gives fs x k) (refuses y m) = absurd (fixed .not-both y x)
@@ -97,17 +96,17 @@ module _ {A : Type 0} {Alike : A → A → Type 0} {Refuses : A → Type 0} {Giv
       record { answer = a; fronts = both-written fs x (subst (Gives s) (sym p) y) k w; list-contents = written-alike fs lists lists₂ e k w; buffer-contents = z }
 
   pub call-once : {one : A} → SameLengths lists lists₂ → SameLengths buffers buffers₂ → Call one Refuses Gives r lists buffers → Call one Refuses Gives s lists₂ buffers₂
-      → Same Alike Refuses Gives r s lists lists₂ buffers buffers₂
+      → Same Refuses Gives r s lists lists₂ buffers buffers₂
   call-once e f a b = go (long? (lists ++ buffers))
     where
       all : SameLengths (lists ++ buffers) (lists₂ ++ buffers₂)
       all = joined lists lists₂ buffers buffers₂ e f
 
-      go : Dec (LongEnough (lists ++ buffers)) → Same Alike Refuses Gives r s lists lists₂ buffers buffers₂
+      go : Dec (LongEnough (lists ++ buffers)) → Same Refuses Gives r s lists lists₂ buffers buffers₂
       go (yes l) = let m = moved (lists ++ buffers) (lists₂ ++ buffers₂) all l in outcome-once e (zero-alike buffers buffers₂ f (a .zero l) (b .zero m)) (a .outcome l) (b .outcome m)
       go (no n) =
           let (q, u) = a .refuses-1 n in
           let (p, v) = b .refuses-1 (λ m. n (moved (lists₂ ++ buffers₂) (lists ++ buffers) (back (lists ++ buffers) (lists₂ ++ buffers₂) all) m)) in
           let (k, x) = split lists buffers u in
           let (m, y) = split lists₂ buffers₂ v in
-          record { answer = fixed .equal (q ∙ sym p); fronts = both-kept k m; list-contents = kept-alike lists lists₂ e k m; buffer-contents = kept-alike buffers buffers₂ f x y }
+          record { answer = q ∙ sym p; fronts = both-kept k m; list-contents = kept-alike lists lists₂ e k m; buffer-contents = kept-alike buffers buffers₂ f x y }

@@ -10,8 +10,8 @@ use native.Mathlib.Omega.{arith}
 use Prim.Native.Nat.{ℕ, _≤_}
 use Rattle.access.proofs.Accepted.{WellFormed, well-formed}
 use Rattle.cases.proofs.Bounds.{is-term, not-large, not-many}
-use Rattle.cases.proofs.Run.{asked, isTerm, listed, ofPack, onPack, onQuery, onTerm, onlyIf, orElse, run, shortLists, smallCore, withGraph}
-use Rattle.cases.specs.Says.{Call, Outcome, Says, answer, ask, ask-gives, ask-refused, build, build-gives, build-refused, check, graph, is-fine, is-refused, read, read-gives, read-refused, refused, spell, spelled}
+use Rattle.cases.proofs.Run.{asked, graphOf, isTerm, listed, ofPack, onPack, onQuery, onTerm, onlyIf, refusesAs, run, shortLists, shownClash, smallCore, unless, unlessClash, withGraph}
+use Rattle.cases.specs.Says.{Call, Outcome, Says, answer, ask, ask-gives, ask-refused, build, build-gives, build-refused, check, graph, is-fine, is-refused, read, read-gives, read-refused, refused, refuses, spell, spelled}
 use Rattle.construct.proofs.Accepted.{accepted-formed, none-obey, some-obeys}
 use Rattle.construct.specs.Outcome.{Gives, Refuses, counted, mixed-kinds, not-accepted, refusedAs, two-objects}
 use Rattle.construct.specs.declared.Constructed.{Constructed}
@@ -24,15 +24,16 @@ use Rattle.meaning.proofs.Computed.Certain.{graph-there, pairRecords, pairs-lis
 use Rattle.meaning.proofs.Computed.Evaluate.{answersYes}
 use Rattle.meaning.proofs.Lists.Members.{both}
 use Rattle.meaning.proofs.Lists.Ordered.{by-key, list-unique}
+use Rattle.meaning.proofs.Model.Clash.{Clash, Shown, Shows, first-shown, firstClash}
 use Rattle.meaning.proofs.Model.Listing.{graph-listed, node-record, nodeList, nodeList-ordered, nodeNumbers, nodeRecords, tripleRecords}
-use Rattle.meaning.proofs.Model.Refusals.{mixed-iff, mixedKinds?, two-iff, twoObjects?}
+use Rattle.meaning.proofs.Model.Refusals.{mixed-iff, mixedKinds?}
 use Rattle.meaning.proofs.Model.Resolved.{Resolved, resolved}
 use Rattle.meaning.specs.Built.{core}
 use Rattle.meaning.specs.Certain.{Distinct, PairList}
+use Rattle.meaning.specs.Clash.{ClashGiven}
 use Rattle.meaning.specs.Core.{Node}
 use Rattle.meaning.specs.Limits.{maxPairs}
-use Rattle.meaning.specs.Listing.{ClashGiven, nodeKey}
-use Rattle.meaning.specs.NoGraph.{TwoObjects}
+use Rattle.meaning.specs.Listing.{NodeRecord, nodeKey}
 use Rattle.meaning.specs.Pack.{Pack, Text}
 use Rattle.meaning.specs.Query.{Expr}
 use Rattle.pack.specs.Checked.{Checked, accepted, firstRefusal, wellFormed, refused as stopped}
@@ -54,10 +55,10 @@ Right s c none = Unit
 Right s c (some o) = Says s c o
 
 module _ (s : Text) (c : Call) where
-  on-pack : (x : Checked) (f : Pack → Option Outcome) → ((k : ℕ) → x ≡ stopped k → Says s c (refused k)) → ((P : Pack) → x ≡ accepted P → Right s c (f P))
-      → Right s c (onPack x f)
-  on-pack (stopped k) f a b = a k refl
-  on-pack (accepted P) f a b = b P refl
+  on-pack : (refusal : ℕ → Outcome) (x : Checked) (f : Pack → Option Outcome) → ((k : ℕ) → x ≡ stopped k → Says s c (refusal k)) → ((P : Pack) → x ≡ accepted P → Right s c (f P))
+      → Right s c (onPack refusal x f)
+  on-pack refusal (stopped k) f a b = a k refl
+  on-pack refusal (accepted P) f a b = b P refl
 
   of-pack : (x : Checked) (f : Pack → Option Outcome) → ((P : Pack) → x ≡ accepted P → Right s c (f P)) → Right s c (ofPack x f)
   of-pack (stopped k) f b = tt
@@ -67,9 +68,13 @@ module _ (s : Text) (c : Call) where
   only-if true o f = f tt
   only-if false o f = tt
 
-  or-else : (t : Bool) (k : ℕ) (o : Option Outcome) → (T t → Says s c (refused k)) → (t ≡ false → Right s c o) → Right s c (orElse t k o)
-  or-else true k o a b = a tt
-  or-else false k o a b = b refl
+  on-clash : (P : Pack) (x : Option Clash) (o : Option Outcome) → ((d : Clash) → x ≡ some d → Says s c (refuses (shownClash P d))) → (x ≡ none → Right s c o) → Right s c (unlessClash P x o)
+  on-clash P none o a b = b refl
+  on-clash P (some d) o a b = a d refl
+
+  on-test : (t : Bool) (k : ℕ) (o : Option Outcome) → (T t → Says s c (refusesAs k)) → (t ≡ false → Right s c o) → Right s c (unless t k o)
+  on-test true k o a b = a tt
+  on-test false k o a b = b refl
 
 -- ---- an accepted pack whose core is small
 
@@ -84,30 +89,36 @@ module _ (s : Text) (P : Pack) (is : firstRefusal s ≡ accepted P) where
   distinct = plain-distinct P (formed .distinct) (formed .prefixFree) (formed .named)
 
   module _ (small : T (smallCore P)) where
-    -- 10, with the clash by the core's own records
-    ten : T (twoObjects? P) → (r : Constructed) × Refuses s r × (r .refusal ≡ 10)
-    ten t = (_, two-objects P is (not-large P wf small) (none-obey formed (inl c)) _ _ _ _ given refl, refl)
+    ten : (d : Clash) → firstClash P ≡ some d → Refuses s (shownClash P d)
+    ten d e = two-objects P is (not-large P wf small) (none-obey formed (inl (x .clash))) _ _ _ _ given refl
       where
-        c : TwoObjects P
-        c = two-iff P wf .0 t
+        x : Shown P d
+        x = subst (Shows P) e (first-shown P wf)
 
-        numbers : Node → List ℕ
-        numbers n = nodeNumbers P (core n)
+        recorded : {n m : Node} → n ≡ m → NodeRecord P (core n) (nodeNumbers P (core m))
+        recorded {n} {m} q = subst (λ k. NodeRecord P (core k) (nodeNumbers P (core m))) (sym q) (node-record P wf (core m))
 
-        given : ClashGiven P (numbers (c .subject)) (c .predicate) (numbers (c .first)) (numbers (c .second))
-        given = record { clash = c; subject-is = node-record P wf _; predicate-is = refl; first-is = node-record P wf _; second-is = node-record P wf _ }
+        given : ClashGiven P (nodeNumbers P (core (d .subject))) (d .predicate) (nodeNumbers P (core (d .first))) (nodeNumbers P (core (d .second)))
+        given = record {
+          clash = x .clash;
+          is-first = x .is-first;
+          subject-is = recorded (x .subject-is);
+          predicate-is = sym (x .predicate-is);
+          first-is = recorded (x .first-is);
+          second-is = recorded (x .second-is);
+        }
 
-    eleven : twoObjects? P ≡ false → T (mixedKinds? P) → (r : Constructed) × Refuses s r × (r .refusal ≡ 11)
+    eleven : firstClash P ≡ none → T (mixedKinds? P) → Refuses s (refusedAs 11)
     eleven not-10 t =
         let m = mixed-iff P wf .0 t in
-        (_, mixed-kinds P is (not-large P wf small) (none-obey formed (inr m)) (λ c. subst T not-10 (two-iff P wf .1 c)) m refl, refl)
+        mixed-kinds P is (not-large P wf small) (none-obey formed (inr m)) (subst (Shows P) not-10 (first-shown P wf)) m refl
 
 -- ---- a pack that passes every test before its graph is given
 
 record Passes (s : Text) (P : Pack) : Type 0 where
   is : firstRefusal s ≡ accepted P
   small : T (smallCore P)
-  not-10 : twoObjects? P ≡ false
+  not-10 : firstClash P ≡ none
   not-11 : mixedKinds? P ≡ false
   few-nodes : length (nodeRecords P) ≤ maxNodes
   few-triples : length (tripleRecords P) ≤ maxTriples
@@ -173,18 +184,15 @@ module _ (s : Text) (P : Pack) (x : Passes s P) where
 -- ---- the tests before a graph is given, for any call that gives one
 
 abbrev Refused : Text → Call → Type 0
-Refused s c = (r : Constructed) → Refuses s r → Says s c (refused (r .refusal))
+Refused s c = (r : Constructed) → Refuses s r → Says s c (refuses r)
 
 module _ (s : Text) (c : Call) (says : Refused s c) where
-  says-as : {k : ℕ} → (r : Constructed) × Refuses s r × (r .refusal ≡ k) → Says s c (refused k)
-  says-as (r, x, e) = subst (λ k. Says s c (refused k)) e (says r x)
-
-  with-graph : (f : Pack → Option Outcome) → ((P : Pack) → Passes s P → Right s c (f P)) → Right s c (onPack (firstRefusal s) (withGraph f))
+  with-graph : (f : Pack → Option Outcome) → ((P : Pack) → Passes s P → Right s c (f P)) → Right s c (graphOf s f)
   with-graph f gives =
-      on-pack s c (firstRefusal s) (withGraph f) (λ k e. says (refusedAs k) (not-accepted k e refl)) λ P is.
+      on-pack s c refusesAs (firstRefusal s) (withGraph f) (λ k e. says (refusedAs k) (not-accepted k e refl)) λ P is.
       only-if s c (smallCore P) _ λ small.
-      or-else s c (twoObjects? P) 10 _ (λ t. says-as (ten s P is small t)) λ not-10.
-      or-else s c (mixedKinds? P) 11 _ (λ t. says-as (eleven s P is small not-10 t)) λ not-11.
+      on-clash s c P (firstClash P) _ (λ d e. says (shownClash P d) (ten s P is small d e)) λ not-10.
+      on-test s c (mixedKinds? P) 11 _ (λ t. says (refusedAs 11) (eleven s P is small not-10 t)) λ not-11.
       only-if s c (shortLists (nodeRecords P) (tripleRecords P)) _ λ short.
       let b = both (leb (length (nodeRecords P)) maxNodes) (leb (length (tripleRecords P)) maxTriples) .0 short in
       gives P (record { is = is; small = small; not-10 = not-10; not-11 = not-11; few-nodes = leb→le _ _ (b .0); few-triples = leb→le _ _ (b .1) })
@@ -192,12 +200,12 @@ module _ (s : Text) (c : Call) (says : Refused s c) where
 -- ---- the calls
 
 build-right : (s : Text) → Right s build (run build s)
-build-right s = with-graph s build (λ r x. build-refused x refl) listed λ P x. build-gives (the-graph s P x) refl refl
+build-right s = with-graph s build (λ r x. build-refused x) listed λ P x. build-gives (the-graph s P x) refl refl
 
 ask-right : (q s : Text) → Right s (ask q) (run (ask q) s)
 ask-right q s = go (expressionOf q) refl
   where
-    both-refuse : (r : Constructed) → Prepared.Refuses s q r → Says s (ask q) (refused (r .refusal))
+    both-refuse : (r : Constructed) → Prepared.Refuses s q r → Says s (ask q) (refuses r)
     both-refuse r x =
         ask-refused {y = record { graph = r; yes = false }} {p = record { graph = r; pairs = 0 }}
         (record { cause = x; says-no = refl }) refl (Pairs.before-12 x refl) refl
@@ -205,7 +213,7 @@ ask-right q s = go (expressionOf q) refl
     no-expression : expressionOf q ≡ none → Refusal2 q
     no-expression n e x = let p = reading q e .0 x in let z : _≡_ {A = ℕ} 0 1 = cc in omega arith
 
-    go : (o : Option Expr) → expressionOf q ≡ o → Right s (ask q) (onQuery o (λ e. onPack (firstRefusal s) (withGraph (asked e))))
+    go : (o : Option Expr) → expressionOf q ≡ o → Right s (ask q) (onQuery o (λ e. graphOf s (asked e)))
     go none n = both-refuse (refusedAs 2) (Prepared.no-query (no-expression n) refl)
     go (some e) h =
         with-graph s (ask q) refuses (asked e) λ P x.
@@ -219,7 +227,7 @@ ask-right q s = go (expressionOf q) refl
 
 read-right : (t s : Text) → Right s (read t) (run (read t) s)
 unfolding iriRead
-read-right t s = on-pack s (read t) (wellFormed s) _ (λ k e. read-refused (not-well-formed k e refl)) λ P w. go P w (readBack P t) refl
+read-right t s = on-pack s (read t) refused (wellFormed s) _ (λ k e. read-refused (not-well-formed k e refl)) λ P w. go P w (readBack P t) refl
   where
     go : (P : Pack) → wellFormed s ≡ accepted P → (o : Option (ℕ × List ℕ)) → readBack P t ≡ o → Right s (read t) (onTerm o)
     go P w none e = read-refused (found-answer s t P w (iriRead none) _ (ap iriRead (sym e)) refl)
@@ -227,7 +235,7 @@ read-right t s = on-pack s (read t) (wellFormed s) _ (λ k e. read-refused (not-
 
 -- Every outcome that is computed is so.
 run-right : (c : Call) (s : Text) → Right s c (run c s)
-run-right check s = on-pack s check (firstRefusal s) _ (λ k e. is-refused e) λ P e. is-fine e
+run-right check s = on-pack s check refused (firstRefusal s) _ (λ k e. is-refused e) λ P e. is-fine e
 run-right build s = build-right s
 run-right (ask q) s = ask-right q s
 run-right (read t) s = read-right t s

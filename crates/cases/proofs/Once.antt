@@ -4,7 +4,7 @@ use mathlib.Core.Path.{_≡_, refl, sym, ap, _∙_}
 use native.Mathlib.Omega.{arith}
 use Prim.Native.Nat.{ℕ}
 use Rattle.access.proofs.Accepted.{well-formed, zero-accepted}
-use Rattle.cases.specs.Says.{Call, Outcome, Says, answer, ask-gives, ask-refused, build-gives, build-refused, graph, iri, is-fine, is-refused, read-gives, read-refused, refused, spelled, term}
+use Rattle.cases.specs.Says.{Call, Outcome, Says, answer, ask-gives, ask-refused, build-gives, build-refused, graph, iri, is-fine, is-refused, read-gives, read-refused, refused, refuses, spelled, term}
 use Rattle.construct.proofs.Once.{not-given, one-records, one-refusal}
 use Rattle.meaning.proofs.Lists.Places.{inside}
 use Rattle.meaning.specs.Limits.{unused}
@@ -17,6 +17,7 @@ use Rattle.readback.specs.Answer.{Answers, iri as reads, no-iri, not-well-forme
 use Rattle.readback.specs.declared.ReadBack.{ReadBack}
 use Rattle.spelling.specs.Iri.{iriOf}
 use Rattle.yes_no.proofs.Once as yes_no
+use Rattle.yes_no.specs.declared.YesNo.{YesNo}
 
 -- ---- read-back: a refusal's number is not 0
 
@@ -42,19 +43,19 @@ says-once (is-refused e) (is-refused f) = ap refused (one-number e f)
 says-once (is-refused e) (is-fine f) = not-both e f
 says-once (is-fine e) (is-refused f) = not-both f e
 says-once (is-fine e) (is-fine f) = refl
-says-once (build-refused x e) (build-refused y f) = ap refused (sym e ∙ one-refusal x y .refusal-number ∙ f)
-says-once (build-refused x e) (build-gives G n t) = absurd (not-given x G)
-says-once (build-gives G n t) (build-refused y f) = absurd (not-given y G)
+says-once (build-refused x) (build-refused y) = ap refuses (one-refusal x y)
+says-once (build-refused x) (build-gives G n t) = absurd (not-given x G)
+says-once (build-gives G n t) (build-refused y) = absurd (not-given y G)
 says-once (build-gives G n t) (build-gives H m u) =
     let l = one-records G H in
     let ns = sym n ∙ l .0 ∙ m in
     let ts = sym t ∙ l .1 ∙ u in
     λ i. graph (ns i) (ts i)
-says-once (ask-refused {q} x e z d) (ask-refused y f w c) = ap refused (sym e ∙ yes_no.fixed _ q .one-refusal x y .graph .refusal-number ∙ f)
+says-once (ask-refused {q} x e z d) (ask-refused y f w c) = ap refuses (sym e ∙ ap (λ (a : YesNo). a .graph) (yes_no.fixed _ q .one-refusal x y) ∙ f)
 says-once (ask-refused {q} x e z d) (ask-gives Y f H u) = absurd (yes_no.fixed _ q .not-both x Y)
 says-once (ask-gives {q} X e G t) (ask-refused y f w c) = absurd (yes_no.fixed _ q .not-both y X)
 says-once (ask-gives {q} X e G t) (ask-gives Y f H u) =
-    let b = sym e ∙ yes_no.fixed _ q .one-result X Y .0 .yes-or-no ∙ f in
+    let b = sym e ∙ ap (λ (a : YesNo). a .yes) (yes_no.fixed _ q .one-result X Y .0) ∙ f in
     let ps = sym t ∙ one-list G H ∙ u in
     λ i. answer (b i) (ps i)
 says-once (read-refused x) (read-refused y) = ap (λ (r : ReadBack). refused (r .refusal)) (answers-once x y)

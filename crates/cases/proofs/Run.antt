@@ -6,16 +6,20 @@ use mathlib.Core.Bool.{Bool, true, false, _&&_}
 use mathlib.Core.List.{List}
 use mathlib.Core.Option.{Option, none, some}
 use Prim.Native.Nat.{ℕ}
-use Rattle.cases.specs.Says.{Call, Outcome, answer, ask, build, check, fine, graph, iri, read, refused, spell, term}
+use Rattle.cases.specs.Says.{Call, Outcome, answer, ask, build, check, fine, graph, iri, read, refused, refuses, spell, term}
+use Rattle.construct.specs.Outcome.{clashing, refusedAs}
+use Rattle.construct.specs.declared.Constructed.{Constructed}
 use Rattle.grammar.specs.Parse.{expressionOf}
 use Rattle.graph.specs.NodeList.{maxNodes}
 use Rattle.graph.specs.Triples.{maxTriples}
 use Rattle.meaning.proofs.Computed.Certain.{pairRecords, walkBuilt}
 use Rattle.meaning.proofs.Computed.Evaluate.{answersYes}
+use Rattle.meaning.proofs.Model.Clash.{Clash, firstClash}
 use Rattle.meaning.proofs.Model.Core.{coreNodes}
 use Rattle.meaning.proofs.Model.Facts.{facts}
-use Rattle.meaning.proofs.Model.Listing.{nodeRecords, tripleRecords}
-use Rattle.meaning.proofs.Model.Refusals.{mixedKinds?, twoObjects?}
+use Rattle.meaning.proofs.Model.Listing.{nodeNumbers, nodeRecords, tripleRecords}
+use Rattle.meaning.proofs.Model.Refusals.{mixedKinds?}
+use Rattle.meaning.specs.Built.{core}
 use Rattle.meaning.specs.Limits.{maxCoreTriples, maxIris, maxPairs}
 use Rattle.meaning.specs.Pack.{Constructor, Pack, Text}
 use Rattle.meaning.specs.Query.{Expr}
@@ -40,9 +44,9 @@ isTerm P c values = thereAnd (λ (k : Constructor). eqb (length values) (k .arit
 
 -- ---- one test after another
 
-abbrev pub onPack : Checked → (Pack → Option Outcome) → Option Outcome
-onPack (stopped k) f = some (refused k)
-onPack (accepted P) f = f P
+abbrev pub onPack : (ℕ → Outcome) → Checked → (Pack → Option Outcome) → Option Outcome
+onPack refusal (stopped k) f = some (refusal k)
+onPack refusal (accepted P) f = f P
 
 abbrev pub ofPack : Checked → (Pack → Option Outcome) → Option Outcome
 ofPack (stopped k) f = none
@@ -52,17 +56,32 @@ abbrev pub onlyIf : Bool → Option Outcome → Option Outcome
 onlyIf true o = o
 onlyIf false o = none
 
-abbrev pub orElse : Bool → ℕ → Option Outcome → Option Outcome
-orElse true k o = some (refused k)
-orElse false k o = o
+abbrev pub refusesAs : ℕ → Outcome
+refusesAs k = refuses (refusedAs k)
+
+-- 10 with the clash by the core's own records
+abbrev pub shownClash : Pack → Clash → Constructed
+shownClash P c = clashing (nodeNumbers P (core (c .subject))) (c .predicate) (nodeNumbers P (core (c .first))) (nodeNumbers P (core (c .second)))
+
+abbrev pub unlessClash : Pack → Option Clash → Option Outcome → Option Outcome
+unlessClash P none o = o
+unlessClash P (some c) o = some (refuses (shownClash P c))
+
+abbrev pub unless : Bool → ℕ → Option Outcome → Option Outcome
+unless true k o = some (refusesAs k)
+unless false k o = o
 
 -- 10 and 11, then what the call gives
 abbrev pub withGraph : (Pack → Option Outcome) → Pack → Option Outcome
 withGraph f P =
     onlyIf (smallCore P)
-    (orElse (twoObjects? P) 10
-    (orElse (mixedKinds? P) 11
+    (unlessClash P (firstClash P)
+    (unless (mixedKinds? P) 11
     (onlyIf (shortLists (nodeRecords P) (tripleRecords P)) (f P))))
+
+-- 3 to 8 before it
+abbrev pub graphOf : Text → (Pack → Option Outcome) → Option Outcome
+graphOf s f = onPack refusesAs (firstRefusal s) (withGraph f)
 
 abbrev pub listed : Pack → Option Outcome
 listed P = some (graph (nodeRecords P) (tripleRecords P))
@@ -73,7 +92,7 @@ asked e P =
     (some (answer (answersYes (walkBuilt (plain P) (plain? P) P) e) (pairRecords (plain P) (plain? P) P e)))
 
 abbrev pub onQuery : Option Expr → (Expr → Option Outcome) → Option Outcome
-onQuery none f = some (refused 2)
+onQuery none f = some (refusesAs 2)
 onQuery (some e) f = f e
 
 abbrev pub onTerm : Option (ℕ × List ℕ) → Option Outcome
@@ -83,8 +102,8 @@ onTerm (some t) = some (term (numbers (t .0) (t .1)))
 -- ---- the calls
 
 abbrev pub run : Call → Text → Option Outcome
-run check s = onPack (firstRefusal s) (λ P. some fine)
-run build s = onPack (firstRefusal s) (withGraph listed)
-run (ask q) s = onQuery (expressionOf q) (λ e. onPack (firstRefusal s) (withGraph (asked e)))
-run (read t) s = onPack (wellFormed s) (λ P. onTerm (readBack P t))
+run check s = onPack refused (firstRefusal s) (λ P. some fine)
+run build s = graphOf s listed
+run (ask q) s = onQuery (expressionOf q) (λ e. graphOf s (asked e))
+run (read t) s = onPack refused (wellFormed s) (λ P. onTerm (readBack P t))
 run (spell c values) s = ofPack (wellFormed s) (λ P. onlyIf (isTerm P c values) (some (iri (iriOf P c values))))

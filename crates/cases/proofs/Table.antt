@@ -9,13 +9,15 @@ use Prim.Native.String.{String}
 use Rattle.cases.proofs.Computed.{run-says}
 use Rattle.cases.proofs.Encode.{encode}
 use Rattle.cases.proofs.Run.{isTerm, run, smallCore}
-use Rattle.cases.specs.Says.{Call, Outcome, Says, answer, ask, build, check, fine, graph, iri, read, refused, spell, term}
+use Rattle.cases.specs.Says.{Call, Outcome, Says, answer, ask, build, check, fine, graph, iri, read, refused, refuses, spell, term}
+use Rattle.construct.specs.Outcome.{clashing, refusedAs}
 use Rattle.grammar.specs.Grammar.{stars}
 use Rattle.grammar.specs.Parse.{run as readRun, joined as joinedParts, parts, withStars, closed, label, name, leaf, atomOf as readAtom, stepBy, sequenceBy, unionBy, atomAt, parse, whole, expressionOf}
 use Rattle.meaning.proofs.Computed.Certain.{walkBuilt, pairRecords}
 use Rattle.meaning.proofs.Computed.Evaluate.{answersYes}
-use Rattle.meaning.proofs.Model.Listing.{nodeRecords, tripleRecords}
-use Rattle.meaning.proofs.Model.Refusals.{twoObjects?, mixedKinds?}
+use Rattle.meaning.proofs.Model.Clash.{firstClash}
+use Rattle.meaning.proofs.Model.Listing.{nodeNumbers, nodeRecords, tripleRecords}
+use Rattle.meaning.proofs.Model.Refusals.{mixedKinds?}
 use Rattle.meaning.proofs.Sample.Packs.{shapeRecord, constructorOf, atomOf, termOf, rowOf, ruleOf, sampleValues, firstDecidesSecond, sampleTypes, sampleShapes, sampleConstructors, sampleRules, romanRow, sampleWith, withRows, withRules, sample, rowTwice, twoNames, nameIsIri, secondType}
 use Rattle.meaning.specs.Ascii.{ascii}
 use Rattle.meaning.specs.Limits.{unused}
@@ -99,12 +101,12 @@ cases =
     of sample (query "<sty:r1>/name/\"Roman\"") (answer true ((0 ∷ 1 ∷ []) ∷ [])) ∷
     of sample (query "nosuch*") (answer true ((0 ∷ 0 ∷ []) ∷ (1 ∷ 1 ∷ []) ∷ [])) ∷
     -- P: "adding Style(r1,g) is 8; without the dependency, 10."
-    of (twoNames firstDecidesSecond) build (refused 8) ∷
-    of (twoNames []) build (refused 10) ∷
+    of (twoNames firstDecidesSecond) build (refuses (refusedAs 8)) ∷
+    of (twoNames []) build (refuses (clashing (0 ∷ 0 ∷ 1 ∷ 0 ∷ unused ∷ unused ∷ unused ∷ []) 0 (plainNode 1 1 0) (plainNode 1 2 0))) ∷
     -- P: "a rule giving sty(s) name fam(s) in place of n: 11."
-    of nameIsIri build (refused 11) ∷
+    of nameIsIri build (refuses (refusedAs 11)) ∷
     -- P: "a second type on sty(s) whose shape for family is Literal 3: 11."
-    of secondType build (refused 11) ∷
+    of secondType build (refuses (refusedAs 11)) ∷
     -- P: "value a/b under "sty:" is sty:a%2Fb; the empty value, sty:.": spelled, and read back
     of special (spell 0 (0 ∷ [])) (iri (ascii "sty:a%2Fb")) ∷
     of special (spell 0 (1 ∷ [])) (iri (ascii "sty:")) ∷
@@ -121,8 +123,8 @@ cases =
     case [] (text "fam:g") (refused 3) ∷
     -- P: "`name**` is read; `name|` is 2."
     of sample (query "name**") (answer true ((0 ∷ 0 ∷ []) ∷ (0 ∷ 1 ∷ []) ∷ (1 ∷ 1 ∷ []) ∷ [])) ∷
-    of sample (query "name|") (refused 2) ∷
-    case [] (query "name|") (refused 2) ∷
+    of sample (query "name|") (refuses (refusedAs 2)) ∷
+    case [] (query "name|") (refuses (refusedAs 2)) ∷
     -- 3: too short, a byte left out, a byte too many, a length that is one too large, lengths whose sum is right modulo 2 ^ 32
     case [] check (refused 3) ∷
     case (replicate 35 0) check (refused 3) ∷
@@ -171,7 +173,7 @@ cases =
 -- ---- the theorem
 
 computed : map (λ (c : Case). run (c .call) (c .pack)) cases ≡ map (λ (c : Case). some (c .outcome)) cases
-unfolding checking encode smallCore isTerm twoObjects? mixedKinds? nodeRecords tripleRecords shapeOf walkBuilt answersYes pairRecords plain? spellingBy iriBy slashed joined unreserved hexDigit spelledByte segment split findBy findAllBy argumentsBy readFromBy readBackBy expressionOf whole parse unionBy sequenceBy stepBy atomAt readAtom leaf name label closed withStars parts joinedParts readRun stars
+unfolding checking encode smallCore isTerm firstClash nodeNumbers mixedKinds? nodeRecords tripleRecords shapeOf walkBuilt answersYes pairRecords plain? spellingBy iriBy slashed joined unreserved hexDigit spelledByte segment split findBy findAllBy argumentsBy readFromBy readBackBy expressionOf whole parse unionBy sequenceBy stepBy atomAt readAtom leaf name label closed withStars parts joinedParts readRun stars
 computed = refl
 
 -- Each case says what is so.

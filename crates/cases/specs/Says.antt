@@ -25,6 +25,7 @@ pub data Call : Type 0 where
 
 pub data Outcome : Type 0 where
   refused : ℕ → Outcome
+  refuses : Constructed → Outcome  -- all that a refusal answers, the clash of 10 too
   fine : Outcome  -- none of 3 to 8
   graph : List (List ℕ) → List (List ℕ) → Outcome  -- its node records and its triple records
   answer : Bool → List (List ℕ) → Outcome  -- yes or no, and the pair records
@@ -35,14 +36,14 @@ pub data Says (pack : Text) : Call → Outcome → Type 0 where
   -- "Refused, in checking order": the first of 3 to 8, or none
   is-refused : {k : ℕ} → firstRefusal pack ≡ Checked.refused k → Says pack check (refused k)
   is-fine : {P : Pack} → firstRefusal pack ≡ accepted P → Says pack check fine
-  -- "A refusal gives its number": the first of 3 to 11, 10 with a clash
-  build-refused : {r : Constructed} {k : ℕ} → Graph.Refuses pack r → r .refusal ≡ k → Says pack build (refused k)
+  -- "A refusal gives its number": the first of 3 to 11, 10 with the first clash
+  build-refused : {r : Constructed} → Graph.Refuses pack r → Says pack build (refuses r)
   -- "Build turns a pack into a graph": these are its records, and their numbers stand in the two lists
   build-gives : {r : Constructed} {nodes triples : List (List ℕ)} → (G : Graph.Gives pack r (flatten nodes ∷ flatten triples ∷ []))
       → G .has .graph .node-records ≡ nodes → G .has .graph .triple-records ≡ triples → Says pack build (graph nodes triples)
-  -- "yes/no adds 2, pairs adds 12": both refuse, with one number
-  ask-refused : {q : Text} {y : answers.YesNo} {p : PairAnswer} {k : ℕ} → YesNo.Refuses pack q y → y .graph .refusal ≡ k
-      → Pairs.Refuses pack q p → p .graph .refusal ≡ k → Says pack (ask q) (refused k)
+  -- "yes/no adds 2, pairs adds 12": both refuse, alike
+  ask-refused : {q : Text} {y : answers.YesNo} {p : PairAnswer} {r : Constructed} → YesNo.Refuses pack q y → y .graph ≡ r
+      → Pairs.Refuses pack q p → p .graph ≡ r → Says pack (ask q) (refuses r)
   -- "Yes means that some two nodes are joined", certainly; "Pairs lists named ones only, ascending": the certain ones
   ask-gives : {q : Text} {y : answers.YesNo} {p : PairAnswer} {fronts lists : List (List ℕ)} {b : Bool} {pairs : List (List ℕ)} → YesNo.Gives pack q y fronts → y .yes ≡ b
       → (G : Pairs.Gives pack q p lists) → G .records ≡ pairs → Says pack (ask q) (answer b pairs)

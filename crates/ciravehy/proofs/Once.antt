@@ -1,7 +1,5 @@
--- What the exported calls say and leave is fixed by the bytes and the lengths of what they are lent, but for the clash that 10
--- shows: for each, its result, its report, and what the open call's own theorem says of the lists and buffers. Assumes
--- nothing.
-use lib.ListN.{take}
+-- What the exported calls say and leave is fixed by the bytes and the lengths of what they are lent: for each, its result, its
+-- report, and what the open call's own theorem says of the lists and buffers. Assumes nothing.
 use mathlib.Core.List.{List, _∷_}
 use mathlib.Core.Path.{_≡_, refl, sym, ap, _∙_}
 use Prim.Native.Nat.{ℕ}
@@ -10,33 +8,28 @@ use Rattle.build.specs.Answer as Build
 use Rattle.calls.proofs.Once.{Same, SameLengths}
 use Rattle.calls.specs.Call.{Contents}
 use Rattle.ciravehy.specs.Exported.{Builds, Decides, Finds, Reads}
-use Rattle.construct.proofs.Once.{Alike}
 use Rattle.construct.specs.Outcome as Graph
 use Rattle.construct.specs.declared.Constructed.{Constructed}
 use Rattle.graph.specs.Fronts.{graphLists}
 use Rattle.meaning.specs.Pack.{Text}
 use Rattle.pairs.proofs.Once as pairs
 use Rattle.pairs.specs.Answer as Pairs
+use Rattle.pairs.specs.declared.PairAnswer.{PairAnswer}
 use Rattle.readback.proofs.Once as readback
 use Rattle.report.specs.Report.{number, reported}
 use Rattle.yes_no.proofs.Once as yes-no
 use Rattle.yes_no.specs.Answer as YesOrNo
+use Rattle.yes_no.specs.declared.YesNo.{YesNo}
 
 -- ---- results and reports
 
--- One result and one report; where 10 is the result, all but the clash.
-pub record SameReport (result result₂ : ℕ) (report report₂ : List ℕ) : Type 0 where
-  pub one-result : result ≡ result₂
-  pub counts : take 3 report ≡ take 3 report₂
-  pub but-for-10 : (result ≡ 10 → ⊥) → report ≡ report₂
+-- One result and one report.
+abbrev pub SameReport : ℕ → ℕ → List ℕ → List ℕ → Type 0
+SameReport result result₂ report report₂ = (result ≡ result₂) × (report ≡ report₂)
 
-same-report : {g h : Constructed} {n m result result₂ : ℕ} {report report₂ : List ℕ} → Alike g h → n ≡ m → result ≡ g .refusal → result₂ ≡ h .refusal
+same-report : {g h : Constructed} {n m result result₂ : ℕ} {report report₂ : List ℕ} → g ≡ h → n ≡ m → result ≡ g .refusal → result₂ ≡ h .refusal
     → report ≡ reported (g .nodes) (g .triples) n (g .clash) → report₂ ≡ reported (h .nodes) (h .triples) m (h .clash) → SameReport result result₂ report report₂
-same-report {g} {h} a e q p u v = record {
-  one-result = q ∙ a .refusal-number ∙ sym p;
-  counts = ap (take 3) u ∙ (λ i. take 3 (reported (a .node-count i) (a .triple-count i) (e i) (g .clash))) ∙ sym (ap (take 3) v);
-  but-for-10 = λ n. let z = a .but-for-10 (λ k. n (q ∙ k)) in u ∙ (λ i. reported (z i .nodes) (z i .triples) (e i) (z i .clash)) ∙ sym v;
-}
+same-report e d q p u v = (q ∙ ap (λ (x : Constructed). x .refusal) e ∙ sym p, u ∙ (λ i. reported (e i .nodes) (e i .triples) (d i) (e i .clash)) ∙ sym v)
 
 -- ---- the calls
 
@@ -44,7 +37,7 @@ module _ (pack : Text) (nodes nodes₂ triples triples₂ rows rows₂ heads hea
   pub builds-once : SameLengths (graphLists nodes triples) (graphLists nodes₂ triples₂) → SameLengths (Build.buffers rows heads) (Build.buffers rows₂ heads₂)
       → (x : Builds pack result nodes triples rows heads report) (y : Builds pack result₂ nodes₂ triples₂ rows₂ heads₂ report₂)
       → SameReport result result₂ report report₂
-      × Same Alike (Graph.Refuses pack) (Graph.Gives pack) (x .answer) (y .answer) (graphLists nodes triples) (graphLists nodes₂ triples₂) (Build.buffers rows heads) (Build.buffers rows₂ heads₂)
+      × Same (Graph.Refuses pack) (Graph.Gives pack) (x .answer) (y .answer) (graphLists nodes triples) (graphLists nodes₂ triples₂) (Build.buffers rows heads) (Build.buffers rows₂ heads₂)
   builds-once e f x y =
       let s = build.answers-once pack (x .answer) (y .answer) nodes nodes₂ triples triples₂ rows rows₂ heads heads₂ e f (x .answers) (y .answers) in
       (same-report (s .answer) refl (x .refusal) (y .refusal) (x .report) (y .report), s)
@@ -53,20 +46,20 @@ module _ (pack query : Text) (nodes nodes₂ triples triples₂ rows rows₂ hea
   pub decides-once : SameLengths (graphLists nodes triples) (graphLists nodes₂ triples₂) → SameLengths (YesOrNo.buffers rows heads alive queue) (YesOrNo.buffers rows₂ heads₂ alive₂ queue₂)
       → (x : Decides pack query result nodes triples rows heads alive queue report) (y : Decides pack query result₂ nodes₂ triples₂ rows₂ heads₂ alive₂ queue₂ report₂)
       → SameReport result result₂ report report₂
-      × Same yes-no.Alike (YesOrNo.Refuses pack query) (YesOrNo.Gives pack query) (x .answer) (y .answer) (graphLists nodes triples) (graphLists nodes₂ triples₂) (YesOrNo.buffers rows heads alive queue) (YesOrNo.buffers rows₂ heads₂ alive₂ queue₂)
+      × Same (YesOrNo.Refuses pack query) (YesOrNo.Gives pack query) (x .answer) (y .answer) (graphLists nodes triples) (graphLists nodes₂ triples₂) (YesOrNo.buffers rows heads alive queue) (YesOrNo.buffers rows₂ heads₂ alive₂ queue₂)
   decides-once e f x y =
       let s = yes-no.answers-once pack query (x .answer) (y .answer) nodes nodes₂ triples triples₂ rows rows₂ heads heads₂ alive alive₂ queue queue₂ e f (x .answers) (y .answers) in
-      (same-report (s .answer .graph) (ap number (s .answer .yes-or-no)) (x .refusal) (y .refusal) (x .report) (y .report), s)
+      (same-report (ap (λ (a : YesNo). a .graph) (s .answer)) (ap (λ (a : YesNo). number (a .yes)) (s .answer)) (x .refusal) (y .refusal) (x .report) (y .report), s)
 
 module _ (pack query : Text) (nodes nodes₂ triples triples₂ list list₂ rows rows₂ heads heads₂ alive alive₂ queue queue₂ seen seen₂ : Contents) {result result₂ : ℕ} {report report₂ : List ℕ} where
   pub finds-once : SameLengths (Pairs.lists nodes triples list) (Pairs.lists nodes₂ triples₂ list₂)
       → SameLengths (Pairs.buffers rows heads alive queue seen) (Pairs.buffers rows₂ heads₂ alive₂ queue₂ seen₂)
       → (x : Finds pack query result nodes triples list rows heads alive queue seen report) (y : Finds pack query result₂ nodes₂ triples₂ list₂ rows₂ heads₂ alive₂ queue₂ seen₂ report₂)
       → SameReport result result₂ report report₂
-      × Same pairs.Alike (Pairs.Refuses pack query) (Pairs.Gives pack query) (x .answer) (y .answer) (Pairs.lists nodes triples list) (Pairs.lists nodes₂ triples₂ list₂) (Pairs.buffers rows heads alive queue seen) (Pairs.buffers rows₂ heads₂ alive₂ queue₂ seen₂)
+      × Same (Pairs.Refuses pack query) (Pairs.Gives pack query) (x .answer) (y .answer) (Pairs.lists nodes triples list) (Pairs.lists nodes₂ triples₂ list₂) (Pairs.buffers rows heads alive queue seen) (Pairs.buffers rows₂ heads₂ alive₂ queue₂ seen₂)
   finds-once e f x y =
       let s = pairs.answers-once pack query (x .answer) (y .answer) nodes nodes₂ triples triples₂ list list₂ rows rows₂ heads heads₂ alive alive₂ queue queue₂ seen seen₂ e f (x .answers) (y .answers) in
-      (same-report (s .answer .graph) (s .answer .pair-count) (x .refusal) (y .refusal) (x .report) (y .report), s)
+      (same-report (ap (λ (a : PairAnswer). a .graph) (s .answer)) (ap (λ (a : PairAnswer). a .pairs) (s .answer)) (x .refusal) (y .refusal) (x .report) (y .report), s)
 
 pub reads-once : {pack text : Text} {result result₂ : ℕ} {report report₂ : List ℕ} → Reads pack text result report → Reads pack text result₂ report₂ → (result ≡ result₂) × (report ≡ report₂)
 reads-once x y =

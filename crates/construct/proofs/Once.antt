@@ -1,40 +1,21 @@
--- What a pack comes to is fixed by its bytes, but for the clash that 10 shows: two answers to one pack have one refusal
--- number and one pair of counts, are equal where it is not 10, and give the same records (`constructs-fixed`). Assumes
--- nothing.
+-- What a pack comes to is fixed by its bytes: two answers to one pack are equal and give the same records
+-- (`constructs-fixed`). Assumes nothing.
 use lib.ListN.{length}
 use mathlib.Core.List.{List, [], _∷_, flatten}
 use mathlib.Core.Path.{_≡_, sym, ap, subst, _∙_}
 use Prim.Native.Nat.{ℕ}
 use Rattle.calls.proofs.Once.{Fixed}
-use Rattle.construct.specs.Outcome.{Gives, NoneObeys, Refuses, SomeObeys, counted, mixed-kinds, not-accepted, refusedAs, too-large, two-objects}
+use Rattle.construct.specs.Outcome.{Gives, NoneObeys, Refuses, SomeObeys, clashing, counted, mixed-kinds, not-accepted, refusedAs, too-large, two-objects}
 use Rattle.construct.specs.declared.Constructed.{Constructed}
 use Rattle.graph.specs.Fronts.{GraphFronts}
+use Rattle.meaning.proofs.Theory.OneClash.{clash-unique}
 use Rattle.meaning.proofs.Theory.OneGraph.{graph-unique}
+use Rattle.meaning.specs.Clash.{ClashGiven}
 use Rattle.meaning.specs.Listing.{GraphLists}
 use Rattle.meaning.specs.NoGraph.{TooLarge, TwoObjects}
 use Rattle.meaning.specs.Pack.{Pack, Text}
 use Rattle.pack.specs.Checked.{accepted, firstRefusal}
 use Rattle.readback.proofs.Once.{not-both, one-number, one-pack}
-
--- ---- what is the same
-
--- two answers: equal, but for the clash of 10
-pub record Alike (r s : Constructed) : Type 0 where
-  pub refusal-number : r .refusal ≡ s .refusal
-  pub node-count : r .nodes ≡ s .nodes
-  pub triple-count : r .triples ≡ s .triples
-  pub but-for-10 : (r .refusal ≡ 10 → ⊥) → r ≡ s
-
-pub equal : {r s : Constructed} → r ≡ s → Alike r s
-equal e = record { refusal-number = ap (λ (x : Constructed). x .refusal) e; node-count = ap (λ (x : Constructed). x .nodes) e; triple-count = ap (λ (x : Constructed). x .triples) e; but-for-10 = λ _. e }
-
-clashes : {r s : Constructed} {c d : List ℕ} → r ≡ record { refusal = 10; nodes = 0; triples = 0; clash = c } → s ≡ record { refusal = 10; nodes = 0; triples = 0; clash = d } → Alike r s
-clashes e f = record {
-  refusal-number = ap (λ (x : Constructed). x .refusal) e ∙ sym (ap (λ (x : Constructed). x .refusal) f);
-  node-count = ap (λ (x : Constructed). x .nodes) e ∙ sym (ap (λ (x : Constructed). x .nodes) f);
-  triple-count = ap (λ (x : Constructed). x .triples) e ∙ sym (ap (λ (x : Constructed). x .triples) f);
-  but-for-10 = λ n. absurd (n (ap (λ (x : Constructed). x .refusal) e));
-}
 
 -- ---- one pack
 
@@ -45,23 +26,25 @@ accepted-once pack x y = one-pack x y
 
 module _ {pack : Text} {r s : Constructed} where
   -- of two refusals
-  pub one-refusal : Refuses pack r → Refuses pack s → Alike r s
-  one-refusal (not-accepted k e q) (not-accepted m f p) = equal (q ∙ ap refusedAs (one-number e f) ∙ sym p)
+  pub one-refusal : Refuses pack r → Refuses pack s → r ≡ s
+  one-refusal (not-accepted k e q) (not-accepted m f p) = q ∙ ap refusedAs (one-number e f) ∙ sym p
   one-refusal (not-accepted k e q) (too-large P a l p) = not-both e a
   one-refusal (not-accepted k e q) (two-objects P a n o t u v w c p) = not-both e a
   one-refusal (not-accepted k e q) (mixed-kinds P a n o t m p) = not-both e a
   one-refusal (too-large P a l q) (not-accepted m f p) = not-both f a
-  one-refusal (too-large P a l q) (too-large Q b k p) = equal (q ∙ sym p)
+  one-refusal (too-large P a l q) (too-large Q b k p) = q ∙ sym p
   one-refusal (too-large P a l q) (two-objects Q b n o t u v w c p) = absurd (n (subst TooLarge (one-pack a b) l))
   one-refusal (too-large P a l q) (mixed-kinds Q b n o t m p) = absurd (n (subst TooLarge (one-pack a b) l))
   one-refusal (two-objects P a n o t u v w c q) (not-accepted m f p) = not-both f a
   one-refusal (two-objects P a n o t u v w c q) (too-large Q b l p) = absurd (n (subst TooLarge (one-pack b a) l))
-  one-refusal (two-objects P a n o t u v w c q) (two-objects Q b n′ o′ t′ u′ v′ w′ c′ p) = clashes q p
+  one-refusal (two-objects P a n o t u v w c q) (two-objects Q b n′ o′ t′ u′ v′ w′ c′ p) =
+      let (e, f, g, h) = clash-unique Q (subst (λ X. ClashGiven X t u v w) (one-pack a b) c) c′ in
+      q ∙ (λ i. clashing (e i) (f i) (g i) (h i)) ∙ sym p
   one-refusal (two-objects P a n o t u v w c q) (mixed-kinds Q b n′ o′ m k p) = absurd (m (subst TwoObjects (one-pack a b) (c .clash)))
   one-refusal (mixed-kinds P a n o m k q) (not-accepted j f p) = not-both f a
   one-refusal (mixed-kinds P a n o m k q) (too-large Q b l p) = absurd (n (subst TooLarge (one-pack b a) l))
   one-refusal (mixed-kinds P a n o m k q) (two-objects Q b n′ o′ t u v w c p) = absurd (m (subst TwoObjects (one-pack b a) (c .clash)))
-  one-refusal (mixed-kinds P a n o m k q) (mixed-kinds Q b n′ o′ m′ k′ p) = equal (q ∙ sym p)
+  one-refusal (mixed-kinds P a n o m k q) (mixed-kinds Q b n′ o′ m′ k′ p) = q ∙ sym p
 
 -- a refusal, and a pack that has a graph
 module _ {pack : Text} {r : Constructed} {P : Pack} (is : firstRefusal pack ≡ accepted P) (small : ¬ TooLarge P) (obeyed : SomeObeys P) where
@@ -96,10 +79,9 @@ module _ {pack : Text} {r s : Constructed} {fs gs : List (List ℕ)} (g : Gives 
         G .fronts-are ∙ (λ i. flatten (one-records .0 i) ∷ flatten (one-records .1 i) ∷ []) ∙ sym (H .fronts-are),
       )
 
-pub constructs-fixed : (pack : Text) → Fixed Alike (Refuses pack) (Gives pack)
+pub constructs-fixed : (pack : Text) → Fixed (Refuses pack) (Gives pack)
 constructs-fixed pack = record {
-  equal = equal;
   one-refusal = one-refusal;
   not-both = not-given;
-  one-result = λ g h. let (e, f) = one-graph g h in (equal e, f);
+  one-result = one-graph;
 }

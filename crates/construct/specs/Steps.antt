@@ -8,7 +8,7 @@ use Rattle.construct.specs.declared.Constructed.{Constructed}
 use Rattle.graph.specs.Build.{GraphWritten}
 use Rattle.graph.specs.Input.{Input}
 use Rattle.graph.specs.Records.{Arities}
-use Rattle.meaning.specs.Listing.{ClashGiven}
+use Rattle.meaning.specs.Clash.{ClashGiven}
 use Rattle.meaning.specs.NoGraph.{MixedKinds, TooLarge, TwoObjects}
 use Rattle.meaning.specs.Pack.{Pack}
 use Rattle.pack.specs.Checked.{accepted, wellFormed}

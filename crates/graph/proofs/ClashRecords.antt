@@ -81,6 +81,7 @@ module _ {P : Pack} {table : List (List ℕ)} {nodes triples masks : List ℕ} (
     second = gn;
     given = record {
       clash = x .clash;
+      is-first = x .is-first;
       subject-is = node-record (x .clash .subject) (x .subject) (subjectOf f) (ap (λ (k : ℕ). subjectOf k) ef ∙ pf .0) (asSubject (x .clash .edge₁)) (x .subject-at);
       predicate-is = ap (λ (k : ℕ). predicateOf k) ef ∙ pf .1;
       first-is = node-record (x .clash .first) (x .first) (objectOf f) (ap (λ (k : ℕ). objectOf k) ef ∙ pf .2) (asObject (x .clash .edge₁)) (x .first-at);

@@ -1,21 +1,36 @@
 -- What a search for refusal 10 answers, and the clash as numbers. Assumes nothing.
-use lib.ListN.{drop, getElem?}
+use lib.ListN.{drop, getD, getElem?}
+use mathlib.Core.Bool.{Bool, true, false}
 use mathlib.Core.List.{List, [], _∷_, _++_}
 use mathlib.Core.Option.{some}
 use mathlib.Core.Path.{_≡_}
-use Prim.Native.Nat.{ℕ, suc}
+use Prim.Native.Nat.{ℕ, suc, _-_}
 use Rattle.core.specs.Keys.{keyOf, tripleKey}
-use Rattle.graph.specs.Input.{Input}
+use Rattle.graph.specs.Input.{Input, originOf, predicateOf, subjectOf}
 use Rattle.graph.specs.Records.{Arities}
-use Rattle.meaning.specs.Listing.{ClashGiven}
+use Rattle.meaning.specs.Clash.{ClashGiven, FirstClash}
 use Rattle.meaning.specs.NoGraph.{TwoObjects}
-use Rattle.meaning.specs.Pack.{Pack}
+use Rattle.meaning.specs.Pack.{Pack, limits}
 use Rattle.sets.specs.declared.ordered.Found.{Found}
 use Rattle.sets.specs.declared.ordered.Found.the-variants.{At, Nothing}
+use Rattle.shapes.specs.Shapes.{SomePasses}
 
--- The triples at a place and the next are a clash: "a core node has two p-objects and a type with multiplicity 1 or 2 for p".
+-- "a core node has two p-objects and a type with multiplicity 1 or 2 for p": the triple at a place and the one before
+module _ (table : List (List ℕ)) (triples masks : List ℕ) (i : ℕ) where
+  abbrev pub SameOrigin : Type 0
+  SameOrigin = originOf (getD triples (i - 1) 0) ≡ originOf (getD triples i 0)
+
+  abbrev pub LimitedAt : Bool → Type 0
+  LimitedAt r = SomePasses limits table (getD masks (subjectOf (getD triples i 0)) 0) (predicateOf (getD triples i 0)) r
+
+  abbrev pub Clashes : Bool → Type 0
+  Clashes true = SameOrigin × LimitedAt true
+  Clashes false = SameOrigin → LimitedAt false
+
+-- The triples at a place and the next are the first clash.
 pub record ClashAt (P : Pack) (nodes triples : List ℕ) (i : ℕ) : Type 0 where
   pub clash : TwoObjects P
+  pub is-first : FirstClash P clash
   pub subject : ℕ
   pub first : ℕ
   pub second : ℕ

@@ -1,4 +1,5 @@
 pub mod Bits
+pub mod First
 pub mod Members
 pub mod Ordered
 pub mod Places

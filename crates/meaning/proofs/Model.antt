@@ -1,4 +1,5 @@
 pub mod Built
+pub mod Clash
 pub mod Core
 pub mod Enumeration
 pub mod Facts

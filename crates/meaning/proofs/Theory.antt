@@ -2,6 +2,7 @@ pub mod Answers
 pub mod Invented
 pub mod MoreRows
 pub mod Obeying
+pub mod OneClash
 pub mod OneGraph
 pub mod Simulated
 pub mod Simulation

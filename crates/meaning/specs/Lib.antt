@@ -1,6 +1,7 @@
 pub mod Ascii
 pub mod Built
 pub mod Certain
+pub mod Clash
 pub mod Core
 pub mod Graph
 pub mod Limits

@@ -10,7 +10,6 @@ use Prim.Native.Nat.{ℕ}
 use Rattle.meaning.specs.Built.{BuiltNode, core, invented, HasType, IsBuilt, BuiltEdge}
 use Rattle.meaning.specs.Core.{iriNode, literalNode}
 use Rattle.meaning.specs.Limits.{maxArguments, unused}
-use Rattle.meaning.specs.NoGraph.{TwoObjects}
 use Rattle.meaning.specs.Ordered.{ListOf, _≺_}
 use Rattle.meaning.specs.Pack.{Pack, type}
 use Rattle.meaning.specs.TypeSet.{bit}
@@ -86,14 +85,3 @@ pub record GraphLists (P : Pack) (nodes triples : List (List ℕ)) : Type 0 wher
   pub ordered : NodesInOrder P inOrder
   pub records : Forall₂ (NodeRecord P) inOrder nodes
   pub edges : ListOf _≺_ (TripleRecord P inOrder) triples
-
--- ---- the clash that refusal 10 gives
-
--- "one such node, predicate and two objects are given, the nodes as node records of the core". Which one, and the order of
--- the objects, is the program's choice.
-pub record ClashGiven (P : Pack) (subject : List ℕ) (predicate : ℕ) (first second : List ℕ) : Type 0 where
-  pub clash : TwoObjects P
-  pub subject-is : NodeRecord P (core (clash .subject)) subject
-  pub predicate-is : predicate ≡ clash .predicate
-  pub first-is : NodeRecord P (core (clash .first)) first
-  pub second-is : NodeRecord P (core (clash .second)) second

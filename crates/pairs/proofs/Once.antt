@@ -1,5 +1,5 @@
 -- What pairs answers and leaves is fixed by the bytes of the pack and of the query and the lengths of the lent lists and
--- buffers, but for the clash that 10 shows. Assumes nothing.
+-- buffers. Assumes nothing.
 use lib.ListN.{length, length-append}
 use mathlib.Core.List.{List, [], _∷_, _++_, flatten}
 use mathlib.Core.Path.{_≡_, refl, sym, ap, subst, _∙_}
@@ -7,7 +7,6 @@ use native.Mathlib.Omega.{arith}
 use Prim.Native.Nat.{ℕ, _*_}
 use Rattle.calls.proofs.Once.{Fixed, Same, SameLengths, call-once}
 use Rattle.calls.specs.Call.{Contents}
-use Rattle.construct.proofs.Once as graph
 use Rattle.construct.proofs.Once.{accepted-once}
 use Rattle.grammar.proofs.Agree.{one-expression}
 use Rattle.meaning.proofs.Lists.Ordered.{by-key, list-unique}
@@ -37,23 +36,15 @@ pair-length G = pair-flat (G .records) (λ r i. G .certain .members r .0 i) ∙ 
 
 -- ---- one answer
 
--- two answers: equal, but for the clash of 10
-pub record Alike (r s : PairAnswer) : Type 0 where
-  pub graph : graph.Alike (r .graph) (s .graph)
-  pub pair-count : r .pairs ≡ s .pairs
-
-pub but-for-10 : {r s : PairAnswer} → Alike r s → (r .graph .refusal ≡ 10 → ⊥) → r ≡ s
-but-for-10 a n = let e = a .graph .but-for-10 n in λ i. record { graph = e i; pairs = a .pair-count i }
-
-equal : {r s : PairAnswer} → r ≡ s → Alike r s
-equal e = record { graph = graph.equal (ap (λ (x : PairAnswer). x .graph) e); pair-count = ap (λ (x : PairAnswer). x .pairs) e }
+same : {r s : PairAnswer} → r .graph ≡ s .graph → r .pairs ≡ s .pairs → r ≡ s
+same e n i = record { graph = e i; pairs = n i }
 
 module _ {pack query : Text} {r s : PairAnswer} where
-  one-refusal : Refuses pack query r → Refuses pack query s → Alike r s
-  one-refusal (before-12 x a) (before-12 y b) = record { graph = prepared.one-refusal x y; pair-count = a ∙ sym b }
+  one-refusal : Refuses pack query r → Refuses pack query s → r ≡ s
+  one-refusal (before-12 x a) (before-12 y b) = same (prepared.one-refusal x y) (a ∙ sym b)
   one-refusal (before-12 x a) (too-many f j Q o m w y p b) = absurd (not-asked x f j o m w)
   one-refusal (too-many e i P o n w x q a) (before-12 y b) = absurd (not-asked y e i o n w)
-  one-refusal (too-many e i P o n w x q a) (too-many f j Q o′ m w′ y p b) = record { graph = graph.equal (q ∙ sym p); pair-count = a ∙ sym b }
+  one-refusal (too-many e i P o n w x q a) (too-many f j Q o′ m w′ y p b) = same (q ∙ sym p) (a ∙ sym b)
 
   not-both : {gs : List (List ℕ)} → Refuses pack query r → Gives pack query s gs → ⊥
   not-both (before-12 x a) h = prepared.not-both x (h .asked)
@@ -70,16 +61,16 @@ module _ {pack query : Text} {r s : PairAnswer} where
         let x = subst (λ (z : (Pack × Expr) × List BuiltNode). PairList (plain (z .0 .0)) (z .0 .0) (z .0 .1) (z .1) (g .records)) (λ k. (o k, w k)) (g .certain) in
         list-unique (by-key (λ t. t)) x (h .certain)
 
-    one-result : Alike r s × (fs ≡ gs)
+    one-result : (r ≡ s) × (fs ≡ gs)
     one-result =
         let (e, f) = prepared.one-result (g .asked) (h .asked) in
-        (record { graph = graph.equal e; pair-count = g .count ∙ ap length one-list ∙ sym (h .count) }, g .fronts-are ∙ (λ i. f i ++ (flatten (one-list i) ∷ [])) ∙ sym (h .fronts-are))
+        (same e (g .count ∙ ap length one-list ∙ sym (h .count)), g .fronts-are ∙ (λ i. f i ++ (flatten (one-list i) ∷ [])) ∙ sym (h .fronts-are))
 
-pub fixed : (pack query : Text) → Fixed Alike (Refuses pack query) (Gives pack query)
-fixed pack query = record { equal = equal; one-refusal = one-refusal; not-both = not-both; one-result = one-result }
+pub fixed : (pack query : Text) → Fixed (Refuses pack query) (Gives pack query)
+fixed pack query = record { one-refusal = one-refusal; not-both = not-both; one-result = one-result }
 
 pub answers-once : (pack query : Text) (r s : PairAnswer) (nodes nodes₂ triples triples₂ pairs pairs₂ rows rows₂ heads heads₂ alive alive₂ queue queue₂ seen seen₂ : Contents)
     → SameLengths (lists nodes triples pairs) (lists nodes₂ triples₂ pairs₂) → SameLengths (buffers rows heads alive queue seen) (buffers rows₂ heads₂ alive₂ queue₂ seen₂)
     → Answers pack query r nodes triples pairs rows heads alive queue seen → Answers pack query s nodes₂ triples₂ pairs₂ rows₂ heads₂ alive₂ queue₂ seen₂
-    → Same Alike (Refuses pack query) (Gives pack query) r s (lists nodes triples pairs) (lists nodes₂ triples₂ pairs₂) (buffers rows heads alive queue seen) (buffers rows₂ heads₂ alive₂ queue₂ seen₂)
+    → Same (Refuses pack query) (Gives pack query) r s (lists nodes triples pairs) (lists nodes₂ triples₂ pairs₂) (buffers rows heads alive queue seen) (buffers rows₂ heads₂ alive₂ queue₂ seen₂)
 answers-once pack query r s nodes nodes₂ triples triples₂ pairs pairs₂ rows rows₂ heads heads₂ alive alive₂ queue queue₂ seen seen₂ = call-once (fixed pack query)

@@ -1,9 +1,9 @@
--- What a pack and a query come to is fixed by their bytes, but for the clash that 10 shows. Assumes nothing.
+-- What a pack and a query come to is fixed by their bytes. Assumes nothing.
 use mathlib.Core.List.{List}
 use mathlib.Core.Path.{_≡_, sym, _∙_}
 use Prim.Native.Nat.{ℕ}
 use Rattle.construct.proofs.Once as graph
-use Rattle.construct.proofs.Once.{Alike, accepted-once, equal, not-given, not-refused, one-graph}
+use Rattle.construct.proofs.Once.{accepted-once, not-given, not-refused, one-graph}
 use Rattle.construct.specs.Outcome.{SomeObeys}
 use Rattle.construct.specs.declared.Constructed.{Constructed}
 use Rattle.grammar.proofs.Agree.{one-expression}
@@ -20,8 +20,8 @@ not-asked (no-query x q) e i a n o = x e i
 not-asked (no-graph f j u) e i a n o = not-refused a n o u
 
 module _ {pack query : Text} {r s : Constructed} where
-  pub one-refusal : Refuses pack query r → Refuses pack query s → Alike r s
-  one-refusal (no-query x q) (no-query y p) = equal (q ∙ sym p)
+  pub one-refusal : Refuses pack query r → Refuses pack query s → r ≡ s
+  one-refusal (no-query x q) (no-query y p) = q ∙ sym p
   one-refusal (no-query x q) (no-graph f j v) = absurd (x f j)
   one-refusal (no-graph e i u) (no-query y p) = absurd (y e i)
   one-refusal (no-graph e i u) (no-graph f j v) = graph.one-refusal u v

@@ -1,14 +1,13 @@
 -- What yes/no answers and leaves is fixed by the bytes of the pack and of the query and the lengths of the lent lists and
--- buffers, but for the clash that 10 shows. Assumes nothing.
+-- buffers. Assumes nothing.
 use lib.Dec.{T}
 use mathlib.Core.Bool.{Bool, true, false}
 use mathlib.Core.List.{List}
 use mathlib.Core.Logic.{_↔_}
-use mathlib.Core.Path.{_≡_, refl, sym, ap, subst, _∙_}
+use mathlib.Core.Path.{_≡_, refl, sym, subst, _∙_}
 use Prim.Native.Nat.{ℕ}
 use Rattle.calls.proofs.Once.{Fixed, Same, SameLengths, call-once}
 use Rattle.calls.specs.Call.{Contents}
-use Rattle.construct.proofs.Once as graph
 use Rattle.graph.specs.Fronts.{graphLists}
 use Rattle.meaning.specs.Certain.{CertainYes}
 use Rattle.meaning.specs.Pack.{Pack, Text}
@@ -18,17 +17,6 @@ use Rattle.spelling.specs.Iri.{plain}
 use Rattle.yes_no.specs.Answer.{Answers, Gives, Refuses, buffers}
 use Rattle.yes_no.specs.declared.YesNo.{YesNo}
 
--- two answers: equal, but for the clash of 10
-pub record Alike (r s : YesNo) : Type 0 where
-  pub graph : graph.Alike (r .graph) (s .graph)
-  pub yes-or-no : r .yes ≡ s .yes
-
-pub but-for-10 : {r s : YesNo} → Alike r s → (r .graph .refusal ≡ 10 → ⊥) → r ≡ s
-but-for-10 a n = let e = a .graph .but-for-10 n in λ i. record { graph = e i; yes = a .yes-or-no i }
-
-equal : {r s : YesNo} → r ≡ s → Alike r s
-equal e = record { graph = graph.equal (ap (λ (x : YesNo). x .graph) e); yes-or-no = ap (λ (x : YesNo). x .yes) e }
-
 one-answer : {X : Type 0} (a b : Bool) → T a ↔ X → T b ↔ X → a ≡ b
 one-answer true true x y = refl
 one-answer true false x y = absurd (y .1 (x .0 tt))
@@ -36,16 +24,16 @@ one-answer false true x y = absurd (x .1 (y .0 tt))
 one-answer false false x y = refl
 
 module _ {pack query : Text} {r s : YesNo} where
-  one-result : {fs gs : List (List ℕ)} → Gives pack query r fs → Gives pack query s gs → Alike r s × (fs ≡ gs)
+  one-result : {fs gs : List (List ℕ)} → Gives pack query r fs → Gives pack query s gs → (r ≡ s) × (fs ≡ gs)
   one-result g h =
       let (e, f) = prepared.one-result (g .asked) (h .asked) in
       let x = subst (λ (w : Pack × Expr). T (r .yes) ↔ CertainYes (plain (w .0)) (w .0) (w .1)) (prepared.one-question (g .asked) (h .asked)) (g .answer) in
-      (record { graph = graph.equal e; yes-or-no = one-answer (r .yes) (s .yes) x (h .answer) }, f)
+      let y = one-answer (r .yes) (s .yes) x (h .answer) in
+      ((λ i. record { graph = e i; yes = y i }), f)
 
-pub fixed : (pack query : Text) → Fixed Alike (Refuses pack query) (Gives pack query)
+pub fixed : (pack query : Text) → Fixed (Refuses pack query) (Gives pack query)
 fixed pack query = record {
-  equal = equal;
-  one-refusal = λ x y. record { graph = prepared.one-refusal (x .cause) (y .cause); yes-or-no = x .says-no ∙ sym (y .says-no) };
+  one-refusal = λ x y. let e = prepared.one-refusal (x .cause) (y .cause) in let n = x .says-no ∙ sym (y .says-no) in λ i. record { graph = e i; yes = n i };
   not-both = λ x g. prepared.not-both (x .cause) (g .asked);
   one-result = one-result;
 }
@@ -53,5 +41,5 @@ fixed pack query = record {
 pub answers-once : (pack query : Text) (r s : YesNo) (nodes nodes₂ triples triples₂ rows rows₂ heads heads₂ alive alive₂ queue queue₂ : Contents)
     → SameLengths (graphLists nodes triples) (graphLists nodes₂ triples₂) → SameLengths (buffers rows heads alive queue) (buffers rows₂ heads₂ alive₂ queue₂)
     → Answers pack query r nodes triples rows heads alive queue → Answers pack query s nodes₂ triples₂ rows₂ heads₂ alive₂ queue₂
-    → Same Alike (Refuses pack query) (Gives pack query) r s (graphLists nodes triples) (graphLists nodes₂ triples₂) (buffers rows heads alive queue) (buffers rows₂ heads₂ alive₂ queue₂)
+    → Same (Refuses pack query) (Gives pack query) r s (graphLists nodes triples) (graphLists nodes₂ triples₂) (buffers rows heads alive queue) (buffers rows₂ heads₂ alive₂ queue₂)
 answers-once pack query r s nodes nodes₂ triples triples₂ rows rows₂ heads heads₂ alive alive₂ queue queue₂ = call-once (fixed pack query)

@@ -130,7 +130,7 @@ class Told(Files):
                                  'all rows with style "bold" must agree')
         text = DESCRIPTION.replace('key = "style"\n', "")
         err = self.told("refused 10\n", files={"styles.csv": STYLES + "bold,Fett\n", "catalogue.toml": text})
-        self.assertEqual(err[1], '  ./styles.csv:4: <style:bold> has name "Fett" and "Alder%20Bold"; '
+        self.assertEqual(err[1], '  ./styles.csv:4: <style:bold> has name "Alder%20Bold" and "Fett"; '
                                  "the shape of style allows one; see ./styles.csv:3")
         text = DESCRIPTION.replace('links.tuned = "head(head)"', 'links.tuned = "head"')
         err = self.told("refused 11\n", files={"catalogue.toml": text})

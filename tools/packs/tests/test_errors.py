@@ -252,10 +252,10 @@ class Errors(Files):
         base = DESCRIPTION.replace('key = "style"\n', "")
         join = 'from = ["tunings(style, head)", "styles(style)"]\nsubject = "style(style)"\nlinks.name = "head"'
         for text, styles, expected in [
-            (base, STYLES + "bold,Fett\n", 'styles.csv:4: <style:bold> has name "Fett" and "Alder%20Bold"; '
+            (base, STYLES + "bold,Fett\n", 'styles.csv:4: <style:bold> has name "Alder%20Bold" and "Fett"; '
                                            "the shape of style allows one; see styles.csv:3 (no graph: refusal 10)"),
             (base + f"[[mappings]]\n{join}\n", STYLES,
-             'catalogue.toml:25: <style:regular> has name "k600" and "Alder%20Regular"; the shape of style allows one; '
+             'catalogue.toml:25: <style:regular> has name "Alder%20Regular" and "k600"; the shape of style allows one; '
              "see styles.csv:2 (no graph: refusal 10)"),
             (base.replace('links.name = "name"', 'links.name = "head(name)"'), "style,name\nbold,Bold\n",
              "styles.csv:2: <style:bold> name leads to the IRI <head:Bold>; the shape of style says Literal (no graph: refusal 11)"),

@@ -5,7 +5,7 @@ use lib.ListN.{getElem?}
 use mathlib.Core.Bool.{false}
 use mathlib.Core.List.{List, [], _∷_, map, Memᴰ·map as ∈-map}
 use mathlib.Core.Logic.{_↔_, Iff·trans, Iff·symm, inl, inr}
-use mathlib.Core.Option.{some}
+use mathlib.Core.Option.{none, some}
 use mathlib.Core.Path.{_≡_, subst, sym, _∙_}
 use Prim.Native.Nat.{ℕ}
 use Rattle.meaning.proofs.Computed.Evaluate.{Walkable, Walks, answersYes, yes-computed}
@@ -14,8 +14,9 @@ use Rattle.meaning.proofs.Lists.Bits.{members}
 use Rattle.meaning.proofs.Lists.Members.{element, ∈-map⁻¹}
 use Rattle.meaning.proofs.Lists.Sorted.{sorted, sorted-ascending, sorted-iff}
 use Rattle.meaning.proofs.Model.Built.{builtEdges, builtNodes, enumerate}
+use Rattle.meaning.proofs.Model.Clash.{Shows, first-shown, firstClash}
 use Rattle.meaning.proofs.Model.Listing.{node-at, nodeList, nodeList-ordered, only-node-at, placeIn}
-use Rattle.meaning.proofs.Model.Refusals.{mixed-iff, mixedKinds?, two-iff, twoObjects?}
+use Rattle.meaning.proofs.Model.Refusals.{mixed-iff, mixedKinds?}
 use Rattle.meaning.proofs.Model.Resolved.{Resolved, resolved}
 use Rattle.meaning.proofs.Theory.Simulated.{built-closed, is-core}
 use Rattle.meaning.proofs.Theory.Simulation.{ends, starts}
@@ -45,12 +46,12 @@ module _ (σ : Spelling) (D : Decided σ) (P : Pack) where
   unfolding walkBuilt pairsOf pairNumbers sorted
   pairRecords e = sorted (λ t. t) (map pairNumbers (pairsOf σ P walkBuilt e))
 
-  module _ (not-7 : dangling P ≡ false) (distinct : Distinct σ P) (not-10 : twoObjects? P ≡ false) (not-11 : mixedKinds? P ≡ false) where
+  module _ (not-7 : dangling P ≡ false) (distinct : Distinct σ P) (not-10 : firstClash P ≡ none) (not-11 : mixedKinds? P ≡ false) where
     abbrev wf : Resolved P
     wf = resolved P not-7
 
     pub graph-there : ¬ NoGraph P
-    graph-there (inl c) = subst T not-10 (two-iff P wf .1 c)
+    graph-there (inl c) = subst (Shows P) not-10 (first-shown P wf) c
     graph-there (inr c) = subst T not-11 (mixed-iff P wf .1 c)
 
     walks-built : Walks (built σ P) walkBuilt

@@ -17,7 +17,7 @@ use Rattle.meaning.proofs.Model.Enumeration.{BuiltTriple}
 use Rattle.meaning.proofs.Model.Resolved.{Resolved}
 use Rattle.meaning.proofs.Model.Same.{same-built}
 use Rattle.meaning.specs.Built.{BuiltNode, IsBuilt, core, invented}
-use Rattle.meaning.specs.Core.{iriNode, literalNode}
+use Rattle.meaning.specs.Core.{Node, iriNode, literalNode}
 use Rattle.meaning.specs.Listing.{GraphLists, NodeRecord, NodesInOrder, TripleRecord, _◃_, arguments, inventedKind, kind, nodeKey, number}
 use Rattle.meaning.specs.Member.{_∈_, here, there}
 use Rattle.meaning.specs.Ordered.{InOrder, _≺_, before}
@@ -47,6 +47,9 @@ nodeKey-one (invented X) (core (iriNode d ws)) e = let z : 0 ≡ inventedKind (X
 nodeKey-one (invented X) (core (literalNode w)) e = let z : 1 ≡ inventedKind (X .literal) = cc in absurd (not-low (X .literal) 1 (lit< tt) z)
 nodeKey-one (invented X) (invented Y) e =
     let p = kind-one (X .literal) (Y .literal) (cc) in let q : X .mask ≡ Y .mask = cc in λ i. invented (record { literal = p i; mask = q i })
+
+pub core-key-one : (n m : Node) → nodeKey (core n) ≡ nodeKey (core m) → n ≡ m
+core-key-one n m e = let q = nodeKey-one (core n) (core m) e in cc
 
 -- ---- the place of an element in a list
 
