@@ -23,7 +23,7 @@ clashNumbers = 22
 abbrev pub refusedAs : ℕ → Constructed
 refusedAs k = record { refusal = k; nodes = 0; triples = 0; clash = replicate clashNumbers 0 }
 
--- 10: "one such node, predicate and two objects are given, the nodes as node records of the core"
+-- 10: "one such node, predicate and two objects are given, the nodes as node records of the core"; the first (card 8)
 abbrev pub clashing : List ℕ → ℕ → List ℕ → List ℕ → Constructed
 clashing subject predicate first second =
     record { refusal = 10; nodes = 0; triples = 0; clash = subject ++ (predicate ∷ []) ++ first ++ second }
