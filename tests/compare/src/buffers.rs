@@ -2,7 +2,7 @@
 //! are lent: which entries, and how many.
 
 use crate::calls::Call;
-use crate::lent::Lent;
+use crate::lent::{Lent, Numbers};
 use crate::memory::Memory;
 use second::generate::Random;
 
@@ -63,6 +63,15 @@ pub fn longer(random: &mut Random) -> Lengths {
     NEEDED.map(|length| length + random.between(1, MORE))
 }
 
+/// Exactly as needed, or longer.
+pub fn enough(random: &mut Random) -> Lengths {
+    if random.percent(50) {
+        NEEDED
+    } else {
+        longer(random)
+    }
+}
+
 /// One buffer too short: by one entry, by all, or by some number.
 pub fn shorter(random: &mut Random, mut lengths: Lengths, buffer: usize) -> Lengths {
     lengths[buffer] = match random.below(3) {
@@ -115,10 +124,10 @@ impl Buffers {
         }
     }
 
-    /// Fills what a call is lent, with another pattern for each buffer.
-    pub fn fill(&mut self, call: Call, random: &mut Random) {
+    /// Fills what a call is lent, each buffer in another way.
+    pub fn fill(&mut self, call: Call, numbers: Numbers, random: &mut Random) {
         for &buffer in lent_to(call) {
-            self.lent[buffer].fill(random.number());
+            self.lent[buffer].fill(numbers, random);
         }
     }
 

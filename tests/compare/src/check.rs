@@ -5,9 +5,9 @@ use crate::buffers::{is_short, is_working, lent_to, Buffers, Lengths};
 use crate::calls::{Answer, Call, Given};
 use crate::lent::Left;
 use crate::tally::{outcomes, Outcome};
-use ciravehy::{Clash, Counts, Term};
+use ciravehy::{Counts, Term};
 use second::vectors::Answers;
-use second::{Graph, Refusal};
+use second::{Clash, Graph, Refusal};
 
 /// What a call has to give, and to leave in front of the three lists:
 /// nodes, triples and pairs.
@@ -110,23 +110,17 @@ impl Expected {
     }
 }
 
-/// Only 10 shows a clash: two different objects of one of the second
-/// program's clashes.
-fn check_clash(expected: &Refusal, shown: Option<&Clash>) -> Result<(), String> {
-    let clashes = &expected.clashes;
-    let right = match shown {
-        None => expected.number != 10,
-        Some(shown) => clashes.iter().any(|clash| {
-            let [one, other] = shown.objects;
-            (clash.node, clash.predicate) == (shown.subject, shown.predicate)
-                && one != other
-                && clash.objects.contains(&one)
-                && clash.objects.contains(&other)
-        }),
-    };
-    if right {
+/// Only 10 shows a clash, and it is the second program's.
+fn check_clash(expected: &Refusal, shown: Option<&ciravehy::Clash>) -> Result<(), String> {
+    let shown = shown.map(|clash| Clash {
+        subject: clash.subject,
+        predicate: clash.predicate,
+        objects: clash.objects,
+    });
+    if shown == expected.clash {
         Ok(())
     } else {
-        Err(format!("the clash is {shown:?}, none of {clashes:?}"))
+        let expected = &expected.clash;
+        Err(format!("the clash is {shown:?}, not {expected:?}"))
     }
 }

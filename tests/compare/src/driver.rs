@@ -1,9 +1,10 @@
 //! Makes the calls of a case on buffers of many lengths, and checks each.
 
-use crate::buffers::{lent_to, longer, shorter, Buffers, Lengths, Place};
+use crate::buffers::{enough, lent_to, longer, shorter, Buffers, Lengths, Place};
 use crate::buffers::{NEEDED, NODES, PAIRS};
 use crate::calls::{Answer, Call, Calls, Given, Input};
 use crate::check::expected;
+use crate::lent::Numbers;
 use crate::tally::{Outcome, Tally};
 use second::generate::Random;
 use second::pack::well_formed;
@@ -20,7 +21,7 @@ pub struct Driver<C> {
     pub calls: C,
     pub buffers: Buffers,
     pub place: Place,
-    /// For patterns, places and lengths.
+    /// For contents, places and lengths.
     pub random: Random,
     pub tally: Tally,
 }
@@ -38,73 +39,81 @@ impl<C: Calls> Driver<C> {
     }
 
     /// Makes every call of a case, and says what differs first: with exact
-    /// lengths, with longer ones, and with each buffer too short in turn.
+    /// lengths, with longer ones, with small numbers in the buffers, and
+    /// with each buffer too short in turn.
     pub fn case(&mut self, seed: u64, case: Case) -> Result<(), String> {
         self.random = Random::new(!seed);
         for call in Call::ALL {
-            let exact = self.filled(call, &NEEDED, case)?;
+            self.filled(call, &NEEDED, Numbers::Large, case)?;
             let lengths = longer(&mut self.random);
-            same(call, &exact, &self.twice(call, &lengths, case)?)?;
+            self.filled(call, &lengths, Numbers::Large, case)?;
+            let lengths = enough(&mut self.random);
+            self.filled(call, &lengths, Numbers::Small, case)?;
             self.too_short(call, case)?;
         }
         Ok(())
     }
 
-    /// The same call twice, on buffers with other contents.
-    pub fn twice(&mut self, call: Call, lengths: &Lengths, case: Case) -> Result<Answer, String> {
-        let first = self.filled(call, lengths, case)?;
-        let second = self.filled(call, lengths, case)?;
-        same(call, &first, &second)?;
-        Ok(first)
+    /// A call on buffers that are filled anew.
+    pub fn filled(
+        &mut self,
+        call: Call,
+        lengths: &Lengths,
+        numbers: Numbers,
+        case: Case,
+    ) -> Result<(), String> {
+        self.lend(lengths);
+        self.buffers.fill(call, numbers, &mut self.random);
+        self.checked(call, lengths, case)
+            .map_err(|what| match numbers {
+                Numbers::Large => what,
+                Numbers::Small => format!("small numbers in the buffers, {what}"),
+            })
     }
 
     /// Each buffer in turn is too short, and the others are not. Refusal 1
     /// keeps everything, so that the buffers need not be filled again.
     fn too_short(&mut self, call: Call, case: Case) -> Result<(), String> {
-        self.buffers.fill(call, &mut self.random);
+        self.buffers.fill(call, Numbers::Large, &mut self.random);
         for &buffer in lent_to(call) {
-            let random = &mut self.random;
-            let others = if random.percent(50) {
-                NEEDED
-            } else {
-                longer(random)
-            };
-            let lengths = shorter(random, others, buffer);
-            let _refusal = self.checked(call, &lengths, case)?;
+            let others = enough(&mut self.random);
+            let lengths = shorter(&mut self.random, others, buffer);
+            self.lend(&lengths);
+            self.checked(call, &lengths, case)?;
         }
         Ok(())
     }
 
-    /// A call on buffers that are filled anew.
-    fn filled(&mut self, call: Call, lengths: &Lengths, case: Case) -> Result<Answer, String> {
-        self.buffers.fill(call, &mut self.random);
-        self.checked(call, lengths, case)
+    fn lend(&mut self, lengths: &Lengths) {
+        self.buffers.lend(lengths, self.place, &mut self.random);
     }
 
-    fn checked(&mut self, call: Call, lengths: &Lengths, case: Case) -> Result<Answer, String> {
-        let answer = self.call(call, lengths, case.input);
+    /// A call on the buffers as they are lent.
+    fn checked(&mut self, call: Call, lengths: &Lengths, case: Case) -> Result<(), String> {
+        let answer = self.calls.call(call, case.input, &mut self.buffers);
         let outcome = expected(call, lengths, case.answers)
             .check(call, &answer, &self.buffers)
             .map_err(|what| format!("{call}, {} lengths: {what}", described(call, lengths)))?;
         self.tally.add(call, outcome);
-        Ok(answer)
+        Ok(())
     }
 
-    fn call(&mut self, call: Call, lengths: &Lengths, input: Input) -> Answer {
-        self.buffers.lend(lengths, self.place, &mut self.random);
+    /// A call on buffers of exact lengths, whatever they hold.
+    fn call(&mut self, call: Call, input: Input) -> Answer {
+        self.lend(&NEEDED);
         self.calls.call(call, input, &mut self.buffers)
     }
 
     /// How a call ends, by itself.
     pub fn outcome(&mut self, call: Call, input: Input) -> Outcome {
-        Outcome::of(&self.call(call, &NEEDED, input))
+        Outcome::of(&self.call(call, input))
     }
 
     /// What `certain` prints of these calls' answers and lists.
     pub fn certain(&mut self, input: Input) -> String {
         let (mut yes, mut count) = (false, 0);
         for call in [Call::YesNo, Call::Pairs] {
-            match self.call(call, &NEEDED, input) {
+            match self.call(call, input) {
                 Ok(Given::Truth(answer, _)) => yes = answer,
                 Ok(Given::Pairs(listed, _)) => count = listed,
                 Ok(other) => return format!("{call} gives {other:?}\n"),
@@ -122,14 +131,6 @@ impl<C: Calls> Driver<C> {
 fn records<const N: usize>(list: &[u16]) -> Vec<[u16; N]> {
     let record = |numbers: &[u16]| numbers.try_into().unwrap();
     list.chunks_exact(N).map(record).collect()
-}
-
-fn same(call: Call, first: &Answer, again: &Answer) -> Result<(), String> {
-    if first == again {
-        Ok(())
-    } else {
-        Err(format!("{call}: first {first:?}, then {again:?}"))
-    }
 }
 
 /// The lengths of what a call is lent, in words.

@@ -1,7 +1,10 @@
-//! A lent buffer: a part of some memory, all of which holds a pattern
-//! before the call. What lies around the part must keep it.
+//! A lent buffer: a part of some memory. Before the call the memory holds a
+//! pattern, or the part small numbers and what lies around it the pattern.
+//! What lies around must be kept.
 
 use crate::memory::Memory;
+use second::generate::Random;
+use std::ops::Range;
 
 /// Numbers that a buffer may hold: any bytes are one.
 pub trait Entry: Copy {}
@@ -10,6 +13,22 @@ impl Entry for u8 {}
 impl Entry for u16 {}
 impl Entry for u32 {}
 impl Entry for u64 {}
+
+/// What the lent entries hold before a call. What lies around them is always
+/// large.
+#[derive(Clone, Copy, Debug, PartialEq, Eq)]
+pub enum Numbers {
+    /// A pattern of which no byte is zero.
+    Large,
+    /// A few numbers again and again, counting up from one below 40, mostly
+    /// below 4: such as a call might take for a place in a list, or for what
+    /// it left there itself.
+    Small,
+}
+
+/// How many small numbers there are before they come again. One is the same
+/// number everywhere, seven are as many as a node record has.
+const FEW: [u8; 5] = [1, 2, 3, 7, 64];
 
 /// What a call must leave in a lent buffer.
 #[derive(Clone, Copy, Debug)]
@@ -22,8 +41,10 @@ pub enum Left<'a> {
     Zero,
 }
 
-/// To compare with, block by block.
-const ZERO: &[u8] = &[0; 4_096];
+/// Buffers are filled and compared block by block, of so many bytes.
+const BLOCK: usize = 4_096;
+
+const ZERO: &[u8] = &[0; BLOCK];
 
 pub struct Lent {
     name: &'static str,
@@ -40,6 +61,11 @@ pub struct Lent {
 fn bytes_of(words: &[u64]) -> &[u8] {
     // SAFETY: any bytes are bytes.
     unsafe { words.align_to().1 }
+}
+
+fn bytes_of_mut(words: &mut [u64]) -> &mut [u8] {
+    // SAFETY: any bytes are bytes, and any bytes are words.
+    unsafe { words.align_to_mut().1 }
 }
 
 impl Lent {
@@ -59,17 +85,35 @@ impl Lent {
         self.memory.len() / self.width
     }
 
-    /// Fills the memory from a seed; no byte is zero.
-    pub fn fill(&mut self, seed: u64) {
+    /// Fills the memory, and with it the lent entries.
+    pub fn fill(&mut self, numbers: Numbers, random: &mut Random) {
+        let seed = random.number();
         for (number, word) in self.pattern.iter_mut().enumerate() {
             let mixed = seed
                 .wrapping_add(number as u64)
                 .wrapping_mul(0x9E37_79B9_7F4A_7C15);
             *word = mixed | 0x0101_0101_0101_0101;
         }
+        if numbers == Numbers::Small {
+            let below = *random.pick(&[4, 4, 40]);
+            let first = random.below(below) as u8;
+            let count = *random.pick(&FEW);
+            self.put(first..first + count);
+        }
         let bytes = bytes_of(&self.pattern);
         let size = self.memory.len();
         self.memory.copy_from_slice(&bytes[..size]);
+    }
+
+    /// Puts the numbers into the lent entries, again and again.
+    fn put(&mut self, numbers: Range<u8>) {
+        let entry = |number| u64::to_le_bytes(number).into_iter().take(self.width);
+        let once: Vec<u8> = numbers.map(u64::from).flat_map(entry).collect();
+        let block = once.repeat(BLOCK / once.len() + 1);
+        let part = &mut bytes_of_mut(&mut self.pattern)[self.start..self.end];
+        for chunk in part.chunks_mut(block.len()) {
+            chunk.copy_from_slice(&block[..chunk.len()]);
+        }
     }
 
     /// What a part of the memory held before the call.
@@ -129,17 +173,22 @@ impl Lent {
         }
         let differs = |place: &usize| found[*place] != expected[*place];
         let place = (0..found.len()).find(differs).unwrap() / self.width * self.width;
-        let number = |bytes: &[u8]| {
-            let mut number = [0; 8];
-            number[..self.width].copy_from_slice(&bytes[place..place + self.width]);
-            u64::from_le_bytes(number)
-        };
-        let (found, expected) = (number(found), number(expected));
+        let (found, expected) = (
+            self.number(&found[place..]),
+            self.number(&expected[place..]),
+        );
         let entry = self.entry(first + place);
         Err(format!(
             "{}: {entry} is {found}, {how} {expected}",
             self.name
         ))
+    }
+
+    /// The entry that these bytes begin with.
+    fn number(&self, bytes: &[u8]) -> u64 {
+        let mut number = [0; 8];
+        number[..self.width].copy_from_slice(&bytes[..self.width]);
+        u64::from_le_bytes(number)
     }
 
     /// The entry at a place in words.
@@ -167,6 +216,13 @@ impl Lent {
     #[cfg(test)]
     pub fn bytes(&mut self) -> &mut [u8] {
         &mut self.memory[self.start..self.end]
+    }
+
+    /// The lent entries, in order.
+    #[cfg(test)]
+    pub fn entries(&self) -> impl Iterator<Item = u64> + '_ {
+        let entries = self.memory[self.start..self.end].chunks(self.width);
+        entries.map(|bytes| self.number(bytes))
     }
 
     /// Changes the entry in front of the lent ones, as a faulty call would.

@@ -9,8 +9,8 @@ use compare::calls::{Input, Proved};
 use compare::command::{arguments, ended, Arguments};
 use compare::driver::{Case, Driver};
 use compare::limits::limits;
-use second::generate;
 use second::vectors::{answers, read_directory, read_file};
+use second::{generate, less_line_feed};
 use std::path::Path;
 use std::process::ExitCode;
 use std::time::Instant;
@@ -20,7 +20,9 @@ const USAGE: &str = "usage: compare [COUNT [FIRST-SEED]], or: compare one SEED";
 /// One to two minutes on one core.
 const COUNT: u64 = 6_000;
 
-const WRITTEN: &str = concat!(env!("CARGO_MANIFEST_DIR"), "/../vectors");
+const VECTORS: &str = concat!(env!("CARGO_MANIFEST_DIR"), "/../vectors");
+
+const WRITTEN: [&str; 2] = ["cases.txt", "card-08.txt"];
 
 fn main() -> ExitCode {
     ended(match arguments() {
@@ -38,8 +40,10 @@ fn main() -> ExitCode {
 fn compare_all(count: u64, first: u64) -> Result<(), String> {
     let started = Instant::now();
     let mut driver = Driver::new(Proved);
-    let written = compare_written(&mut driver)?;
-    println!("{written} written cases agree");
+    for file in WRITTEN {
+        let count = compare_written(&mut driver, file)?;
+        println!("{count} written cases of {file} agree");
+    }
     let hard = compare_printed(&mut driver)?;
     println!("{hard} hard cases agree, and so does what is printed");
     let limits = compare_limits(&mut driver)?;
@@ -64,22 +68,41 @@ fn compare_all(count: u64, first: u64) -> Result<(), String> {
     }
 }
 
-/// The cases of a third program.
-fn compare_written(driver: &mut Driver<Proved>) -> Result<usize, String> {
-    let cases = read_file(&Path::new(WRITTEN).join("cases.txt"));
+/// The cases of a third program, and what is printed where they say it.
+fn compare_written(driver: &mut Driver<Proved>, file: &str) -> Result<usize, String> {
+    let cases = read_file(&Path::new(VECTORS).join(file));
     for (seed, written) in (0..).zip(&cases) {
+        let title = format!("{file}, {}", written.title);
         let input = Input::new(&written.pack, &written.query, &written.text);
         let answers = &written.answers;
         driver
             .case(seed, Case { input, answers })
-            .map_err(|what| format!("difference in cases.txt, {}: {what}", written.title))?;
+            .map_err(|what| format!("difference in {title}: {what}"))?;
+        if let Some(expected) = &written.certain {
+            let query = less_line_feed(input.query);
+            compare_certain(driver, &title, Input { query, ..input }, expected)?;
+        }
     }
     Ok(cases.len())
 }
 
+fn compare_certain(
+    driver: &mut Driver<Proved>,
+    title: &str,
+    input: Input,
+    expected: &str,
+) -> Result<(), String> {
+    let found = driver.certain(input);
+    if found == expected {
+        Ok(())
+    } else {
+        Err(format!("{title}: it prints {found}not {expected}"))
+    }
+}
+
 /// Hard cases: the second program's answers, and what is printed.
 fn compare_printed(driver: &mut Driver<Proved>) -> Result<usize, String> {
-    let cases = read_directory(&Path::new(WRITTEN).join("adversarial"));
+    let cases = read_directory(&Path::new(VECTORS).join("adversarial"));
     for (seed, printed) in (0..).zip(&cases) {
         let title = &printed.title;
         let input = Input::new(&printed.pack, &printed.query, b"");
@@ -87,10 +110,7 @@ fn compare_printed(driver: &mut Driver<Proved>) -> Result<usize, String> {
         driver
             .case(seed, Case { input, answers })
             .map_err(|what| format!("difference in {title}: {what}"))?;
-        let (found, expected) = (driver.certain(input), &printed.certain);
-        if found != *expected {
-            return Err(format!("{title}: it prints {found}not {expected}"));
-        }
+        compare_certain(driver, title, input, &printed.certain)?;
     }
     Ok(cases.len())
 }

@@ -62,15 +62,11 @@ fn write(buffers: &mut Buffers, graph: &Graph) -> Counts {
     }
 }
 
-/// A refusal with the last of the clashes, and the last two of its objects.
 fn refusal(refused: second::Refusal) -> Answer {
-    let clash = refused.clashes.last().map(|clash| {
-        let objects = &clash.objects[clash.objects.len() - 2..];
-        Clash {
-            subject: clash.node,
-            predicate: clash.predicate,
-            objects: [objects[1], objects[0]],
-        }
+    let clash = refused.clash.map(|clash| Clash {
+        subject: clash.subject,
+        predicate: clash.predicate,
+        objects: clash.objects,
     });
     Err(Refusal {
         number: refused.number,
@@ -85,6 +81,28 @@ impl<F: FnMut(Call, &mut Answer, &mut Buffers)> Calls for Faulty<F> {
     fn call(&mut self, call: Call, input: Input, buffers: &mut Buffers) -> Answer {
         let mut answer = Model.call(call, input, buffers);
         (self.0)(call, &mut answer, buffers);
+        answer
+    }
+}
+
+/// The model, which shows another clash where a buffer's first entry, as a
+/// place in a list of clashes, says so.
+pub struct Peeking {
+    pub buffer: usize,
+    pub clashes: Vec<Clash>,
+}
+
+impl Calls for Peeking {
+    fn call(&mut self, call: Call, input: Input, buffers: &mut Buffers) -> Answer {
+        let first = buffers.lent[self.buffer].entries().next();
+        let other = first.and_then(|first| self.clashes.get(first as usize));
+        let mut answer = Model.call(call, input, buffers);
+        match (&mut answer, other) {
+            (Err(refusal), Some(other)) if refusal.number == 10 => {
+                refusal.clash = Some(other.clone());
+            }
+            _ => {}
+        }
         answer
     }
 }

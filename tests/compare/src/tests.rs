@@ -3,11 +3,15 @@
 use crate::buffers::*;
 use crate::calls::{Answer, Call, Calls, Given, Input};
 use crate::driver::{Case, Driver};
+use crate::lent::{Left, Lent, Numbers};
 use crate::limits::limits;
-use crate::model::{Faulty, Model};
+use crate::model::{Faulty, Model, Peeking};
 use crate::tally::{outcomes, Tally};
+use ciravehy::{Clash, Refusal};
 use second::encode::encode;
-use second::generate::{case, sample};
+use second::generate::{case, sample, Random};
+use second::graph::all_clashing;
+use second::pack::Pack;
 use second::records::row;
 use second::vectors::answers;
 
@@ -23,10 +27,36 @@ fn clashing() -> Vec<u8> {
     encode(&pack)
 }
 
+/// A pack that is refused by 10: sty:r1 has three names and two families,
+/// sty:Roman has two names.
+fn several() -> Pack {
+    let mut pack = sample();
+    pack.dependencies.clear();
+    pack.rows = vec![row(0, &[1, 2]), row(0, &[1, 0])];
+    pack.rows.extend([2, 1].map(|family| row(1, &[0, family])));
+    pack.rows.extend([2, 1, 0].map(|name| row(0, &[0, name])));
+    pack
+}
+
+/// A clash of that pack, by its place among them, with two of its objects.
+fn clash(place: usize, objects: [usize; 2]) -> Clash {
+    let clashing = all_clashing(&several()).remove(place);
+    Clash {
+        subject: clashing.subject,
+        predicate: clashing.predicate,
+        objects: objects.map(|object| clashing.objects[object]),
+    }
+}
+
 fn compare(calls: impl Calls, pack: &[u8]) -> Result<(), String> {
+    compare_seed(7, calls, pack)
+}
+
+/// The seed fixes what the buffers hold.
+fn compare_seed(seed: u64, calls: impl Calls, pack: &[u8]) -> Result<(), String> {
     let input = Input::new(pack, b"name", b"sty:r1");
     let answers = &answers(input.pack, input.query, input.text);
-    Driver::new(calls).case(7, Case { input, answers })
+    Driver::new(calls).case(seed, Case { input, answers })
 }
 
 /// What is said of a fault in the answers to a pack.
@@ -63,6 +93,7 @@ fn right_answers_pass() {
     }
     assert_eq!(compare(Model, &taken()), Ok(()));
     assert_eq!(compare(Model, &clashing()), Ok(()));
+    assert_eq!(compare(Model, &encode(&several())), Ok(()));
 }
 
 #[test]
@@ -107,7 +138,7 @@ fn a_wrong_answer_is_noticed() {
 fn a_refusal_or_another_one_is_noticed() {
     let refuse = |number| {
         move |_: Call, answer: &mut Answer, _: &mut Buffers| {
-            *answer = Err(ciravehy::Refusal {
+            *answer = Err(Refusal {
                 number,
                 clash: None,
             })
@@ -128,7 +159,7 @@ fn an_outcome_of_another_call_is_noticed() {
     let mut answers = answers(input.pack, input.query, input.text);
     answers.build = Err(second::Refusal::new(12));
     let mut driver = Driver::new(Faulty(|_, answer: &mut Answer, _: &mut Buffers| {
-        *answer = Err(ciravehy::Refusal {
+        *answer = Err(Refusal {
             number: 12,
             clash: None,
         })
@@ -251,9 +282,9 @@ fn a_short_buffer_that_is_taken_is_noticed() {
 
 #[test]
 fn a_wrong_clash_is_noticed() {
-    let shown = |change: fn(&mut ciravehy::Clash)| {
+    let shown = |change: fn(&mut Clash)| {
         said(&clashing(), move |_, answer, _| {
-            if let Err(ciravehy::Refusal {
+            if let Err(Refusal {
                 clash: Some(clash), ..
             }) = answer
             {
@@ -284,7 +315,7 @@ fn a_clash_with_another_refusal_is_noticed() {
     pack.rows.push(row(0, &[0, 2]));
     let said = said(&encode(&pack), |_, answer, _| {
         if let Err(refusal) = answer {
-            refusal.clash = Some(ciravehy::Clash {
+            refusal.clash = Some(Clash {
                 subject: [0; 7],
                 predicate: 0,
                 objects: [[0; 7], [1; 7]],
@@ -295,21 +326,90 @@ fn a_clash_with_another_refusal_is_noticed() {
 }
 
 #[test]
-fn another_answer_the_second_time_is_noticed() {
-    // Both orders of the objects are right, but not one and then the other.
-    let mut calls = 0;
-    let said = said(&clashing(), |_, answer, _| {
-        if let Err(ciravehy::Refusal {
-            clash: Some(clash), ..
-        }) = answer
-        {
-            calls += 1;
-            if calls == 3 {
-                clash.objects.swap(0, 1);
-            }
+fn another_clash_than_the_first_is_noticed() {
+    // Another predicate or subject, the objects exchanged, other objects.
+    let others = [
+        clash(1, [0, 1]),
+        clash(2, [0, 1]),
+        clash(0, [1, 0]),
+        clash(0, [0, 2]),
+        clash(0, [1, 2]),
+    ];
+    for wrong in [Call::Build, Call::YesNo, Call::Pairs] {
+        for other in &others {
+            let said = said(&encode(&several()), |call, answer, _| match answer {
+                Err(refusal) if call == wrong => refusal.clash = Some(other.clone()),
+                _ => {}
+            });
+            let start = format!("{wrong}, exact lengths: the clash is");
+            assert!(said.starts_with(&start), "{said}");
         }
-    });
-    assert!(said.starts_with("build: first"), "{said}");
+    }
+}
+
+#[test]
+fn another_answer_in_a_later_call_is_noticed() {
+    let starts = ["build, exact ", "build, nodes=", "small numbers in the "];
+    for (wrong, start) in starts.into_iter().enumerate() {
+        let mut calls = 0;
+        let said = said(&clashing(), |_, answer, _| {
+            if let Err(Refusal {
+                clash: Some(clash), ..
+            }) = answer
+            {
+                if calls == wrong {
+                    clash.objects.swap(0, 1);
+                }
+                calls += 1;
+            }
+        });
+        assert!(said.starts_with(start), "{said}");
+        assert!(said.contains("lengths: the clash is"), "{said}");
+    }
+}
+
+#[test]
+fn an_answer_that_depends_on_what_a_buffer_held_is_noticed() {
+    let first = clash(0, [0, 1]);
+    let second = clash(1, [0, 1]);
+    // By the first entry: 1 gives another clash, or the entry is a place.
+    let one = vec![first.clone(), second.clone(), first.clone()];
+    let place = vec![first, second, clash(2, [0, 1])];
+    for (buffer, name) in NAMES.into_iter().enumerate() {
+        for clashes in [&one, &place] {
+            let noticed = (0..24).filter_map(|seed| {
+                let clashes = clashes.clone();
+                let calls = Peeking { buffer, clashes };
+                compare_seed(seed, calls, &encode(&several())).err()
+            });
+            let small = |said: &String| said.starts_with("small numbers in the buffers, ");
+            assert!(noticed.filter(small).count() > 2, "{name}");
+        }
+    }
+}
+
+#[test]
+fn small_numbers_are_lent_between_large_ones() {
+    type Fault = fn(&mut Lent);
+    let random = &mut Random::new(3);
+    let mut buffers = Buffers::guarded();
+    let faults: [(Fault, &str); 3] = [
+        (Lent::touch_before, "guard entry 1 before it"),
+        (Lent::touch_behind, "guard entry 1 behind it"),
+        (|lent| lent.bytes()[0] ^= 1, "entry 0 is"),
+    ];
+    for (fault, entry) in faults {
+        buffers.lend(&longer(random), Place::Within, random);
+        buffers.fill(Call::Pairs, Numbers::Small, random);
+        for lent in &mut buffers.lent {
+            assert!(lent.entries().next() < Some(40));
+            assert!(lent.entries().all(|number| number < 40 + 64));
+            assert_eq!(lent.check(Left::Kept), Ok(()));
+            fault(lent);
+            let said = lent.check(Left::Kept).unwrap_err();
+            assert!(said.contains(entry), "{said}");
+        }
+    }
 }
 
 #[test]

@@ -4,6 +4,7 @@
 //! each for a chosen reason, or damaged at random.
 
 mod broken;
+mod clashes;
 mod limits;
 mod queries;
 mod random;
@@ -27,10 +28,20 @@ pub struct Case {
     pub text: Vec<u8>,
 }
 
+/// The seeds below this one give what they have always given: `call_cases`
+/// holds some of their cases.
+const KEPT: u64 = 1_000;
+
 /// The case of a seed.
 pub fn case(seed: u64) -> Case {
     let random = &mut Random::new(seed);
-    let (family, pack, bytes) = random_pack(random);
+    let (family, pack, bytes) = if seed >= KEPT && seed.is_multiple_of(16) {
+        let pack = clashes::several_clashes(random);
+        let bytes = encode(&pack);
+        ("several clashes", pack, bytes)
+    } else {
+        random_pack(random)
+    };
     let query = queries::query(random, &pack, &bytes);
     let text = texts::text(random, &pack);
     Case {
@@ -94,6 +105,8 @@ fn random_pack(random: &mut Random) -> (&'static str, Pack, Vec<u8>) {
 #[cfg(test)]
 mod tests {
     use super::*;
+    use crate::graph::all_clashing;
+    use crate::pack::well_formed;
     use std::collections::BTreeSet;
 
     #[test]
@@ -102,6 +115,18 @@ mod tests {
             assert_eq!(case(seed), case(seed));
         }
         assert_ne!(case(1), case(2));
+    }
+
+    #[test]
+    fn several_clashes_occur() {
+        let mut several = 0;
+        for seed in (KEPT.next_multiple_of(16)..).step_by(16).take(200) {
+            let case = case(seed);
+            assert_eq!(case.family, "several clashes");
+            let clashing = all_clashing(&well_formed(&case.pack).unwrap());
+            several += usize::from(clashing.len() > 1 && clashing[0].objects.len() > 2);
+        }
+        assert!(several > 60);
     }
 
     #[test]

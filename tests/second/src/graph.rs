@@ -47,12 +47,17 @@ struct Core {
 
 /// Builds the graph of a well-formed pack that keeps its dependencies.
 pub fn build(pack: &Pack) -> Result<Graph, Refusal> {
-    let mut core = apply_rules(pack)?;
-    spread_types(pack, &mut core);
+    let core = core(pack)?;
     check_clashes(pack, &core)?;
     check_kinds(&core)?;
     let (nodes, triples) = invent(pack, &core)?;
     Ok(lists(&nodes, &triples))
+}
+
+fn core(pack: &Pack) -> Result<Core, Refusal> {
+    let mut core = apply_rules(pack)?;
+    spread_types(pack, &mut core);
+    Ok(core)
 }
 
 // ---------------------------------------------------------------- the rules
@@ -291,8 +296,47 @@ fn targets(pack: &Pack, types: &Types, predicate: u8) -> Types {
 
 // ------------------------------------------------------- refusals 10 and 11
 
-/// Refusal 10.
+/// A core node and a predicate of which it has too many objects, with all
+/// those objects in node order.
+#[derive(Clone, Debug, PartialEq, Eq)]
+pub struct Clashing {
+    pub subject: NodeRecord,
+    pub predicate: u16,
+    pub objects: Vec<NodeRecord>,
+}
+
+impl Clashing {
+    /// What is shown of it: the two lowest objects, the lower first.
+    fn shown(&self) -> Clash {
+        Clash {
+            subject: self.subject,
+            predicate: self.predicate,
+            objects: [self.objects[0], self.objects[1]],
+        }
+    }
+}
+
+/// Refusal 10, with the first clash.
 fn check_clashes(pack: &Pack, core: &Core) -> Result<(), Refusal> {
+    match clashing(pack, core).first() {
+        None => Ok(()),
+        Some(first) => Err(Refusal {
+            number: 10,
+            clash: Some(first.shown()),
+        }),
+    }
+}
+
+/// Every node and predicate of a well-formed pack's core that clash; none
+/// if the core is too large.
+pub fn all_clashing(pack: &Pack) -> Vec<Clashing> {
+    core(pack).map_or(Vec::new(), |core| clashing(pack, &core))
+}
+
+/// Every node and predicate that clash, in node order and then by
+/// predicate. The triples stand in this order, and those of one node and
+/// predicate in node order of their objects.
+fn clashing(pack: &Pack, core: &Core) -> Vec<Clashing> {
     let mut objects: BTreeMap<(&Node, u8), Vec<&Node>> = BTreeMap::new();
     for (subject, predicate, object) in &core.triples {
         objects
@@ -300,28 +344,25 @@ fn check_clashes(pack: &Pack, core: &Core) -> Result<(), Refusal> {
             .or_default()
             .push(object);
     }
-    let mut clashes = Vec::new();
-    for ((node, predicate), objects) in objects {
-        let at_most_one = core.types[node]
-            .iter()
-            .any(|type_number| matches!(shape(pack, *type_number, predicate), Some((_, 1 | 2))));
-        if objects.len() > 1 && at_most_one {
-            let record_of = |node: &Node| record(node, &core.types[node]);
-            clashes.push(Clash {
-                node: record_of(node),
+    let record_of = |node: &Node| record(node, &core.types[node]);
+    let mut clashing = Vec::new();
+    for ((subject, predicate), objects) in objects {
+        if objects.len() > 1 && allows_one(pack, &core.types[subject], predicate) {
+            clashing.push(Clashing {
+                subject: record_of(subject),
                 predicate: u16::from(predicate),
                 objects: objects.into_iter().map(record_of).collect(),
             });
         }
     }
-    if clashes.is_empty() {
-        Ok(())
-    } else {
-        Err(Refusal {
-            number: 10,
-            clashes,
-        })
-    }
+    clashing
+}
+
+/// Whether some type of the set allows at most one object.
+fn allows_one(pack: &Pack, types: &Types, predicate: u8) -> bool {
+    types
+        .iter()
+        .any(|type_number| matches!(shape(pack, *type_number, predicate), Some((_, 1 | 2))))
 }
 
 /// Refusal 11 as far as core nodes go.
@@ -475,6 +516,47 @@ mod tests {
                 }
             }
             compared += 1;
+        }
+        assert!(compared > 200);
+    }
+
+    /// The first clash: over every two objects, in order, of each node and
+    /// predicate of which a type of the node allows at most one.
+    fn first_clash_plainly(pack: &Pack, core: &Core) -> Option<Clash> {
+        let mut clashes = Vec::new();
+        for (subject, predicate, object) in &core.triples {
+            for (other_subject, other_predicate, other) in &core.triples {
+                let joined = subject == other_subject && predicate == other_predicate;
+                if joined && object < other && allows_one(pack, &core.types[subject], *predicate) {
+                    clashes.push((subject, *predicate, object, other));
+                }
+            }
+        }
+        let (subject, predicate, lower, higher) = clashes.into_iter().min()?;
+        Some(Clash {
+            subject: record(subject, &core.types[subject]),
+            predicate: u16::from(predicate),
+            objects: [lower, higher].map(|object| record(object, &core.types[object])),
+        })
+    }
+
+    #[test]
+    fn the_clash_shown_is_the_first() {
+        let mut compared = 0;
+        for seed in (0..3_000).chain((3_008..12_000).step_by(16)) {
+            let Ok(pack) = well_formed(&case(seed).pack) else {
+                continue;
+            };
+            let Ok(core) = core(&pack) else {
+                continue;
+            };
+            if core.triples.len() > 150 {
+                continue;
+            }
+            let plain = first_clash_plainly(&pack, &core);
+            let shown = check_clashes(&pack, &core).err();
+            compared += usize::from(shown.is_some());
+            assert_eq!(shown.and_then(|refusal| refusal.clash), plain);
         }
         assert!(compared > 200);
     }

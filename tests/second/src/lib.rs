@@ -1,7 +1,8 @@
 //! A second, independent program for packs, graphs and certain answers.
 //!
-//! It is written from the scope document alone and follows its wording as
-//! directly as possible. It is meant for comparison, not for speed.
+//! It is written from the scope document and the change requests alone and
+//! follows their wording as directly as possible. It is meant for
+//! comparison, not for speed.
 
 pub mod answer;
 pub mod encode;
@@ -15,20 +16,21 @@ pub mod vectors;
 
 pub use graph::{Graph, NodeRecord, TripleRecord};
 
-/// A refusal: its number and, for number 10 only, every clash of the core.
+/// A refusal: its number and, for number 10 only, the first clash of the
+/// core.
 #[derive(Clone, Debug, PartialEq, Eq)]
 pub struct Refusal {
     pub number: u8,
-    pub clashes: Vec<Clash>,
+    pub clash: Option<Clash>,
 }
 
-/// A core node and a predicate of which it has too many objects, with all
-/// those objects in node order. Any two of them are a right answer.
-#[derive(Clone, Debug, PartialEq, Eq, PartialOrd, Ord)]
+/// A core node, a predicate of which it has too many objects, and the two
+/// lowest of them, the lower first.
+#[derive(Clone, Debug, PartialEq, Eq)]
 pub struct Clash {
-    pub node: NodeRecord,
+    pub subject: NodeRecord,
     pub predicate: u16,
-    pub objects: Vec<NodeRecord>,
+    pub objects: [NodeRecord; 2],
 }
 
 impl Refusal {
@@ -36,7 +38,7 @@ impl Refusal {
     pub fn new(number: u8) -> Refusal {
         Refusal {
             number,
-            clashes: Vec::new(),
+            clash: None,
         }
     }
 }

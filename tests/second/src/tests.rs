@@ -5,7 +5,9 @@ use crate::generate::{pairs_pack, product_pack, sample};
 use crate::graph::UNUSED;
 use crate::pack::{Head, Pack, Term, LITERAL};
 use crate::records::{row, shape};
-use crate::{build, certain, less_line_feed, pairs, read_back, yes_no, Graph};
+use crate::{build, certain, less_line_feed, pairs, read_back, yes_no, Clash, Graph};
+
+mod first_clash;
 
 fn graph(pack: &Pack) -> Graph {
     build(&encode(pack)).unwrap()
@@ -113,14 +115,13 @@ fn a_second_name_breaks_the_dependency_or_clashes() {
     pack.dependencies.clear();
     let refusal = build(&encode(&pack)).unwrap_err();
     assert_eq!(refusal.number, 10);
-    assert_eq!(refusal.clashes.len(), 1);
     let u = UNUSED;
-    assert_eq!(refusal.clashes[0].node, [0, 0, 1, 0, u, u, u]);
-    assert_eq!(refusal.clashes[0].predicate, 0);
-    assert_eq!(
-        refusal.clashes[0].objects,
-        [[1, 1, 0, u, u, u, u], [1, 2, 0, u, u, u, u]]
-    );
+    let clash = Clash {
+        subject: [0, 0, 1, 0, u, u, u],
+        predicate: 0,
+        objects: [[1, 1, 0, u, u, u, u], [1, 2, 0, u, u, u, u]],
+    };
+    assert_eq!(refusal.clash, Some(clash));
     assert_eq!(yes_no(&encode(&pack), b"name").unwrap_err(), refusal);
     assert_eq!(pairs(&encode(&pack), b"name").unwrap_err(), refusal);
 }
@@ -335,12 +336,12 @@ fn clashes_are_sought_after_types_have_spread() {
     let refusal = build(&encode(&pack)).unwrap_err();
     assert_eq!(refusal.number, 10);
     let u = UNUSED;
-    assert_eq!(refusal.clashes.len(), 1);
-    assert_eq!(refusal.clashes[0].node, [0, 1, 2, 2, u, u, u]);
-    assert_eq!(
-        refusal.clashes[0].objects,
-        [[0, 0, 1, 0, u, u, u], [0, 0, 1, 1, u, u, u]]
-    );
+    let clash = Clash {
+        subject: [0, 1, 2, 2, u, u, u],
+        predicate: 2,
+        objects: [[0, 0, 1, 0, u, u, u], [0, 0, 1, 1, u, u, u]],
+    };
+    assert_eq!(refusal.clash, Some(clash));
 }
 
 #[test]

@@ -1,6 +1,7 @@
-//! Written cases: reading the form that `tests/vectors` describes, and the
+//! Written cases: reading the forms that `tests/vectors` describes, and the
 //! answers of the four calls as one value.
 
+use crate::graph::Clashing;
 use crate::{Clash, Graph, NodeRecord, Refusal};
 use std::path::Path;
 
@@ -21,6 +22,9 @@ pub struct Written {
     pub query: Vec<u8>,
     pub text: Vec<u8>,
     pub answers: Answers,
+    /// What `certain` prints if the query is its standard input, where the
+    /// case says so.
+    pub certain: Option<String>,
 }
 
 /// A pack, a query less its final line feed, and what `certain` prints.
@@ -39,24 +43,6 @@ pub fn answers(pack: &[u8], query: &[u8], text: &[u8]) -> Answers {
         yes_no: crate::yes_no(pack, query),
         pairs: crate::pairs(pack, query),
         read_back: crate::read_back(pack, text),
-    }
-}
-
-impl Answers {
-    /// The clashes are a set, and so are the objects of each: in order.
-    pub fn ordered(mut self) -> Answers {
-        let refusals = [
-            self.build.as_mut().err(),
-            self.yes_no.as_mut().err(),
-            self.pairs.as_mut().err(),
-        ];
-        for refusal in refusals.into_iter().flatten() {
-            for clash in &mut refusal.clashes {
-                clash.objects.sort();
-            }
-            refusal.clashes.sort();
-        }
-        self
     }
 }
 
@@ -103,13 +89,21 @@ impl<'a> Lines<'a> {
         Ok(line.strip_prefix("ok ").expect("`ok` or `refused`"))
     }
 
-    /// The clash lines stand after build; the other calls have the same.
+    /// The clash lines stand after build; the other calls show the same.
     fn refusal(&self, number: u16) -> Refusal {
         let mut refusal = Refusal::new(number as u8);
         if number == 10 {
-            refusal.clashes = self.all("clash").into_iter().map(clash).collect();
+            let lines = self.all("clash").into_iter().map(clashing).collect();
+            let older = self.certain().is_none();
+            refusal.clash = Some(if older { lowest(lines) } else { only(lines) });
         }
         refusal
+    }
+
+    /// What `certain` prints, in a case that says so.
+    fn certain(&self) -> Option<String> {
+        let bytes = from_hex(self.all("certain").first()?);
+        Some(String::from_utf8(bytes).expect("text"))
     }
 }
 
@@ -145,20 +139,54 @@ fn read_case(lines: &[&str]) -> Written {
         query: from_hex(lines.one("query")),
         text: from_hex(lines.one("text")),
         answers,
+        certain: lines.certain(),
     }
 }
 
+/// The clash of a case that says what `certain` prints: its one line, as it
+/// stands.
+fn only(mut lines: Vec<Clashing>) -> Clash {
+    assert_eq!(lines.len(), 1, "one clash line");
+    clash(lines.remove(0))
+}
+
+/// The first clash of an older case, which lists every node and predicate
+/// that clash, with all their objects.
+fn lowest(mut lines: Vec<Clashing>) -> Clash {
+    lines.sort_by_key(|line| (place(&line.subject), line.predicate));
+    let mut line = lines.remove(0);
+    line.objects.sort_by_key(place);
+    line.objects.truncate(2);
+    clash(line)
+}
+
+fn clash(line: Clashing) -> Clash {
+    Clash {
+        subject: line.subject,
+        predicate: line.predicate,
+        objects: line.objects.try_into().expect("two objects"),
+    }
+}
+
+/// Orders records of core nodes as node order does, which leaves out the
+/// type set: by kind, then by constructor and arguments or by value.
+fn place(node: &NodeRecord) -> [u16; 6] {
+    let [kind, number, _, arguments @ ..] = *node;
+    let [a, b, c, d] = arguments;
+    [kind, number, a, b, c, d]
+}
+
 /// `K C T A0 A1 A2 A3 pred P objects COUNT : K C T A0 A1 A2 A3 , ...`
-fn clash(line: &str) -> Clash {
-    let (node, rest) = line.split_once(" pred ").expect("a predicate");
+fn clashing(line: &str) -> Clashing {
+    let (subject, rest) = line.split_once(" pred ").expect("a predicate");
     let (predicate, rest) = rest.split_once(" objects ").expect("objects");
     let (count, objects) = rest.split_once(" : ").expect("a count");
     let objects: Vec<NodeRecord> = objects.split(" , ").map(numbers).collect();
     let [predicate] = numbers(predicate);
     let [count] = numbers(count);
     assert_eq!(objects.len(), usize::from(count), "{line}");
-    Clash {
-        node: numbers(node),
+    Clashing {
+        subject: numbers(subject),
         predicate,
         objects,
     }
@@ -207,29 +235,72 @@ pub fn read_directory(directory: &Path) -> Vec<Printed> {
 #[cfg(test)]
 mod tests {
     use super::*;
+    use crate::{certain, less_line_feed};
 
     fn directory() -> std::path::PathBuf {
         Path::new(env!("CARGO_MANIFEST_DIR")).join("../vectors")
     }
 
+    fn compare(file: &str) -> Vec<Written> {
+        let cases = read_file(&directory().join(file));
+        for case in &cases {
+            let found = answers(&case.pack, &case.query, &case.text);
+            assert_eq!(found, case.answers, "{}", case.title);
+        }
+        cases
+    }
+
     #[test]
     fn the_written_cases_are_this_programs_answers() {
-        let cases = read_file(&directory().join("cases.txt"));
+        let cases = compare("cases.txt");
         assert!(cases.len() > 500);
+        assert!(cases.iter().all(|case| case.certain.is_none()));
+    }
+
+    #[test]
+    fn so_are_those_with_a_first_clash_and_what_certain_prints() {
+        let cases = compare("card-08.txt");
+        assert_eq!(cases.len(), 300);
         for case in cases {
-            let found = answers(&case.pack, &case.query, &case.text);
-            assert_eq!(found.ordered(), case.answers.ordered(), "{}", case.title);
+            let found = certain(&case.pack, less_line_feed(&case.query));
+            assert_eq!(Some(found), case.certain, "{}", case.title);
         }
+    }
+
+    /// A node of a kind, with a number, a type set and one argument.
+    fn node(kind: u16, number: u16, types: u16, argument: u16) -> NodeRecord {
+        [kind, number, types, argument, 5, 5, 5]
     }
 
     #[test]
     fn a_clash_line_is_read() {
-        let line = "0 0 1 0 5 5 5 pred 3 objects 2 : 1 7 0 5 5 5 5 , 1 8 0 5 5 5 5";
-        let expected = Clash {
-            node: [0, 0, 1, 0, 5, 5, 5],
-            predicate: 3,
-            objects: vec![[1, 7, 0, 5, 5, 5, 5], [1, 8, 0, 5, 5, 5, 5]],
+        let line = "0 0 1 0 5 5 5 pred 3 objects 2 : 1 8 0 5 5 5 5 , 1 7 0 5 5 5 5";
+        let read = clashing(line);
+        let objects = [node(1, 8, 0, 5), node(1, 7, 0, 5)];
+        assert_eq!(read.subject, node(0, 0, 1, 0));
+        assert_eq!(read.predicate, 3);
+        assert_eq!(read.objects, objects);
+        assert_eq!(only(vec![read]).objects, objects);
+    }
+
+    #[test]
+    fn the_first_clash_of_several_lines_is_taken() {
+        let line = |subject, predicate, objects: &[NodeRecord]| Clashing {
+            subject,
+            predicate,
+            objects: objects.to_vec(),
         };
-        assert_eq!(clash(line), expected);
+        let (low, high) = (node(0, 1, 9, 2), node(0, 1, 4, 3));
+        let (iri, literal) = (node(0, 7, 1, 0), node(1, 0, 0, 5));
+        let objects = [literal, high, iri, low];
+        let clash = lowest(vec![
+            line(high, 0, &objects),
+            line(low, 2, &objects),
+            line(low, 1, &objects),
+        ]);
+        assert_eq!((clash.subject, clash.predicate), (low, 1));
+        assert_eq!(clash.objects, [low, high]);
+        let clash = lowest(vec![line(low, 1, &[literal, iri])]);
+        assert_eq!(clash.objects, [iri, literal]);
     }
 }

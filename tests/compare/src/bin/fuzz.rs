@@ -1,16 +1,17 @@
 //! Fuzzing: random and damaged inputs, buffers of random lengths, each next
 //! to a page that stops whoever touches it, or exactly as long as its
-//! allocation. Every call is made twice and compared with the second
-//! program.
+//! allocation. Every call is made twice, with large and with small numbers
+//! in the buffers, and compared with the second program.
 //!
 //! Arguments: for how many seconds, and the first seed; or `one` and a
 //! seed. A seed fixes all that is done for it.
 
-use compare::buffers::{longer, shorter, Buffers, Lengths, Place, COUNT, NEEDED};
+use compare::buffers::{enough, shorter, Buffers, Lengths, Place, COUNT};
 use compare::calls::{Call, Proved};
 use compare::command::{arguments, ended, Arguments};
 use compare::driver::{Case, Driver};
 use compare::inputs::{inputs, Inputs, Room};
+use compare::lent::Numbers;
 use second::generate::Random;
 use second::vectors::answers;
 use std::ffi::{c_int, c_void};
@@ -77,7 +78,9 @@ fn fuzz_seed(driver: &mut Driver<Proved>, seed: u64) -> Result<(), String> {
     driver.random = random.clone();
     let input = room.put(&inputs, place);
     for call in Call::ALL {
-        let _answer = driver.twice(call, &lengths, Case { input, answers })?;
+        for numbers in [Numbers::Large, Numbers::Small] {
+            driver.filled(call, &lengths, numbers, Case { input, answers })?;
+        }
         if (input.pack, input.query, input.text) != (pack, query, text) {
             return Err(format!("{call}: the inputs are changed"));
         }
@@ -87,11 +90,7 @@ fn fuzz_seed(driver: &mut Driver<Proved>, seed: u64) -> Result<(), String> {
 
 /// Long enough in most cases; else some buffers are shorter.
 fn lengths(random: &mut Random) -> Lengths {
-    let mut lengths = if random.percent(50) {
-        NEEDED
-    } else {
-        longer(random)
-    };
+    let mut lengths = enough(random);
     if random.percent(20) {
         for buffer in 0..COUNT {
             if random.percent(25) {

@@ -4,7 +4,7 @@
 //! NAME.query and NAME.certain. Ends with a failure if anything differs.
 
 use second::vectors::{answers, read_directory, read_file};
-use second::Refusal;
+use second::{less_line_feed, Refusal};
 use std::collections::BTreeMap;
 use std::fmt::Debug;
 use std::path::Path;
@@ -66,8 +66,8 @@ fn compare_file(path: &Path, tally: &mut Tally) {
     let cases = read_file(path);
     println!("{}: {} cases", path.display(), cases.len());
     for case in cases {
-        let found = answers(&case.pack, &case.query, &case.text).ordered();
-        let expected = case.answers.ordered();
+        let found = answers(&case.pack, &case.query, &case.text);
+        let expected = case.answers;
         let title = &case.title;
         let named = outcome("build", &expected.build, |_| "ok");
         tally.compare(title, named, [&expected.build, &found.build]);
@@ -78,6 +78,10 @@ fn compare_file(path: &Path, tally: &mut Tally) {
         tally.compare(title, named, [&expected.pairs, &found.pairs]);
         let named = outcome("readback", &expected.read_back, |_| "ok");
         tally.compare(title, named, [&expected.read_back, &found.read_back]);
+        if let Some(expected) = &case.certain {
+            let found = second::certain(&case.pack, less_line_feed(&case.query));
+            tally.compare(title, "certain".to_string(), [expected, &found]);
+        }
     }
 }
 

@@ -2,6 +2,7 @@
 
 use super::Random;
 use crate::encode::encode;
+use crate::graph::all_clashing;
 use crate::pack::{
     keeps_dependencies, Atom, Constructor, Dependency, Head, Pack, Row, Rule, Shape, Term, LITERAL,
 };
@@ -111,22 +112,25 @@ pub fn satisfiable(random: &mut Random) -> Pack {
     let mut pack = free(random, 12);
     for _ in 0..24 {
         match crate::build(&encode(&pack)) {
-            Err(refusal) if refusal.number == 10 => {
-                for clash in &refusal.clashes {
-                    for shape in pack.shapes.iter_mut() {
-                        let of_node = clash.node[2] >> shape.type_number & 1 == 1;
-                        if of_node && u16::from(shape.predicate) == clash.predicate {
-                            // 1 becomes 4 and 2 becomes 3.
-                            shape.multiplicity = [0, 4, 3, 3, 4][usize::from(shape.multiplicity)];
-                        }
-                    }
-                }
-            }
+            Err(refusal) if refusal.number == 10 => loosen(&mut pack),
             Err(refusal) if refusal.number == 11 => pack = free(random, 12),
             _ => break,
         }
     }
     pack
+}
+
+/// Loosens each multiplicity for which some node has too many objects.
+fn loosen(pack: &mut Pack) {
+    for clashing in all_clashing(pack) {
+        for shape in pack.shapes.iter_mut() {
+            let of_subject = clashing.subject[2] >> shape.type_number & 1 == 1;
+            if of_subject && u16::from(shape.predicate) == clashing.predicate {
+                // 1 becomes 4 and 2 becomes 3.
+                shape.multiplicity = [0, 4, 3, 3, 4][usize::from(shape.multiplicity)];
+            }
+        }
+    }
 }
 
 /// A well-formed pack that mostly keeps its dependencies. In so many cases

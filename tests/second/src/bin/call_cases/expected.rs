@@ -114,14 +114,12 @@ fn pair_list(pairs: &[[u16; 2]]) -> String {
     count + &lines
 }
 
-/// The clash of 10. Any clash is right. The other program looks at the
-/// triples in order, so it shows the first node in node order that clashes,
-/// of that node the lowest predicate, and the two lowest objects.
+/// The clash of 10.
 fn clash(refusal: &Refusal) -> String {
-    let Some(clash) = refusal.clashes.first() else {
+    let Some(clash) = &refusal.clash else {
         return String::new();
     };
-    let mut numbers = clash.node.to_vec();
+    let mut numbers = clash.subject.to_vec();
     numbers.push(clash.predicate);
     numbers.extend(clash.objects[0]);
     numbers.extend(clash.objects[1]);
