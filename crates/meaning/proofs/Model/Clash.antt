@@ -251,7 +251,12 @@ module _ (P : Pack) where
     shown : (c : Clash) (s : IsFirst clashFrom Before subjects c) → IsFirst (clashAt (s .at)) Below predicates c → Shown c
     shown c s q = record {
       clash = clash;
-      is-first = record { lowest-subject = λ d. subject-least d (s .lowest (d .subject) (subject-in (d .edge₁))); lowest-predicate = λ d e. predicate-least d e (q .lowest (d .predicate) (predicate-in (d .edge₁))); lowest-objects = here-found .lowest; lower-first = here-found .lower };
+      is-first = record {
+        lowest-subject = λ d. subject-least d (s .lowest (d .subject) (subject-in (d .edge₁)));
+        lowest-predicate = λ d e. predicate-least d e (q .lowest (d .predicate) (predicate-in (d .edge₁)));
+        lowest-objects = here-found .lowest;
+        lower-first = here-found .lower;
+      };
       subject-is = ap (λ (x : Clash). x .subject) (sym (here-found .is));
       predicate-is = ap (λ (x : Clash). x .predicate) (sym (here-found .is));
       first-is = refl;
