@@ -32,7 +32,7 @@ use Rattle.shapes.specs.Shapes.{SomePasses}
 
 module _ (table : List (List ℕ)) (triples masks : List ℕ) where
   -- two of one origin clash if their subject is limited
-  pub same-clashes : (i : ℕ) (r : Bool) → SameOrigin table triples masks i → LimitedAt table triples masks i r → Clashes table triples masks i r
+  pub same-clashes : (i : ℕ) (r : Bool) → SameOrigin triples i → LimitedAt table triples masks i r → Clashes table triples masks i r
   same-clashes i true e l = (e, l)
   same-clashes i false e l = λ _. l
 

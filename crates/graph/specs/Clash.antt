@@ -15,17 +15,20 @@ use Rattle.sets.specs.declared.ordered.Found.{Found}
 use Rattle.sets.specs.declared.ordered.Found.the-variants.{At, Nothing}
 use Rattle.shapes.specs.Shapes.{SomePasses}
 
--- "a core node has two p-objects and a type with multiplicity 1 or 2 for p": the triple at a place and the one before
-module _ (table : List (List ℕ)) (triples masks : List ℕ) (i : ℕ) where
-  abbrev pub SameOrigin : Type 0
-  SameOrigin = originOf (getD triples (i - 1) 0) ≡ originOf (getD triples i 0)
+-- ---- "a core node has two p-objects and a type with multiplicity 1 or 2 for p": the triple at a place and the one before
 
+abbrev pub SameOrigin : List ℕ → ℕ → Type 0
+SameOrigin triples i = originOf (getD triples (i - 1) 0) ≡ originOf (getD triples i 0)
+
+module _ (table : List (List ℕ)) (triples masks : List ℕ) (i : ℕ) where
   abbrev pub LimitedAt : Bool → Type 0
   LimitedAt r = SomePasses limits table (getD masks (subjectOf (getD triples i 0)) 0) (predicateOf (getD triples i 0)) r
 
   abbrev pub Clashes : Bool → Type 0
-  Clashes true = SameOrigin × LimitedAt true
-  Clashes false = SameOrigin → LimitedAt false
+  Clashes true = SameOrigin triples i × LimitedAt true
+  Clashes false = SameOrigin triples i → LimitedAt false
+
+-- ---- the search
 
 -- The triples at a place and the next are the first clash.
 pub record ClashAt (P : Pack) (nodes triples : List ℕ) (i : ℕ) : Type 0 where
@@ -45,7 +48,8 @@ module _ (table : List (List ℕ)) (nodes triples masks : List ℕ) where
   ClashShown (At i) = (P : Pack) → Input P table nodes triples masks → ClashAt P nodes triples i
   ClashShown Nothing = (P : Pack) → Input P table nodes triples masks → ¬ TwoObjects P
 
--- "one such node, predicate and two objects are given, the nodes as node records of the core": 22 numbers
+-- ---- "one such node, predicate and two objects are given, the nodes as node records of the core": 22 numbers
+
 pub record ClashWritten (P : Pack) (out out′ : List ℕ) : Type 0 where
   pub subject : List ℕ
   pub predicate : ℕ

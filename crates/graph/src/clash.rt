@@ -10,7 +10,7 @@ use sets::ordered::Found;
 use shapes::limited;
 
 // Whether the triple at a place and the one before clash: they have one subject and predicate, which a type limits to one object.
-pub fn clashes(shapes: &[[u16; 12]; 8], triples: &[u64], masks: &[u16], i: usize) -> bool
+fn clashes(shapes: &[[u16; 12]; 8], triples: &[u64], masks: &[u16], i: usize) -> bool
     requires { ⌜ (0 < i) × (i < length (now triples)) × (subjectOf (getD (now triples) i 0) < length (now masks)) × (predicateOf (getD (now triples) i 0) < maxPredicates) ⌝ }
     ensures { λ r. ⌜ Clashes (now (shapes .entry)) (now (triples .entry)) (now (masks .entry)) i r ⌝ }
 {
