@@ -49,7 +49,8 @@ extern "C" {
 #define CIRAVEHY_NODES 0   /* the node count; 0 where refused */
 #define CIRAVEHY_TRIPLES 1 /* the triple count; 0 where refused */
 #define CIRAVEHY_ANSWER 2  /* yes/no: 1 for yes, 0 for no; pairs: the pair count; else 0 */
-/* The clash of refusal 10, zero otherwise: a node, a predicate, two objects. A node is seven numbers. */
+/* The clash of refusal 10, zero otherwise: a node, a predicate, two objects. A node is seven numbers. It is the first: lowest node
+ * in node order, lowest predicate, its two lowest objects, the lower first. */
 #define CIRAVEHY_CLASH_SUBJECT 3
 #define CIRAVEHY_CLASH_PREDICATE 10
 #define CIRAVEHY_CLASH_FIRST 11

@@ -3,15 +3,15 @@ use crate::foreign::Report;
 use std::error::Error;
 use std::fmt;
 
-/// Refusal 10's example: a node with two objects of a predicate of which its type allows one. Nodes are seven numbers: kind,
-/// constructor or value, type set, four arguments ([`crate::Node`]).
+/// The first clash of a pack that refusal 10 meets: a node with two objects of a predicate of which its type allows one. Nodes are
+/// seven numbers: kind, constructor or value, type set, four arguments ([`crate::Node`]).
 #[derive(Clone, Debug, PartialEq, Eq)]
 pub struct Clash {
-    /// The node.
+    /// The node: of those that clash, the lowest in node order.
     pub subject: [u16; 7],
-    /// The predicate's number in the pack.
+    /// The predicate's number in the pack, the lowest of the node's that clash.
     pub predicate: u16,
-    /// Its two objects.
+    /// Its two lowest objects, the lower first.
     pub objects: [[u16; 7]; 2],
 }
 

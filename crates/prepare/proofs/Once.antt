@@ -2,8 +2,9 @@
 use mathlib.Core.List.{List}
 use mathlib.Core.Path.{_≡_, sym, _∙_}
 use Prim.Native.Nat.{ℕ}
-use Rattle.construct.proofs.Once as graph
+use Rattle.construct.proofs.Once as once
 use Rattle.construct.proofs.Once.{accepted-once, not-given, not-refused, one-graph}
+use Rattle.construct.specs.Outcome as graph
 use Rattle.construct.specs.Outcome.{SomeObeys}
 use Rattle.construct.specs.declared.Constructed.{Constructed}
 use Rattle.grammar.proofs.Agree.{one-expression}
@@ -20,11 +21,16 @@ not-asked (no-query x q) e i a n o = x e i
 not-asked (no-graph f j u) e i a n o = not-refused a n o u
 
 module _ {pack query : Text} {r s : Constructed} where
+  -- a call with a query refuses the pack as build does, the clash of 10 included
+  pub as-built : graph.Refuses pack r → (e : Expr) → IsQuery query e → Refuses pack query s → r ≡ s
+  as-built u e i (no-query y p) = absurd (y e i)
+  as-built u e i (no-graph f j v) = once.one-refusal u v
+
   pub one-refusal : Refuses pack query r → Refuses pack query s → r ≡ s
   one-refusal (no-query x q) (no-query y p) = q ∙ sym p
   one-refusal (no-query x q) (no-graph f j v) = absurd (x f j)
   one-refusal (no-graph e i u) (no-query y p) = absurd (y e i)
-  one-refusal (no-graph e i u) (no-graph f j v) = graph.one-refusal u v
+  one-refusal (no-graph e i u) (no-graph f j v) = once.one-refusal u v
 
   pub not-both : {gs : List (List ℕ)} → Refuses pack query r → Gives pack query s gs → ⊥
   not-both (no-query x q) h = x (h .expression) (h .is)
