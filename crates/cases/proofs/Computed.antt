@@ -11,7 +11,7 @@ use Prim.Native.Nat.{ℕ, _≤_}
 use Rattle.access.proofs.Accepted.{WellFormed, well-formed}
 use Rattle.cases.proofs.Bounds.{is-term, not-large, not-many}
 use Rattle.cases.proofs.Run.{asked, graphOf, isTerm, listed, ofPack, onPack, onQuery, onTerm, onlyIf, refusesAs, run, shortLists, shownClash, smallCore, unless, unlessClash, withGraph}
-use Rattle.cases.specs.Says.{Call, Outcome, Says, answer, ask, ask-gives, ask-refused, build, build-gives, build-refused, check, graph, is-fine, is-refused, read, read-gives, read-refused, refused, refuses, spell, spelled}
+use Rattle.cases.specs.Says.{Call, Outcome, Says, answer, ask, ask-gives, ask-refused, build, build-gives, build-refused, check, is-fine, is-refused, read, read-gives, read-refused, refused, refuses, spell, spelled}
 use Rattle.construct.proofs.Accepted.{accepted-formed, none-obey, some-obeys}
 use Rattle.construct.specs.Outcome.{Gives, Refuses, counted, mixed-kinds, not-accepted, refusedAs, two-objects}
 use Rattle.construct.specs.declared.Constructed.{Constructed}
@@ -216,14 +216,14 @@ ask-right q s = go (expressionOf q) refl
     go : (o : Option Expr) → expressionOf q ≡ o → Right s (ask q) (onQuery o (λ e. graphOf s (asked e)))
     go none n = both-refuse (refusedAs 2) (Prepared.no-query (no-expression n) refl)
     go (some e) h =
-        with-graph s (ask q) refuses (asked e) λ P x.
+        with-graph s (ask q) pack-refused (asked e) λ P x.
         only-if s (ask q) (leb (length (pairRecords (plain P) (plain? P) P e)) maxPairs) _ λ t. says-answer s P x q e reads (leb→le _ _ t)
       where
         reads : IsQuery q e
         reads = reading q e .1 h
 
-        refuses : Refused s (ask q)
-        refuses r x = both-refuse r (Prepared.no-graph e reads x)
+        pack-refused : Refused s (ask q)
+        pack-refused r x = both-refuse r (Prepared.no-graph e reads x)
 
 read-right : (t s : Text) → Right s (read t) (run (read t) s)
 unfolding iriRead

@@ -71,13 +71,23 @@ special =
     sampleWith (ascii "a/b" ∷ [] ∷ ascii "~" ∷ (0 ∷ 255 ∷ []) ∷ []) firstDecidesSecond sampleTypes sampleShapes
     (sampleConstructors ++ constructorOf 2 (ascii "http://x/") ∷ []) sampleRules (romanRow ∷ [])
 
+-- the sample without its dependency: sty:g has three names, sty:r1 three families; rows descend
+abbrev severalClashes : Pack
+severalClashes =
+    sampleWith sampleValues [] sampleTypes sampleShapes sampleConstructors sampleRules
+    (rowOf 1 (0 ∷ 2 ∷ []) ∷ rowOf 1 (0 ∷ 1 ∷ []) ∷ rowOf 1 (0 ∷ 0 ∷ []) ∷ rowOf 0 (2 ∷ 2 ∷ []) ∷ rowOf 0 (2 ∷ 1 ∷ []) ∷ rowOf 0 (2 ∷ 0 ∷ []) ∷ romanRow ∷ [])
+
+-- an IRI over one value
+abbrev iriNode₁ : ℕ → ℕ → ℕ → List ℕ
+iriNode₁ constructor types value = 0 ∷ constructor ∷ types ∷ value ∷ unused ∷ unused ∷ unused ∷ []
+
 -- a node that has no arguments
 abbrev plainNode : ℕ → ℕ → ℕ → List ℕ
 plainNode kind number types = kind ∷ number ∷ types ∷ unused ∷ unused ∷ unused ∷ unused ∷ []
 
 -- "Nodes: 0 sty:r1, 1 Roman, 2 invented literal, 3 invented {style}, 4 invented {family}."
 abbrev sampleNodes : List (List ℕ)
-sampleNodes = (0 ∷ 0 ∷ 1 ∷ 0 ∷ unused ∷ unused ∷ unused ∷ []) ∷ plainNode 1 1 0 ∷ plainNode 2 0 0 ∷ plainNode 3 0 1 ∷ plainNode 3 0 2 ∷ []
+sampleNodes = iriNode₁ 0 1 0 ∷ plainNode 1 1 0 ∷ plainNode 2 0 0 ∷ plainNode 3 0 1 ∷ plainNode 3 0 2 ∷ []
 
 -- "Triples: 0 name 1, 0 family 4, 3 name 2, 3 family 4, 4 lead 3."
 abbrev sampleTriples : List (List ℕ)
@@ -102,7 +112,10 @@ cases =
     of sample (query "nosuch*") (answer true ((0 ∷ 0 ∷ []) ∷ (1 ∷ 1 ∷ []) ∷ [])) ∷
     -- P: "adding Style(r1,g) is 8; without the dependency, 10."
     of (twoNames firstDecidesSecond) build (refuses (refusedAs 8)) ∷
-    of (twoNames []) build (refuses (clashing (0 ∷ 0 ∷ 1 ∷ 0 ∷ unused ∷ unused ∷ unused ∷ []) 0 (plainNode 1 1 0) (plainNode 1 2 0))) ∷
+    of (twoNames []) build (refuses (clashing (iriNode₁ 0 1 0) 0 (plainNode 1 1 0) (plainNode 1 2 0))) ∷
+    -- card 8: lowest subject, then lowest predicate, then the two lowest objects
+    of severalClashes build (refuses (clashing (iriNode₁ 0 1 0) 1 (iriNode₁ 1 2 0) (iriNode₁ 1 2 1))) ∷
+    of severalClashes (query "name") (refuses (clashing (iriNode₁ 0 1 0) 1 (iriNode₁ 1 2 0) (iriNode₁ 1 2 1))) ∷
     -- P: "a rule giving sty(s) name fam(s) in place of n: 11."
     of nameIsIri build (refuses (refusedAs 11)) ∷
     -- P: "a second type on sty(s) whose shape for family is Literal 3: 11."

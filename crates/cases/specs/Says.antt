@@ -24,7 +24,7 @@ pub data Call : Type 0 where
   spell : ℕ → List ℕ → Call  -- the IRI of a constructor over values
 
 pub data Outcome : Type 0 where
-  refused : ℕ → Outcome
+  refused : ℕ → Outcome  -- by a check, or by read-back: the number
   refuses : Constructed → Outcome  -- all that a refusal answers, the clash of 10 too
   fine : Outcome  -- none of 3 to 8
   graph : List (List ℕ) → List (List ℕ) → Outcome  -- its node records and its triple records

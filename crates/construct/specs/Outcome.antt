@@ -7,8 +7,8 @@ use Prim.Native.Nat.{ℕ}
 use Rattle.calls.specs.Call.{Contents, Outcome}
 use Rattle.construct.specs.declared.Constructed.{Constructed}
 use Rattle.graph.specs.Fronts.{GraphFronts, graphLists}
-use Rattle.meaning.specs.Graph.{Graph, Obeys}
 use Rattle.meaning.specs.Clash.{ClashGiven}
+use Rattle.meaning.specs.Graph.{Graph, Obeys}
 use Rattle.meaning.specs.NoGraph.{MixedKinds, TooLarge, TwoObjects}
 use Rattle.meaning.specs.Pack.{Pack, Text}
 use Rattle.pack.specs.Checked.{accepted, firstRefusal, refused}

@@ -1,6 +1,5 @@
 -- The search for two objects of one node and predicate, side by side in the list of triples: what it finds is the first clash.
 -- Assumes nothing.
-use lib.Dec.{T}
 use lib.ListN.{getD, getElem?, length}
 use mathlib.Core.Bool.{Bool, true, false}
 use mathlib.Core.List.{List, [], _∷_}
@@ -160,7 +159,7 @@ module _ {P : Pack} {table : List (List ℕ)} {nodes triples masks : List ℕ} (
 
   -- ---- the clash found
 
-  -- the subject of the triple at j is limited
+  -- the subject of the triple with key k is limited
   limited-at : (k : ℕ) (e : EdgeAt I k) → SomePasses limits table (getD masks (subjectOf k) 0) (predicateOf k) true → Limits P (core (e .from)) (predicateOf k)
   limited-at k e l = limits-masked P (masked I (e .from) (subjectOf k) (asSubject (e .edge)) (e .from-at)) (predicateOf k) .0
       (limits-shape P (getD masks (subjectOf k) 0) (predicateOf k) .0 (l (P .setting) (shaped I) .0 tt))

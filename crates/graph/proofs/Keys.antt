@@ -13,7 +13,7 @@ use Rattle.graph.proofs.Proper.{Proper}
 use Rattle.meaning.proofs.Lists.Members.{element}
 use Rattle.meaning.proofs.Lists.Places.{inside}
 use Rattle.meaning.proofs.Lists.Sorted.{Compared, alike, compare, higher, lower}
-use Rattle.meaning.proofs.Model.Listing.{nodeKey-one}
+use Rattle.meaning.proofs.Model.Listing.{core-key-one}
 use Rattle.meaning.specs.Built.{core}
 use Rattle.meaning.specs.Core.{Node, iriNode, literalNode}
 use Rattle.meaning.specs.Listing.{_◃_, nodeKey}
@@ -75,9 +75,6 @@ packed-lt vs s = head-less 0 1 (four vs) (replicate 4 0) (lit< tt) (four-long vs
 
 -- ---- the keys
 
-core-one : {n m : Node} → core n ≡ core m → n ≡ m
-core-one e = cc
-
 module _ (P : Pack) (b : Bounded P) where
   -- a constructor's place and a node's arguments within their bounds
   pub key-less : (n m : Node) → Proper P n → Proper P m → core n ◃ core m → keyOf n < keyOf m
@@ -112,7 +109,7 @@ module _ (P : Pack) (b : Bounded P) where
     where
       go : Compared (nodeKey (core n)) (nodeKey (core m)) → core n ◃ core m
       go (lower l) = l
-      go (alike e) = let q : n ≡ m = core-one (nodeKey-one (core n) (core m) e) in absurd (let z = subst (λ k. keyOf n < keyOf k) (sym q) h in let y : ⊥ = omega arith in y)
+      go (alike e) = let q : n ≡ m = core-key-one n m e in absurd (let z = subst (λ k. keyOf n < keyOf k) (sym q) h in let y : ⊥ = omega arith in y)
       go (higher l) = absurd (let k = key-less m n y x l in let z : ⊥ = omega arith in z)
 
   pub key-one : (n m : Node) → Proper P n → Proper P m → keyOf n ≡ keyOf m → n ≡ m
@@ -120,7 +117,7 @@ module _ (P : Pack) (b : Bounded P) where
     where
       go : Compared (nodeKey (core n)) (nodeKey (core m)) → n ≡ m
       go (lower l) = absurd (let k = key-less n m x y l in let z : ⊥ = omega arith in z)
-      go (alike q) = core-one (nodeKey-one (core n) (core m) q)
+      go (alike q) = core-key-one n m q
       go (higher l) = absurd (let k = key-less m n y x l in let z : ⊥ = omega arith in z)
 
 -- an IRI's key is below those of literals

@@ -20,8 +20,8 @@ impl Entry for u64 {}
 pub enum Numbers {
     /// A pattern of which no byte is zero.
     Large,
-    /// A few numbers again and again, counting up from one below 40, mostly
-    /// below 4: such as a call might take for a place in a list, or for what
+    /// A few numbers again and again, counting up from a number below 40,
+    /// mostly below 4: such as a call might take for a place in a list, or for what
     /// it left there itself.
     Small,
 }
@@ -41,7 +41,7 @@ pub enum Left<'a> {
     Zero,
 }
 
-/// Buffers are filled and compared block by block, of so many bytes.
+/// Buffers are filled and compared block by block, of about so many bytes.
 const BLOCK: usize = 4_096;
 
 const ZERO: &[u8] = &[0; BLOCK];

@@ -54,6 +54,7 @@ pub fn build(pack: &Pack) -> Result<Graph, Refusal> {
     Ok(lists(&nodes, &triples))
 }
 
+/// The core with the types of its nodes, or refusal 9.
 fn core(pack: &Pack) -> Result<Core, Refusal> {
     let mut core = apply_rules(pack)?;
     spread_types(pack, &mut core);
@@ -297,7 +298,7 @@ fn targets(pack: &Pack, types: &Types, predicate: u8) -> Types {
 // ------------------------------------------------------- refusals 10 and 11
 
 /// A core node and a predicate of which it has too many objects, with all
-/// those objects in node order.
+/// those objects.
 #[derive(Clone, Debug, PartialEq, Eq)]
 pub struct Clashing {
     pub subject: NodeRecord,
@@ -334,8 +335,8 @@ pub fn all_clashing(pack: &Pack) -> Vec<Clashing> {
 }
 
 /// Every node and predicate that clash, in node order and then by
-/// predicate. The triples stand in this order, and those of one node and
-/// predicate in node order of their objects.
+/// predicate, the objects of each in node order: the triples stand in this
+/// order.
 fn clashing(pack: &Pack, core: &Core) -> Vec<Clashing> {
     let mut objects: BTreeMap<(&Node, u8), Vec<&Node>> = BTreeMap::new();
     for (subject, predicate, object) in &core.triples {

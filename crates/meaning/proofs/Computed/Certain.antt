@@ -10,7 +10,6 @@ use mathlib.Core.Path.{_≡_, subst, sym, _∙_}
 use Prim.Native.Nat.{ℕ}
 use Rattle.meaning.proofs.Computed.Evaluate.{Walkable, Walks, answersYes, yes-computed}
 use Rattle.meaning.proofs.Computed.Walk.{Decided, pairs-computed, pairsOf, walk, walks}
-use Rattle.meaning.proofs.Lists.Bits.{members}
 use Rattle.meaning.proofs.Lists.Members.{element, ∈-map⁻¹}
 use Rattle.meaning.proofs.Lists.Sorted.{sorted, sorted-ascending, sorted-iff}
 use Rattle.meaning.proofs.Model.Built.{builtEdges, builtNodes, enumerate}

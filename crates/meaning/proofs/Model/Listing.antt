@@ -8,7 +8,6 @@ use mathlib.Core.Option.{Option, some, Option·none-ne-some, Option·some-inject
 use mathlib.Core.Path.{_≡_, refl, sym, ap, _∙_, subst}
 use native.Mathlib.Omega.{arith}
 use Prim.Native.Nat.{ℕ, zero, suc, _<_}
-use Rattle.meaning.proofs.Lists.Bits.{members}
 use Rattle.meaning.proofs.Lists.Members.{element, ∈-map⁻¹}
 use Rattle.meaning.proofs.Lists.Ordered.{≺-irrefl}
 use Rattle.meaning.proofs.Lists.Sorted.{sorted, sorted-ascending, sorted-iff}

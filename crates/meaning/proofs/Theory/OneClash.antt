@@ -3,7 +3,7 @@ use mathlib.Core.List.{List}
 use mathlib.Core.Path.{_≡_, sym, subst, subst₂, _∙_}
 use native.Mathlib.Omega.{arith}
 use Prim.Native.Nat.{ℕ}
-use Rattle.meaning.proofs.Lists.Ordered.{≺-irrefl, ≺-trans}
+use Rattle.meaning.proofs.Lists.Ordered.{≺-trans}
 use Rattle.meaning.proofs.Lists.Sorted.{Compared, alike, compare, higher, lower}
 use Rattle.meaning.proofs.Model.Listing.{core-key-one}
 use Rattle.meaning.proofs.Theory.OneGraph.{record-unique}

@@ -52,35 +52,43 @@ fn add_shapes(random: &mut Random, pack: &mut Pack) {
     }
 }
 
-/// For each constructor: some types, and edges of some predicates to IRIs,
-/// to literals or to both.
+/// For each constructor, one or two types and some edges.
 fn add_rules(random: &mut Random, pack: &mut Pack) {
     for constructor in 0..pack.constructors.len() as u8 {
-        for _ in 0..random.between(1, 2) {
-            let columns = *random.pick(&[[0, 1], [1, 0]]);
-            let head = typed(node(pack, constructor, columns), some_type(random, pack));
+        add_types(random, pack, constructor);
+        add_edges(random, pack, constructor);
+    }
+}
+
+fn add_types(random: &mut Random, pack: &mut Pack, constructor: u8) {
+    for _ in 0..random.between(1, 2) {
+        let columns = *random.pick(&[[0, 1], [1, 0]]);
+        let head = typed(node(pack, constructor, columns), some_type(random, pack));
+        pack.rules.push(with_atoms(random, pack, head));
+    }
+}
+
+/// Edges of some predicates to IRIs, to literals or to both.
+fn add_edges(random: &mut Random, pack: &mut Pack, constructor: u8) {
+    for predicate in 0..pack.predicates.len() as u8 {
+        if random.percent(30) {
+            continue;
+        }
+        let subject = node(pack, constructor, [0, 1]);
+        if random.percent(70) {
+            let object = random.below(pack.constructors.len()) as u8;
+            let variables = *random.pick(&[[2, 0], [2, 1], [0, 2]]);
+            let object = node(pack, object, variables);
+            let head = edge(subject.clone(), predicate, object);
             pack.rules.push(with_atoms(random, pack, head));
         }
-        for predicate in 0..pack.predicates.len() as u8 {
-            if random.percent(30) {
-                continue;
-            }
-            let subject = node(pack, constructor, [0, 1]);
-            if random.percent(70) {
-                let object = random.below(pack.constructors.len()) as u8;
-                let variables = *random.pick(&[[2, 0], [2, 1], [0, 2]]);
-                let object = node(pack, object, variables);
-                let head = edge(subject.clone(), predicate, object);
-                pack.rules.push(with_atoms(random, pack, head));
-            }
-            if random.percent(70) {
-                let head = Head::Value {
-                    subject,
-                    predicate,
-                    variable: 2,
-                };
-                pack.rules.push(with_atoms(random, pack, head));
-            }
+        if random.percent(70) {
+            let head = Head::Value {
+                subject,
+                predicate,
+                variable: 2,
+            };
+            pack.rules.push(with_atoms(random, pack, head));
         }
     }
 }
