@@ -1,4 +1,5 @@
--- Document 01's cases: one table of calls and their outcomes, and one theorem: each case says what is so. Assumes nothing.
+-- The cases of document 01 and of the cards: one table of calls and their outcomes, and one theorem: each case says what is so.
+-- Assumes nothing.
 use lib.ListN.{replicate, set, take}
 use mathlib.Core.Bool.{true, false}
 use mathlib.Core.List.{List, [], _∷_, _++_, map}

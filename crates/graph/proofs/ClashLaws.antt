@@ -15,9 +15,10 @@ use Rattle.graph.specs.Input.{Input, objectOf, originOf, predicateOf, su
 use Rattle.graph.proofs.Keys.{key-less, less-key}
 use Rattle.graph.proofs.Places.{EdgeAt, at, at-is, edge-at, edge-key, limits-masked, masked, place-of, place-small, predicate-small, same-node-at, same-place, shaped, well}
 use Rattle.graph.proofs.Proper.{proper}
-use Rattle.graph.proofs.Shaped.{Limits, limits-shape}
+use Rattle.graph.proofs.Shaped.{limits-shape}
 use Rattle.meaning.proofs.Lists.Members.{element}
 use Rattle.meaning.proofs.Lists.Places.{inside, placed}
+use Rattle.meaning.proofs.Model.Clash.{Limits}
 use Rattle.meaning.specs.Built.{core}
 use Rattle.meaning.specs.Clash.{FirstClash}
 use Rattle.meaning.specs.Core.{CoreEdge, CoreNode, Node, asObject, asSubject}

@@ -13,10 +13,10 @@ use Rattle.core.specs.Keys.{keyOf, tripleKey}
 use Rattle.graph.specs.Input.{Input, Placed, objectOf, predicateOf, subjectOf}
 use Rattle.graph.proofs.Keys.{key-one}
 use Rattle.graph.proofs.Proper.{proper}
-use Rattle.graph.proofs.Shaped.{Limits}
 use Rattle.meaning.proofs.Lists.Bits.{mask-lt}
 use Rattle.meaning.proofs.Lists.Members.{element}
 use Rattle.meaning.proofs.Lists.Places.{inside, placed}
+use Rattle.meaning.proofs.Model.Clash.{Limits}
 use Rattle.meaning.proofs.Model.Resolved.{Resolved, resolved}
 use Rattle.meaning.specs.Built.{BuiltNode, HasType, PTarget, PTargets, Requires, core, invented}
 use Rattle.meaning.specs.Core.{CoreEdge, CoreNode, CoreType, Given, Node, asObject, asTyped, given, headFact, passed, typed}

@@ -3,19 +3,12 @@ use lib.Dec.{T}
 use mathlib.Core.Logic.{_↔_}
 use mathlib.Core.Path.{_≡_}
 use Prim.Native.Nat.{ℕ}
-use Rattle.meaning.specs.Built.{BuiltNode, HasType, PTarget, PTargets, Requires, invented}
-use Rattle.meaning.specs.Pack.{HasShape, Pack, Shape, Target, limits, requires, type}
+use Rattle.meaning.proofs.Model.Clash.{Limits}
+use Rattle.meaning.specs.Built.{PTarget, PTargets, Requires, invented}
+use Rattle.meaning.specs.Pack.{Pack, Target, limits, requires}
 use Rattle.meaning.specs.Tables.{setOfMask}
 use Rattle.meaning.specs.TypeSet.{_∈ₜ_}
 use Rattle.shapes.specs.Shapes.{SomeShape}
-
--- "a type with multiplicity 1 or 2 for p"
-pub record Limits (P : Pack) (b : BuiltNode) (p : ℕ) : Type 0 where
-  pub member : ℕ
-  pub shape : Shape
-  pub has : HasType P b (type member)
-  pub declared : HasShape (P .setting) member p shape
-  pub limited : T (limits (shape .multiplicity))
 
 module _ (P : Pack) (mask p : ℕ) where
   pub requires-shape : SomeShape (P .setting) mask p (λ s. T (requires (s .multiplicity))) ↔ Requires P (invented (setOfMask mask)) p

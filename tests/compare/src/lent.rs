@@ -21,8 +21,8 @@ pub enum Numbers {
     /// A pattern of which no byte is zero.
     Large,
     /// A few numbers again and again, counting up from a number below 40,
-    /// mostly below 4: such as a call might take for a place in a list, or for what
-    /// it left there itself.
+    /// mostly below 4: such as a call might take for a place in a list, or
+    /// for what it left there itself.
     Small,
 }
 

@@ -1,14 +1,10 @@
 -- The first of a list for which a partial function gives something. Assumes nothing.
 use mathlib.Core.List.{List, [], _∷_}
 use mathlib.Core.Logic.{_⊎_, inl, inr}
-use mathlib.Core.Option.{Option, none, some}
+use mathlib.Core.Option.{Option, none, some, orElse}
 use mathlib.Core.Path.{_≡_, refl, ap, _∙_}
 use Rattle.meaning.specs.Member.{_∈_, here, there}
 use Rattle.meaning.specs.Ordered.{InOrder, before}
-
-unfoldable pub orElse : {B : Type 0} → Option B → Option B → Option B
-orElse none o = o
-orElse (some b) o = some b
 
 module _ {A B : Type 0} (f : A → Option B) where
   unfoldable pub firstOf : List A → Option B

@@ -18,7 +18,7 @@ use Rattle.meaning.proofs.Model.Facts.{facts}
 use Rattle.meaning.proofs.Model.Listing.{core-key-one}
 use Rattle.meaning.proofs.Model.Resolved.{Resolved}
 use Rattle.meaning.proofs.Model.Same.{same-node}
-use Rattle.meaning.specs.Built.{core}
+use Rattle.meaning.specs.Built.{BuiltNode, HasType, core}
 use Rattle.meaning.specs.Clash.{FirstClash}
 use Rattle.meaning.specs.Core.{CoreEdge, CoreType, Fact, Node, asSubject, triple, typed}
 use Rattle.meaning.specs.Listing.{_◃_, nodeKey}
@@ -43,6 +43,14 @@ Below p q = (p ∷ []) ≺ (q ∷ [])
 
 module _ (P : Pack) where
   -- ---- a type that limits a node's objects of a predicate
+
+  -- "a type with multiplicity 1 or 2 for p"
+  pub record Limits (b : BuiltNode) (p : ℕ) : Type 0 where
+    pub member : ℕ
+    pub shape : Shape
+    pub has : HasType P b (type member)
+    pub declared : HasShape (P .setting) member p shape
+    pub limited : T (limits (shape .multiplicity))
 
   unfoldable pub bounds : Option Shape → Bool
   bounds none = false
@@ -118,25 +126,17 @@ module _ (P : Pack) where
   Shows (some c) = Shown c
 
   module _ (wf : Resolved P) where
-    -- "a type with multiplicity 1 or 2 for p"
-    record Limits (n : Node) (p : ℕ) : Type 0 where
-      member : ℕ
-      shape : Shape
-      has : CoreType P n (type member)
-      declared : HasShape (P .setting) member p shape
-      limited : T (limits (shape .multiplicity))
-
-    limited-only : (n : Node) (p : ℕ) → T (limitedAt n p) → Limits n p
+    limited-only : (n : Node) (p : ℕ) → T (limitedAt n p) → Limits (core n) p
     unfolding limitedAt limitedBy bounds
     limited-only n p h =
         let r = any-only (limitedBy p) (members (typesOf P n)) h in
         by-type (r .0) (typesOf-iff P wf n (r .0) .0 (members-only (typesOf P n) (r .0) (r .1))) (r .2)
       where
-        by-shape : (t : ℕ) → CoreType P n (type t) → (s : Option Shape) → shapeOf (P .setting) t p ≡ s → T (bounds s) → Limits n p
+        by-shape : (t : ℕ) → CoreType P n (type t) → (s : Option Shape) → shapeOf (P .setting) t p ≡ s → T (bounds s) → Limits (core n) p
         by-shape t c none d l = absurd l
         by-shape t c (some s) d l = record { member = t; shape = s; has = c; declared = record { is = d }; limited = l }
 
-        by-type : (S : Target) → CoreType P n S → T (limitedBy p S) → Limits n p
+        by-type : (S : Target) → CoreType P n S → T (limitedBy p S) → Limits (core n) p
         by-type Literal c l = absurd l
         by-type (type t) c l = by-shape t c (shapeOf (P .setting) t p) refl l
 
@@ -172,7 +172,7 @@ module _ (P : Pack) where
 
     -- what is found at a node and a predicate
     record At (n : Node) (p : ℕ) (c : Clash) : Type 0 where
-      limits : Limits n p
+      limits : Limits (core n) p
       edge₁ : CoreEdge P n p (c .first)
       edge₂ : CoreEdge P n p (c .second)
       lower : core (c .first) ◃ core (c .second)
