@@ -20,23 +20,24 @@ use Rattle.pack.specs.Unpack.{unpack}
 use Rattle.pack.specs.declared.cursor.Cursor.{Cursor}
 use Rattle.pack.specs.declared.walk.Kind.the-variants as Of
 use Rattle.pack.proofs.Bodies.{shrinks-of}
-use Rattle.pack.proofs.Reading.{case-on}
+use Rattle.pack.proofs.Reading.{and-both, case-on}
 use Rattle.pack.proofs.Sizes.{in-body}
 use Rattle.pack.proofs.Unpacking.{unpacked}
 use Rattle.pack.proofs.Walks.{Asked, asked-start, asked-on, asked-done, front}
 use Rattle.access.proofs.Accepted.{well-formed}
 use Rattle.access.specs.Table.{codeOf, putFirst}
-use Rattle.meaning.specs.Tables.{targetCode, cellOf, cellAt, ShapeTable}
+use Rattle.meaning.specs.Tables.{cellOf, cellAt, ShapeTable}
 use Rattle.access.specs.Places.{IsWellFormed}
+use Rattle.meaning.specs.Limits.{literalBit, literalTarget, maxPredicates, maxTypes, multiplicityRoom}
 
 -- ---- cells
 
--- 8 rows of 12 cells
+-- a row for each type, with a cell for each predicate
 pub record Square (table : List (List ℕ)) : Type 0 where
-  pub rows : length table ≡ 8
-  pub cells : (t : ℕ) → t < 8 → length (getD table t []) ≡ 12
+  pub rows : length table ≡ maxTypes
+  pub cells : (t : ℕ) → t < maxTypes → length (getD table t []) ≡ maxPredicates
 
-module _ (table : List (List ℕ)) (o q v : ℕ) (w : Square table) (ho : o < 8) (hq : q < 12) where
+module _ (table : List (List ℕ)) (o q v : ℕ) (w : Square table) (ho : o < maxTypes) (hq : q < maxPredicates) where
   abbrev put : List (List ℕ)
   put = set table o (set (getD table o []) q v)
 
@@ -93,13 +94,13 @@ shape-there r rs t p n = go (Dec·and (ℕ-discrete t (r .owner)) (ℕ-discrete 
 
 -- ---- the packed bytes
 
-pub literal-code : (x m : ℕ) → x ≡ 255 → 120 + m ≡ codeOf x m
+pub literal-code : (x m : ℕ) → x ≡ literalTarget → literalBit * multiplicityRoom + m ≡ codeOf x m
 unfolding targetOf
-literal-code x m e = rw (eq-eqb x 255 e)
+literal-code x m e = rw (eq-eqb x literalTarget e)
 
-pub type-code : (x m : ℕ) → (x ≡ 255 → ⊥) → x * 8 + m ≡ codeOf x m
+pub type-code : (x m : ℕ) → (x ≡ literalTarget → ⊥) → x * multiplicityRoom + m ≡ codeOf x m
 unfolding targetOf
-type-code x m n = rw (ne-eqb x 255 n)
+type-code x m n = rw (ne-eqb x literalTarget n)
 
 multiplicity-back : (m : ℕ) → 1 ≤ m → m ≤ 4 → multiplicityNumber (multiplicityOf m) ≡ m
 unfolding multiplicityOf
@@ -114,15 +115,11 @@ cell-back t p x m a b = rw (multiplicity-back m a b)
 
 -- ---- one shape more
 
-step : (table : List (List ℕ)) (t p x m : ℕ) (ys : List ShapeRecord) → Square table → t < 8 → p < 12 → 1 ≤ m → m ≤ 4 → (i j : ℕ)
+step : (table : List (List ℕ)) (t p x m : ℕ) (ys : List ShapeRecord) → Square table → t < maxTypes → p < maxPredicates → 1 ≤ m → m ≤ 4 → (i j : ℕ)
     → orElse (cellAt table i j) (cellOf (shapeIn (shapeFrom t p x m ∷ ys) i j)) ≡ orElse (cellAt (putFirst t p (codeOf x m) table) i j) (cellOf (shapeIn ys i j))
 step table t p x m ys w ht hp a b i j =
-    case-on (eqb i t && eqb j p) (λ e. here (both (eqb i t) (eqb j p) e)) (λ e. there (λ (k : (i ≡ t) × (j ≡ p)). differ k e))
+    case-on (eqb i t && eqb j p) (λ e. here (and-both (eqb i t) (eqb j p) e)) (λ e. there (λ (k : (i ≡ t) × (j ≡ p)). differ k e))
   where
-    both : (u v : Bool) → (u && v) ≡ true → (u ≡ true) × (v ≡ true)
-    both true v h = (refl, h)
-    both false v h = absurd (let z : _≡_ {A = ℕ} 0 1 = cc in omega arith)
-
     differ : (i ≡ t) × (j ≡ p) → (eqb i t && eqb j p) ≡ false → ⊥
     differ k e =
         let h = rw (eq-eqb i t (k .0), eq-eqb j p (k .1)) at e in
@@ -153,19 +150,19 @@ pub record Filled (s : List ℕ) (c₀ : Cursor) (table : List (List ℕ)) (c : 
   pub placed : Placed s c
   pub square : Square table
   pub named : (w : IsWellFormed s) → Asked shape s c₀ (every (goodShape (w .pack))) c (every (goodShape (w .pack)))
-  pub is : (i j : ℕ) → i < 8 → j < 12 → Asked shape s c₀ (λ xs. cellOf (shapeIn xs i j)) c (λ ys. orElse (cellAt table i j) (cellOf (shapeIn ys i j)))
+  pub is : (i j : ℕ) → i < maxTypes → j < maxPredicates → Asked shape s c₀ (λ xs. cellOf (shapeIn xs i j)) c (λ ys. orElse (cellAt table i j) (cellOf (shapeIn ys i j)))
 
 abbrev emptyRow : List ℕ
-emptyRow = replicate 12 0
+emptyRow = replicate maxPredicates 0
 
 abbrev pub emptyTable : List (List ℕ)
-emptyTable = replicate 8 emptyRow
+emptyTable = replicate maxTypes emptyRow
 
 empty-square : Square emptyTable
-empty-square = record { rows = refl; cells = λ t h. ap length (getD-replicate 8 t emptyRow [] h) }
+empty-square = record { rows = refl; cells = λ t h. ap length (getD-replicate maxTypes t emptyRow [] h) }
 
-empty-cell : (i j : ℕ) → i < 8 → j < 12 → cellAt emptyTable i j ≡ 0
-empty-cell i j hi hj = ap (λ (r : List ℕ). getD r j 0) (getD-replicate 8 i emptyRow [] hi) ∙ getD-replicate 12 j 0 0 hj
+empty-cell : (i j : ℕ) → i < maxTypes → j < maxPredicates → cellAt emptyTable i j ≡ 0
+empty-cell i j hi hj = ap (λ (r : List ℕ). getD r j 0) (getD-replicate maxTypes i emptyRow [] hi) ∙ getD-replicate maxPredicates j 0 0 hj
 
 pub filled-start : {s : List ℕ} {c : Cursor} → Placed s c → Filled s c emptyTable c
 filled-start p = record {
@@ -185,10 +182,6 @@ shapes-good P = go (every (goodDependency P) (P .setting .dependencies)) (every 
     go true false c d h = absurd (let z : _≡_ {A = ℕ} 0 1 = cc in omega arith)
     go false b c d h = absurd (let z : _≡_ {A = ℕ} 0 1 = cc in omega arith)
 
-both-true : (u v : Bool) → (u && v) ≡ true → (u ≡ true) × (v ≡ true)
-both-true true v h = (refl, h)
-both-true false v h = absurd (let z : _≡_ {A = ℕ} 0 1 = cc in omega arith)
-
 three : (u v w : Bool) → (u && v && w) ≡ true → (u ≡ true) × (v ≡ true)
 three true true w h = (refl, refl)
 three true false w h = absurd (let z : _≡_ {A = ℕ} 0 1 = cc in omega arith)
@@ -203,9 +196,9 @@ module _ {s : List ℕ} {c₀ c d : Cursor} {table : List (List ℕ)} {t p x m :
       let q = f .named w .is _ (in-body shape b (u .shapes .0)) in
       let r = front shape (shrinks-of Of.Shape) (f .placed) (g .got) (q .1) in
       let k : every (goodShape (w .pack)) (shapeFrom t p x m ∷ r .0) ≡ true = ap (every (goodShape (w .pack))) (sym (r .1)) ∙ q .2 ∙ shapes-good (w .pack) (wf .named) in
-      both-true _ _ k .0
+      and-both _ _ k .0
 
-  pub shape-bounds : (t < 8) × (p < 12)
+  pub shape-bounds : (t < maxTypes) × (p < maxPredicates)
   shape-bounds =
       let wf = well-formed s (w .pack) (w .is) in
       let u = unpacked s (w .pack) (wf .read) in

@@ -22,9 +22,10 @@ use Rattle.pack.specs.declared.walk.Kind.the-variants as Of
 use Rattle.pack.proofs.Bodies.{shrinks-of}
 use Rattle.pack.proofs.Bounds.{row-short}
 use Rattle.pack.proofs.Pairs.{two-at, two-none}
-use Rattle.pack.proofs.Reading.{slice-front, length-at}
+use Rattle.pack.proofs.Reading.{and-both, slice-front, length-at}
 use Rattle.pack.proofs.Walks.{Asked, asked-start, asked-on, front, at-end}
 use Rattle.access.specs.Keys.{named, keyOf, below, differs, keep, ofRelation, fits, Even}
+use Rattle.meaning.specs.Limits.{maxColumns, maxRows, maxValues}
 
 -- ---- numbers
 
@@ -35,43 +36,41 @@ below-le zero (suc m) h = let k = below-le zero m (omega arith) in omega (arith,
 below-le (suc n) zero h = absurd (let z : ⊥ = omega arith in z)
 below-le (suc n) (suc m) h = let k = below-le n m (omega arith) in omega (arith, k)
 
-below-7 : below 7 ≡ 72057594037927936
+-- a key of all columns fits 64 bits
+below-columns : below maxColumns ≡ 18446744073709551616
 unfolding below
-below-7 = refl
+below-columns = refl
 
--- a key of at most seven columns leaves room for one more
-room : (n k : ℕ) → n ≤ 7 → k < below n → 256 * k + 255 < 18446744073709551616
-room n k h l = omega (arith, below-le n 7 h, below-7, l)
-
-and-both : (a b : Bool) → (a && b) ≡ true → (a ≡ true) × (b ≡ true)
-and-both true b h = (refl, h)
-and-both false b h = absurd (let z : _≡_ {A = ℕ} 0 1 = cc in omega arith)
+-- a key of fewer leaves room for one more
+room : (n k : ℕ) → n < maxColumns → k < below n → maxValues * k + (maxValues - 1) < 18446744073709551616
+unfolding below
+room n k h l = let m : below (suc n) ≤ below maxColumns = below-le (suc n) maxColumns h in omega (arith, m, below-columns, l)
 
 -- ---- equal keys
 
-one-more : (a b k l : ℕ) → a < 256 → b < 256 → eqb (256 * k + a) (256 * l + b) ≡ (eqb a b && eqb k l)
+one-more : (a b k l : ℕ) → a < maxValues → b < maxValues → eqb (maxValues * k + a) (maxValues * l + b) ≡ (eqb a b && eqb k l)
 one-more a b k l h g = go (eqb a b) (eqb k l) refl refl
   where
-    go : (p q : Bool) → eqb a b ≡ p → eqb k l ≡ q → eqb (256 * k + a) (256 * l + b) ≡ (eqb a b && eqb k l)
-    go true true e f = rw (e, f) (eq-eqb (256 * k + a) (256 * l + b) (omega (arith, eqb-true a b e, eqb-true k l f)))
-    go true false e f = rw (e, f) (ne-eqb (256 * k + a) (256 * l + b) (λ z. eqb-false k l f (omega (arith, z, eqb-true a b e))))
-    go false q e f = rw e (ne-eqb (256 * k + a) (256 * l + b) (λ z. eqb-false a b e (omega (arith, z))))
+    go : (p q : Bool) → eqb a b ≡ p → eqb k l ≡ q → eqb (maxValues * k + a) (maxValues * l + b) ≡ (eqb a b && eqb k l)
+    go true true e f = rw (e, f) (eq-eqb (maxValues * k + a) (maxValues * l + b) (omega (arith, eqb-true a b e, eqb-true k l f)))
+    go true false e f = rw (e, f) (ne-eqb (maxValues * k + a) (maxValues * l + b) (λ z. eqb-false k l f (omega (arith, z, eqb-true a b e))))
+    go false q e f = rw e (ne-eqb (maxValues * k + a) (maxValues * l + b) (λ z. eqb-false a b e (omega (arith, z))))
 
-agree-column : (b : Bool) (x y : ℕ) → x < 256 → y < 256 → (k l : ℕ) → eqb (256 * k + named b x) (256 * l + named b y) ≡ ((b || eqb x y) && eqb k l)
+agree-column : (b : Bool) (x y : ℕ) → x < maxValues → y < maxValues → (k l : ℕ) → eqb (maxValues * k + named b x) (maxValues * l + named b y) ≡ ((b || eqb x y) && eqb k l)
 agree-column true x y h g k l = one-more 0 0 k l (omega arith) (omega arith)
 agree-column false x y h g k l = one-more x y k l h g
 
-pub agree-keys : (m : ℕ) (xs ys : List ℕ) → length xs ≡ length ys → every (λ v. ltb v 256) xs ≡ true → every (λ v. ltb v 256) ys ≡ true
+pub agree-keys : (m : ℕ) (xs ys : List ℕ) → length xs ≡ length ys → every (λ v. ltb v maxValues) xs ≡ true → every (λ v. ltb v maxValues) ys ≡ true
     → agree m xs ys ≡ eqb (keyOf m xs) (keyOf m ys)
 unfolding agree keyOf
 agree-keys m [] [] h p q = refl
 agree-keys m [] (y ∷ ys) h p q = absurd (let z : ⊥ = omega (arith, h) in z)
 agree-keys m (x ∷ xs) [] h p q = absurd (let z : ⊥ = omega (arith, h) in z)
 agree-keys m (x ∷ xs) (y ∷ ys) h p q =
-    let a = and-both (ltb x 256) _ p in
-    let b = and-both (ltb y 256) _ q in
+    let a = and-both (ltb x maxValues) _ p in
+    let b = and-both (ltb y maxValues) _ q in
     ap (λ z. (eqb (m % 2) 0 || eqb x y) && z) (agree-keys (m / 2) xs ys (omega (arith, h)) (a .1) (b .1))
-    ∙ sym (agree-column (eqb (m % 2) 0) x y (ltb-true x 256 (a .0)) (ltb-true y 256 (b .0)) (keyOf (m / 2) xs) (keyOf (m / 2) ys))
+    ∙ sym (agree-column (eqb (m % 2) 0) x y (ltb-true x maxValues (a .0)) (ltb-true y maxValues (b .0)) (keyOf (m / 2) xs) (keyOf (m / 2) ys))
 
 -- ---- a key, column by column from the last
 
@@ -83,38 +82,38 @@ key-none s m a n e =
 
 module _ (s : List ℕ) (m a n k : ℕ) (inside : a + n ≤ length s) (some : n ≡ 0 → ⊥) (q : (k ≡ keyOf (m / 2) (textAt s (a + 1) (n - 1))) × (k < below (n - 1))) where
   -- one column more, in front
-  key-more : (b : Bool) → eqb (m % 2) 0 ≡ b → 256 * k + named b (getD s a 0) ≡ keyOf m (textAt s a n)
+  key-more : (b : Bool) → eqb (m % 2) 0 ≡ b → maxValues * k + named b (getD s a 0) ≡ keyOf m (textAt s a n)
   unfolding keyOf
   key-more b e =
       let f : a + 1 + (n - 1) ≡ a + n = omega (arith, some) in
       let h : k ≡ keyOf (m / 2) (textAt s (a + 1) (n - 1)) = q .0 in
       rw (slice-front a (a + n) s 0 (omega (arith, some)) inside, e, h, f)
 
-  below-more : (x : ℕ) → x < 256 → 256 * k + x < below n
+  below-more : (x : ℕ) → x < maxValues → maxValues * k + x < below n
   unfolding below
   below-more x h = let f : n ≡ suc (n - 1) = omega (arith, some) in rw f (omega (arith, q .1, h))
 
-  key-skips : m % 2 ≡ 0 → (256 * k ≡ keyOf m (textAt s a n)) × (256 * k < below n)
+  key-skips : m % 2 ≡ 0 → (maxValues * k ≡ keyOf m (textAt s a n)) × (maxValues * k < below n)
   key-skips e = (omega (arith, key-more true (eq-eqb _ _ e)), omega (arith, below-more 0 (omega arith)))
 
-  key-takes : (m % 2 ≡ 0 → ⊥) → getD s a 0 < 256 → (256 * k + getD s a 0 ≡ keyOf m (textAt s a n)) × (256 * k + getD s a 0 < below n)
+  key-takes : (m % 2 ≡ 0 → ⊥) → getD s a 0 < maxValues → (maxValues * k + getD s a 0 ≡ keyOf m (textAt s a n)) × (maxValues * k + getD s a 0 < below n)
   key-takes e h = (key-more false (ne-eqb _ _ e), below-more (getD s a 0) h)
 
 -- the key of the columns from c on
 pub record Keying (s : List ℕ) (m a n k c : ℕ) : Type 0 where
   pub inside : a + n ≤ length s
-  pub short : n ≤ 8
+  pub short : n ≤ maxColumns
   pub before : c ≤ n
   pub is : k ≡ keyOf (m / 2 ^ c) (textAt s (a + c) (n - c))
   pub low : k < below (n - c)
 
-pub keying-start : (s : List ℕ) (m a n : ℕ) → a + n ≤ length s → n ≤ 8 → Keying s m a n 0 n
+pub keying-start : (s : List ℕ) (m a n : ℕ) → a + n ≤ length s → n ≤ maxColumns → Keying s m a n 0 n
 keying-start s m a n h g =
     let q = key-none s (m / 2 ^ n) (a + n) (n - n) (omega arith) in
     record { inside = h; short = g; before = omega arith; is = q .0; low = q .1 }
 
--- a mask of eight bits, shifted by one more
-halved : (m c : ℕ) → c ≤ 7 → m / 2 ^ c / 2 ≡ m / 2 ^ (c + 1)
+-- a mask, shifted by one more
+halved : (m c : ℕ) → c < maxColumns → m / 2 ^ c / 2 ≡ m / 2 ^ (c + 1)
 halved m zero h = omega arith
 halved m (suc zero) h = omega arith
 halved m (suc (suc zero)) h = omega arith
@@ -126,7 +125,7 @@ halved m (suc (suc (suc (suc (suc (suc (suc zero))))))) h = omega arith
 halved m (suc (suc (suc (suc (suc (suc (suc (suc c)))))))) h = absurd (let z : ⊥ = omega (arith, h) in z)
 
 module _ {s : List ℕ} {m a n k c : ℕ} (p : Keying s m a n k c) (some : 0 < c) where
-  pub keying-room : k * 256 + 255 < 18446744073709551616
+  pub keying-room : k * maxValues + (maxValues - 1) < 18446744073709551616
   keying-room = omega (arith, room (n - c) k (omega (arith, p .short, some)) (p .low))
 
   later : (k ≡ keyOf (m / 2 ^ (c - 1) / 2) (textAt s (a + (c - 1) + 1) (n - (c - 1) - 1))) × (k < below (n - (c - 1) - 1))
@@ -136,12 +135,12 @@ module _ {s : List ℕ} {m a n k c : ℕ} (p : Keying s m a n k c) (some : 0 < c
       let f : n - (c - 1) - 1 ≡ n - c = omega (arith, some, p .before) in
       rw (halved m (c - 1) (omega (arith, p .short, p .before)), d, e, f) (p .is, p .low)
 
-  pub keying-skips : m / 2 ^ (c - 1) % 2 ≡ 0 → Keying s m a n (k * 256) (c - 1)
+  pub keying-skips : m / 2 ^ (c - 1) % 2 ≡ 0 → Keying s m a n (k * maxValues) (c - 1)
   keying-skips e =
       let q = key-skips s (m / 2 ^ (c - 1)) (a + (c - 1)) (n - (c - 1)) k (omega (arith, p .inside, p .before, some)) (λ z. omega (arith, z, p .before, some)) later e in
       record { inside = p .inside; short = p .short; before = omega (arith, p .before); is = omega (arith, q .0); low = omega (arith, q .1) }
 
-  pub keying-takes : (m / 2 ^ (c - 1) % 2 ≡ 0 → ⊥) → getD s (a + (c - 1)) 0 < 256 → Keying s m a n (k * 256 + getD s (a + (c - 1)) 0) (c - 1)
+  pub keying-takes : (m / 2 ^ (c - 1) % 2 ≡ 0 → ⊥) → getD s (a + (c - 1)) 0 < maxValues → Keying s m a n (k * maxValues + getD s (a + (c - 1)) 0) (c - 1)
   keying-takes e h =
       let q = key-takes s (m / 2 ^ (c - 1)) (a + (c - 1)) (n - (c - 1)) k (omega (arith, p .inside, p .before, some)) (λ z. omega (arith, z, p .before, some)) later e h in
       record { inside = p .inside; short = p .short; before = omega (arith, p .before); is = omega (arith, q .0); low = omega (arith, q .1) }
@@ -157,17 +156,17 @@ keying-done {s} {m} {a} {n} {k} {c} p h =
 -- ---- the loop that looks for another right key
 
 pub record Looking (ls rs : List ℕ) (l r n i : ℕ) : Type 0 where
-  pub few : n ≤ 1024
-  pub lefts-long : length ls ≡ 1024
-  pub rights-long : length rs ≡ 1024
+  pub few : n ≤ maxRows
+  pub lefts-long : length ls ≡ maxRows
+  pub rights-long : length rs ≡ maxRows
   pub is : differs l r (drop i (take n ls)) (drop i (take n rs)) ≡ differs l r (take n ls) (take n rs)
 
-pub looking-start : (ls rs : List ℕ) (l r n : ℕ) → n ≤ 1024 → length ls ≡ 1024 → length rs ≡ 1024 → Looking ls rs l r n 0
+pub looking-start : (ls rs : List ℕ) (l r n : ℕ) → n ≤ maxRows → length ls ≡ maxRows → length rs ≡ maxRows → Looking ls rs l r n 0
 looking-start ls rs l r n f h g = record { few = f; lefts-long = h; rights-long = g; is = refl }
 
 module _ {ls rs : List ℕ} {l r n i : ℕ} (p : Looking ls rs l r n i) (h : i < n) where
   -- what is left of the first n entries starts with entry i
-  entry : (xs : List ℕ) → length xs ≡ 1024 → drop i (take n xs) ≡ getD xs i 0 ∷ drop (i + 1) (take n xs)
+  entry : (xs : List ℕ) → length xs ≡ maxRows → drop i (take n xs) ≡ getD xs i 0 ∷ drop (i + 1) (take n xs)
   entry xs g = rw (drop-cons (take n xs) i 0 (omega (arith, length-take-le n xs (omega (arith, p .few, g)), h)), getD-take n xs i 0 h, add-one i)
 
   step : differs l r (drop i (take n ls)) (drop i (take n rs)) ≡ ((eqb (getD ls i 0) l && not (eqb (getD rs i 0) r)) || differs l r (drop (i + 1) (take n ls)) (drop (i + 1) (take n rs)))
@@ -253,11 +252,11 @@ pub record Listing (s : List ℕ) (d : Dependency) (c₀ c : Cursor) (lefts righ
   pub right-keys : take n rights ≡ map (λ (x : Row). keyOf (d .right) (x .cells)) before
   pub none : (w : ℕ) → every (fits d w) before ≡ true → anyTwo (breaks d) before ≡ false
   pub many : length before ≡ n
-  pub few : n ≤ 1024
-  pub lefts-long : length lefts ≡ 1024
-  pub rights-long : length rights ≡ 1024
+  pub few : n ≤ maxRows
+  pub lefts-long : length lefts ≡ maxRows
+  pub rights-long : length rights ≡ maxRows
 
-pub listing-start : (s : List ℕ) (d : Dependency) (c : Cursor) (lefts rights : List ℕ) → Placed s c → length lefts ≡ 1024 → length rights ≡ 1024
+pub listing-start : (s : List ℕ) (d : Dependency) (c : Cursor) (lefts rights : List ℕ) → Placed s c → length lefts ≡ maxRows → length rights ≡ maxRows
     → Listing s d c c lefts rights 0 []
 listing-start s d c lefts rights p h g = record {
   asked = asked-start (ofRelation d) p;
@@ -316,7 +315,7 @@ module _ {s : List ℕ} {d : Dependency} {c₀ c e : Cursor} {lefts rights : Lis
         let b = front row (shrinks-of Of.Row) (p .asked .placed) g (a .1) in
         (ofRelation d (b .0), sym (a .2) ∙ ap (λ z. before ++ ofRelation d z) (b .1) ∙ ap (λ z. before ++ z) (kept h (b .0)))
 
-    pub listing-full : {Q : Type 0} → 1024 ≤ n → (xs : List Row) → readAll row (left s c₀) ≡ some xs → Even d xs → Q
+    pub listing-full : {Q : Type 0} → maxRows ≤ n → (xs : List Row) → readAll row (left s c₀) ≡ some xs → Even d xs → Q
     listing-full l xs q v =
         let a = rest xs q in
         absurd (let z : ⊥ = omega (arith, l, p .many, v .few, kept-few d xs, ap length (a .1), length-append before (y ∷ a .0)) in z)
@@ -334,7 +333,7 @@ module _ {s : List ℕ} {d : Dependency} {c₀ c e : Cursor} {lefts rights : Lis
         let u = t ∙ (λ i. differs (k i) (j i) (take n lefts) (take n rights)) in
         sym (two-relation d xs ∙ ap (anyTwo (breaks d)) (a .1) ∙ two-at (breaks d) before y (a .0) (sym (same-test (v .width) (b .0) f) ∙ sym u))
 
-    listing-on : n < 1024 → false ≡ differs (keyOf (d .left) (y .cells)) (keyOf (d .right) (y .cells)) (take n lefts) (take n rights)
+    listing-on : n < maxRows → false ≡ differs (keyOf (d .left) (y .cells)) (keyOf (d .right) (y .cells)) (take n lefts) (take n rights)
         → Listing s d c₀ e (set lefts n (keyOf (d .left) (y .cells))) (set rights n (keyOf (d .right) (y .cells))) (n + 1) (before ++ y ∷ [])
     listing-on l t = record {
       asked = asked-on (shrinks-of Of.Row) (p .asked) _ g (λ ys q. ap (λ z. before ++ z) (kept h ys) ∙ sym (append-assoc before (y ∷ []) (ofRelation d ys)));
@@ -350,7 +349,7 @@ module _ {s : List ℕ} {d : Dependency} {c₀ c e : Cursor} {lefts rights : Lis
       rights-long = length-set rights n (keyOf (d .right) (y .cells)) ∙ p .rights-long;
     }
 
-    pub listing-more : (l r : ℕ) → l ≡ keyOf (d .left) (y .cells) → r ≡ keyOf (d .right) (y .cells) → n < 1024 → false ≡ differs l r (take n lefts) (take n rights)
+    pub listing-more : (l r : ℕ) → l ≡ keyOf (d .left) (y .cells) → r ≡ keyOf (d .right) (y .cells) → n < maxRows → false ≡ differs l r (take n lefts) (take n rights)
         → Listing s d c₀ e (set lefts n l) (set rights n r) (n + 1) (before ++ y ∷ [])
     listing-more l r k q h t = rw (k, q) (listing-on h (t ∙ (λ i. differs (k i) (q i) (take n lefts) (take n rights))))
 
@@ -364,14 +363,14 @@ listing-done {s} {d} {c₀} {c} {lefts} {rights} {n} {before} p h xs q v =
 
 -- ---- what the checks before refusal 8 leave
 
-pub tuple-short : {s : List ℕ} {c e : Cursor} {t : Tuple} → TupleGot rowOf row s c t e → t .len ≤ 8
+pub tuple-short : {s : List ℕ} {c e : Cursor} {t : Tuple} → TupleGot rowOf row s c t e → t .len ≤ maxColumns
 tuple-short {s} {c} {e} {t} g = omega (arith, row-short _ _ (g .got .reads), length-at s (t .start) (t .len) (g .inside))
 
-every-wider : (n : ℕ) → n ≤ 256 → (xs : List ℕ) → every (λ v. ltb v n) xs ≡ true → every (λ v. ltb v 256) xs ≡ true
+every-wider : (n : ℕ) → n ≤ maxValues → (xs : List ℕ) → every (λ v. ltb v n) xs ≡ true → every (λ v. ltb v maxValues) xs ≡ true
 every-wider n h [] e = refl
 every-wider n h (x ∷ xs) e =
     let a = and-both (ltb x n) (every (λ v. ltb v n) xs) e in
-    rw (lt-ltb x 256 (omega (arith, ltb-true x n (a .0), h))) (every-wider n h xs (a .1))
+    rw (lt-ltb x maxValues (omega (arith, ltb-true x n (a .0), h))) (every-wider n h xs (a .1))
 
 widthOf : Option ℕ → ℕ
 widthOf none = 0
@@ -382,7 +381,7 @@ unfolding widthOf
 has-width none n e = absurd (let z : _≡_ {A = ℕ} 0 1 = cc in omega arith)
 has-width (some k) n e = e
 
-module _ (P : Pack) (few : length (P .setting .values) ≤ 256) (d : Dependency) where
+module _ (P : Pack) (few : length (P .setting .values) ≤ maxValues) (d : Dependency) where
   width : ℕ
   width = widthOf (getElem? (P .setting .arities) (d .relation))
 
@@ -406,7 +405,7 @@ module _ (P : Pack) (few : length (P .setting .values) ≤ 256) (d : Dependency)
       go true q g ih = (λ i. row-fits x q g i && ih i)
       go false q g ih = ih
 
-  pub even : dangling P ≡ false → length (P .rows) ≤ 1024 → Even d (P .rows)
+  pub even : dangling P ≡ false → length (P .rows) ≤ maxRows → Even d (P .rows)
   unfolding dangling
   even h l = record {
     width = width;

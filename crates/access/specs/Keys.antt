@@ -5,6 +5,7 @@ use mathlib.Core.Bool.{Bool, true, false, not, _&&_, _||_}
 use mathlib.Core.List.{List, [], _∷_}
 use mathlib.Core.Path.{_≡_}
 use Prim.Native.Nat.{ℕ, zero, suc, _+_, _*_, _/_, _%_, _≤_}
+use Rattle.meaning.specs.Limits.{maxRows, maxValues}
 use Rattle.meaning.specs.Pack.{Dependency, Row}
 use Rattle.meaning.specs.Tests.{every}
 
@@ -13,15 +14,15 @@ abbrev pub named : Bool → ℕ → ℕ
 named true x = 0
 named false x = x
 
--- the columns that the mask names, in base 256; column 0 is the bit of weight 1
+-- the columns that the mask names, in base maxValues; column 0 is the bit of weight 1
 unfoldable pub keyOf : ℕ → List ℕ → ℕ
 keyOf m [] = 0
-keyOf m (x ∷ xs) = 256 * keyOf (m / 2) xs + named (eqb (m % 2) 0) x
+keyOf m (x ∷ xs) = maxValues * keyOf (m / 2) xs + named (eqb (m % 2) 0) x
 
 -- what the keys of n columns are below
 unfoldable pub below : ℕ → ℕ
 below zero = 1
-below (suc n) = 256 * below n
+below (suc n) = maxValues * below n
 
 -- some entry has this left key and another right key
 unfoldable pub differs : ℕ → ℕ → List ℕ → List ℕ → Bool
@@ -38,12 +39,12 @@ unfoldable pub ofRelation : Dependency → List Row → List Row
 ofRelation d [] = []
 ofRelation d (x ∷ xs) = keep (eqb (x .relation) (d .relation)) x (ofRelation d xs)
 
--- a row of the dependency's relation, with w columns, each a byte
+-- a row of the dependency's relation, with w columns, each a value's number
 abbrev pub fits : Dependency → ℕ → Row → Bool
-fits d w x = eqb (x .relation) (d .relation) && (eqb (length (x .cells)) w && every (λ v. ltb v 256) (x .cells))
+fits d w x = eqb (x .relation) (d .relation) && (eqb (length (x .cells)) w && every (λ v. ltb v maxValues) (x .cells))
 
 -- What refusals 4 and 7 leave of the rows of a dependency's relation: they are few, and have its arity.
 pub record Even (d : Dependency) (rs : List Row) : Type 0 where
   pub width : ℕ
   pub each : every (fits d width) (ofRelation d rs) ≡ true
-  pub few : length rs ≤ 1024
+  pub few : length rs ≤ maxRows

@@ -16,6 +16,10 @@ pub record IsWellFormed (s : List ℕ) : Type 0 where
   pub pack : Pack
   pub is : wellFormed s ≡ accepted pack
 
+-- What holds of the decoded pack, where they are.
+abbrev pub OfPack : Text → (Pack → Type 0) → Type 0
+OfPack s Q = (P : Pack) → wellFormed s ≡ accepted P → Q P
+
 -- the text is the len bytes from start on
 pub record TextAt (s : List ℕ) (o : Option Text) (start len : ℕ) : Type 0 where
   pub is : o ≡ some (take len (drop start s))

@@ -12,7 +12,9 @@ ghost use Rattle.pack.specs.Shown.{Placed, left, textAt};
 ghost use Rattle.pack.specs.Unpack.{Decoded, Listed};
 ghost use Rattle.access.specs.Keys.{keyOf, below, differs, Even};
 ghost use Rattle.access.specs.Rows.{dependencyOf};
+ghost use Rattle.meaning.specs.Limits.{maxColumns, maxRows};
 use meaning::MAX_ROWS;
+use meaning::MAX_VALUES;
 use pack::contents::body;
 use pack::cursor::Cursor;
 use pack::cursor::DependencyRead;
@@ -27,14 +29,14 @@ pub struct Depends {
 
 // The columns of a row that the mask names, as one number; column 0 counts least.
 fn key(s: &[u8], mask: u8, a: usize, n: usize) -> u64
-    requires { ⌜ (a + n ≤ length (now s)) × (n ≤ 8) ⌝ }
+    requires { ⌜ (a + n ≤ length (now s)) × (n ≤ maxColumns) ⌝ }
     ensures { λ r. ⌜ (r ≡ keyOf mask (textAt (now (s .entry)) a n)) × (r < below n) ⌝ }
 {
     let mut key: u64 = 0;
     let mut c = n;
     while c > 0 {
         c -= 1;
-        key *= 256;
+        key *= MAX_VALUES as u64;
         if (mask >> c) % 2 != 0 {
             key += s[a + c] as u64;
         }
@@ -60,7 +62,7 @@ fn some_differs(
     left: u64,
     right: u64,
 ) -> bool
-    requires { ⌜ (n ≤ 1024) × (length (now lefts) ≡ 1024) × (length (now rights) ≡ 1024) ⌝ }
+    requires { ⌜ (n ≤ maxRows) × (length (now lefts) ≡ maxRows) × (length (now rights) ≡ maxRows) ⌝ }
     ensures { λ r. ⌜ r ≡ differs left right (take n (now (lefts .entry))) (take n (now (rights .entry))) ⌝ }
 {
     let mut i = 0;
@@ -87,8 +89,8 @@ fn some_break(
     lefts: &mut [u64; MAX_ROWS],
     rights: &mut [u64; MAX_ROWS],
 ) -> bool
-    requires { ⌜ Placed (now s) rows × (length (now lefts) ≡ 1024) × (length (now rights) ≡ 1024) ⌝ }
-    ensures { λ r. ⌜ Listed row (left (now (s .entry)) rows) (λ rs. Even (dependencyOf d) rs → r ≡ anyTwo (breaks (dependencyOf d)) rs) × (length (now (lefts .exit)) ≡ 1024) × (length (now (rights .exit)) ≡ 1024) ⌝ }
+    requires { ⌜ Placed (now s) rows × (length (now lefts) ≡ maxRows) × (length (now rights) ≡ maxRows) ⌝ }
+    ensures { λ r. ⌜ Listed row (left (now (s .entry)) rows) (λ rs. Even (dependencyOf d) rs → r ≡ anyTwo (breaks (dependencyOf d)) rs) × (length (now (lefts .exit)) ≡ maxRows) × (length (now (rights .exit)) ≡ maxRows) ⌝ }
 {
     let mut n = 0;
     let mut c = rows;

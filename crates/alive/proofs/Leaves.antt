@@ -6,13 +6,16 @@ use mathlib.Core.List.{List, [], _∷_}
 use mathlib.Core.Path.{ap, refl, subst, sym, _∙_, _≡_}
 use native.Mathlib.Decide.{ℕ-discrete}
 use native.Mathlib.Omega.{arith}
-use Prim.Native.Nat.{ℕ, _*_, _+_, _-_, _<_, _≤_}
+use Prim.Native.Nat.{ℕ, _<_, _≤_}
 use Rattle.alive.specs.Lists.{Lists, leafAt, numbered}
 use Rattle.alive.specs.Steps.{LeafBack, takes}
 use Rattle.index.specs.Index.{ByObject}
 use Rattle.index.specs.Triples.{GraphFits, TripleIn, objectOf, predicateOf, subjectOf}
+use Rattle.meaning.specs.Limits.{maxNodes}
 use Rattle.meaning.specs.Query.{Expr, Joins, anyStep, atIri, atLiteral, stay, step}
-use Rattle.walk.specs.Parts.{kindOf, leafBy}
+use Rattle.query.specs.Tree.{kindOf}
+use Rattle.states.specs.State.{state}
+use Rattle.walk.specs.Parts.{leafBy}
 
 -- A leaf of this kind, which wants this number, joins n to m.
 pub data LeafJoins (L : Lists) (kind want n m : ℕ) : Type 0 where
@@ -105,15 +108,15 @@ module _ {L : Lists} {kind want n m : ℕ} (g : GraphFits (L .nodes) (L .edges) 
 
 -- ---- backward
 
-module _ {L : Lists} {last earlier : List ℕ} {kind want i m : ℕ} (b : ByObject (L .triples) (L .edges) last earlier) (l : m < 1024) where
-  pub back-joins : {y : ℕ} → m < L .nodes → LeafBack (L .triples) earlier (getD last m 0) kind want i m y → (n : ℕ) × (y ≡ i * 1024 + n) × LeafJoins L kind want n m
+module _ {L : Lists} {last earlier : List ℕ} {kind want i m : ℕ} (b : ByObject (L .triples) (L .edges) last earlier) (l : m < maxNodes) where
+  pub back-joins : {y : ℕ} → m < L .nodes → LeafBack (L .triples) earlier (getD last m 0) kind want i m y → (n : ℕ) × (y ≡ state i n) × LeafJoins L kind want n m
   back-joins h (LeafBack.stays e s) = (m, s, rests e h refl)
   back-joins h (LeafBack.steps g r s) =
       let (lt, o) = b .exactly m (s .at) l .0 (s .met) in
       (subjectOf (L .triples) (s .at), s .state, goes g r (s .at) lt refl o (s .taken))
   back-joins h (LeafBack.labels g r e s) = (m, s, is-at g r h e refl)
 
-  pub joins-back : {n y : ℕ} → LeafJoins L kind want n m → y ≡ i * 1024 + n → LeafBack (L .triples) earlier (getD last m 0) kind want i m y
-  joins-back {n} {y} (rests e h p) s = LeafBack.stays e (s ∙ ap (λ x. i * 1024 + x) p)
-  joins-back {n} {y} (goes g r k lt e o t) s = LeafBack.steps g r (record { at = k; met = b .exactly m k l .1 (lt, o); taken = t; state = s ∙ ap (λ x. i * 1024 + x) (sym e) })
-  joins-back {n} {y} (is-at g r h w p) s = LeafBack.labels g r (w ∙ p) (s ∙ ap (λ x. i * 1024 + x) p)
+  pub joins-back : {n y : ℕ} → LeafJoins L kind want n m → y ≡ state i n → LeafBack (L .triples) earlier (getD last m 0) kind want i m y
+  joins-back {n} {y} (rests e h p) s = LeafBack.stays e (s ∙ ap (λ x. state i x) p)
+  joins-back {n} {y} (goes g r k lt e o t) s = LeafBack.steps g r (record { at = k; met = b .exactly m k l .1 (lt, o); taken = t; state = s ∙ ap (λ x. state i x) (sym e) })
+  joins-back {n} {y} (is-at g r h w p) s = LeafBack.labels g r (w ∙ p) (s ∙ ap (λ x. state i x) p)

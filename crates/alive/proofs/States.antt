@@ -1,30 +1,24 @@
--- The numbers of states, and the states of a part that the marked ones make alive. Assumes nothing.
+-- The states of a part that the marked ones make alive. Assumes nothing.
 use lib.ListN.{getD}
 use mathlib.Core.List.{List}
 use mathlib.Core.Logic.{inl, inr}
 use mathlib.Core.Path.{refl, subst, sym, _≡_}
 use native.Mathlib.Decide.{decLt}
 use native.Mathlib.Omega.{arith}
-use Prim.Native.Nat.{ℕ, _%_, _*_, _+_, _-_, _/_, _<_, _≤_}
+use Prim.Native.Nat.{ℕ, _<_, _≤_}
 use Rattle.alive.specs.Fits.{Fits}
 use Rattle.alive.specs.Lists.{AliveIn, Lists}
 use Rattle.alive.specs.Steps.{AllAlive, At, BackAt, Chain, Led, PartBack, PartReady, StateAlive, leads, leaves, turns}
 use Rattle.index.specs.Index.{ByObject, Met}
-use Rattle.walk.specs.Parts.{Child, Part, chain, either, kindOf, leaf, partOf, repeat, test}
+use Rattle.meaning.specs.Limits.{maxNodes}
+use Rattle.query.specs.Tree.{kindOf}
+use Rattle.states.proofs.States.{state-inside, state-node, state-part}
+use Rattle.states.specs.State.{nodeAt, partAt, state}
+use Rattle.states.specs.Table.{Marked}
+use Rattle.walk.specs.Parts.{Child, Part, chain, either, leaf, partOf, repeat, test}
 use Rattle.walk.specs.Walk.{begins, goes-left, goes-right, moves, tested, repeats, stops}
 use Rattle.alive.proofs.Backward.{is-leaf, not-leaf}
 use Rattle.alive.proofs.Leaves.{LeafJoins, back-joins, joins-back, leaf-from, leaf-says, says-leaf}
-
--- ---- numbers
-
-pub state-part : (i n s : ℕ) → n < 1024 → s ≡ i * 1024 + n → s / 1024 ≡ i
-state-part i n s l e = omega arith
-
-pub state-node : (i n s : ℕ) → n < 1024 → s ≡ i * 1024 + n → s % 1024 ≡ n
-state-node i n s l e = omega arith
-
-pub state-is : (s : ℕ) → s ≡ s / 1024 * 1024 + s % 1024
-state-is s = omega arith
 
 -- The parts that a part leads to, and the end, are within the table.
 module _ {L : Lists} (f : Fits L) where
@@ -37,7 +31,7 @@ module _ {L : Lists} (f : Fits L) where
       record { short = omega arith; in-tree = omega arith; in-next = omega arith; kind = f .query .kinds i l; before = λ c x. f .query .before i c l x; onward = omega arith }
 
   -- The chain of the triples that end at m.
-  pub chain-ready : {last earlier : List ℕ} → ByObject (L .triples) (L .edges) last earlier → (m : ℕ) → m < 1024 → Chain (L .triples) earlier (getD last m 0)
+  pub chain-ready : {last earlier : List ℕ} → ByObject (L .triples) (L .edges) last earlier → (m : ℕ) → m < maxNodes → Chain (L .triples) earlier (getD last m 0)
   chain-ready {last} {earlier} b m l = record {
     listed = λ k x. let g = inside k x in let h = b .links in omega arith;
     whole = λ k x. let g = inside k x in let h = f .graph .whole in omega arith;
@@ -54,9 +48,9 @@ module _ {L : Lists} (f : Fits L) where
   alive-at table a m j l h e =
       let p = f .query .few in
       let q = f .graph .few-nodes in
-      let s = a (j * 1024 + m) (omega arith) e in
-      subst (λ x. AliveIn L x m) (state-part j m (j * 1024 + m) (omega arith) refl)
-      (subst (λ x. AliveIn L ((j * 1024 + m) / 1024) x) (state-node j m (j * 1024 + m) (omega arith) refl) (s .alive))
+      let s = a (state j m) (state-inside j m (omega arith) (omega arith)) e in
+      subst (λ x. AliveIn L x m) (state-part j m (state j m) (omega arith) refl)
+      (subst (λ x. AliveIn L (partAt (state j m)) x) (state-node j m (state j m) (omega arith) refl) (s .alive))
 
   led-alive : (i m : ℕ) → i < L .parts → m < L .nodes → (B : ℕ → Type 0) → ((j : ℕ) → j ≤ L .parts → B j → AliveIn L j m) → Led B (getD (L .next) i 0) (partOf (L .tree) i) → AliveIn L i m
   led-alive i m l h B up x = go (partOf (L .tree) i) refl x
@@ -73,7 +67,7 @@ module _ {L : Lists} (f : Fits L) where
       go (either a b) e (inl y) = goes-left l e (up a (own (either a b) e a (inl refl)) y)
       go (either a b) e (inr y) = goes-right l e (up b (own (either a b) e b (inr refl)) y)
 
-  pub state-alive : (i n y : ℕ) → i ≤ L .parts → n < L .nodes → y ≡ i * 1024 + n → AliveIn L i n → StateAlive L y
+  pub state-alive : (i n y : ℕ) → i ≤ L .parts → n < L .nodes → y ≡ state i n → AliveIn L i n → StateAlive L y
   state-alive i n y l h e a =
       let q = f .graph .few-nodes in
       let u = state-part i n y (omega arith) e in
@@ -81,26 +75,26 @@ module _ {L : Lists} (f : Fits L) where
       record {
         part = omega arith;
         node = omega arith;
-        alive = subst (λ x. AliveIn L x (y % 1024)) (sym u) (subst (λ x. AliveIn L i x) (sym v) a);
+        alive = subst (λ x. AliveIn L x (nodeAt y)) (sym u) (subst (λ x. AliveIn L i x) (sym v) a);
       }
 
   -- SOUND: what a part adds is alive.
   pub part-alive : {last earlier table : List ℕ} → ByObject (L .triples) (L .edges) last earlier → AllAlive L table → (s : ℕ) → StateAlive L s → (i y : ℕ) → i < L .parts
-      → PartBack (L .triples) earlier last (L .tree) (L .next) (L .wanted) table i (s / 1024) (s % 1024) y → StateAlive L y
+      → PartBack (L .triples) earlier last (L .tree) (L .next) (L .wanted) table i (partAt s) (nodeAt s) y → StateAlive L y
   part-alive {last} {earlier} {table} b a s w i y l (leaves e x) =
       let q = f .graph .few-nodes in
       let d = w .node in
       let (n, p, j) = back-joins {L = L} b (omega arith) d x in
       state-alive i n y (omega arith) (leaf-from (f .graph) j) p
-      (moves l (is-leaf (L .tree) i (λ k. ⊥) 0 (small j)) (says-leaf L i n (s % 1024) j) (subst (λ x. AliveIn L x (s % 1024)) (sym e) (w .alive)))
+      (moves l (is-leaf (L .tree) i (λ k. ⊥) 0 (small j)) (says-leaf L i n (nodeAt s) j) (subst (λ x. AliveIn L x (nodeAt s)) (sym e) (w .alive)))
     where
       small : {n m : ℕ} → LeafJoins L (kindOf (L .tree) i) (getD (L .wanted) i 0) n m → kindOf (L .tree) i < 5
       small (LeafJoins.rests e h p) = omega arith
       small (LeafJoins.goes g h k lt u o t) = omega arith
       small (LeafJoins.is-at g h c u p) = omega arith
   part-alive {last} {earlier} {table} b a s w i y l (turns x e) =
-      state-alive i (s % 1024) y (omega arith) (w .node) e
-      (led-alive i (s % 1024) l (w .node) (At table (s % 1024)) (λ j h z. alive-at table a (s % 1024) j (w .node) h z) x)
+      state-alive i (nodeAt s) y (omega arith) (w .node) e
+      (led-alive i (nodeAt s) l (w .node) (At table (nodeAt s)) (λ j h z. alive-at table a (nodeAt s) j (w .node) h z) x)
 
   -- COMPLETE: what a part is to add, it adds; more may be marked by then.
   pub led-more : (B C : ℕ → Type 0) → ((j : ℕ) → B j → C j) → (after : ℕ) (p : Part) → Led B after p → Led C after p
@@ -122,8 +116,8 @@ module _ {L : Lists} (f : Fits L) where
           other : kindOf (L .tree) i ≤ 8 → ⊥
           other k = not-leaf (L .tree) i (omega arith) k e
 
-  pub back-part : {last earlier table table′ : List ℕ} → ByObject (L .triples) (L .edges) last earlier → ((x : ℕ) → getD table x 0 ≡ 1 → getD table′ x 0 ≡ 1) → (s i y : ℕ) → s % 1024 < 1024 → i < L .parts
-      → BackAt L table s i y → PartBack (L .triples) earlier last (L .tree) (L .next) (L .wanted) table′ i (s / 1024) (s % 1024) y
-  back-part {last} {earlier} {table} {table′} b up s i y d l (leads n e p j q) = leaves p (joins-back {L = L} b d (leaf-says L i n (s % 1024) (leaf-kind i l e) j) q)
+  pub back-part : {last earlier table table′ : List ℕ} → ByObject (L .triples) (L .edges) last earlier → ((x : ℕ) → Marked 1 table x → Marked 1 table′ x) → (s i y : ℕ) → nodeAt s < maxNodes → i < L .parts
+      → BackAt L table s i y → PartBack (L .triples) earlier last (L .tree) (L .next) (L .wanted) table′ i (partAt s) (nodeAt s) y
+  back-part {last} {earlier} {table} {table′} b up s i y d l (leads n e p j q) = leaves p (joins-back {L = L} b d (leaf-says L i n (nodeAt s) (leaf-kind i l e) j) q)
   back-part {last} {earlier} {table} {table′} b up s i y d l (BackAt.turns x w q) =
-      turns (led-more (At table (s % 1024)) (At table′ (s % 1024)) (λ j h. up (j * 1024 + s % 1024) h) (getD (L .next) i 0) (partOf (L .tree) i) x) q
+      turns (led-more (At table (nodeAt s)) (At table′ (nodeAt s)) (λ j h. up (state j (nodeAt s)) h) (getD (L .next) i 0) (partOf (L .tree) i) x) q

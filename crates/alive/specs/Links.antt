@@ -1,25 +1,29 @@
 -- Which parts a part can make alive, and chains of them. Assumes nothing.
 use lib.ListN.{getD, length}
 use mathlib.Core.List.{List}
-use mathlib.Core.Logic.{_⊎_}
 use mathlib.Core.Path.{_≡_}
 use Prim.Native.Nat.{ℕ, _%_, _*_, _-_, _/_, _<_, _≤_}
 use Rattle.alive.specs.Lists.{Lists}
 use Rattle.alive.specs.Steps.{PartReady, Touches}
 use Rattle.index.specs.Index.{Met}
 use Rattle.index.specs.Triples.{objectOf, subjectOf}
-use Rattle.walk.specs.Parts.{firstNumber, kindOf, partOf}
+use Rattle.meaning.specs.Limits.{maxNodes, maxParts}
+use Rattle.query.specs.Tree.{firstNumber, kindOf}
+use Rattle.walk.specs.Parts.{partOf}
+
+abbrev pub maxLinks : ℕ  -- three for each part
+maxLinks = maxParts * 3
 
 -- The link e stands for the part e / 3, and leads from c: from what comes after it, the part before it, or its first part.
 pub record Link (tree next : List ℕ) (e c : ℕ) : Type 0 where
-  pub small : c < 1024
+  pub small : c < maxNodes
   pub after : e % 3 ≡ 0 → c ≡ getD next (e / 3) 0
   pub body : e % 3 ≡ 1 → 5 ≤ kindOf tree (e / 3) → c ≡ e / 3 - 1
   pub first : e % 3 ≡ 2 → 7 ≤ kindOf tree (e / 3) → c ≡ firstNumber tree (e / 3)
 
 -- The parts are there.
 pub record LinkReady (tree next : List ℕ) (parts : ℕ) : Type 0 where
-  pub few : parts ≤ 256
+  pub few : parts ≤ maxParts
   pub ready : (i : ℕ) → i < parts → PartReady tree next i
 
 -- The first n links, each the object of a triple from node 0.
@@ -30,8 +34,8 @@ pub record Linked (tree next : List ℕ) (n : ℕ) (links : List ℕ) : Type 0 w
 
 -- The parts that the part j can make alive are met, as links, on the chain that begins at heads[j].
 pub record Caused (L : Lists) (heads rest : List ℕ) : Type 0 where
-  pub begins : 1024 ≤ length heads
+  pub begins : maxNodes ≤ length heads
   pub listed : L .parts * 3 ≤ length rest
-  pub inside : (j e : ℕ) → j < 1024 → Met rest (getD heads j 0) e → e < L .parts * 3
+  pub inside : (j e : ℕ) → j < maxNodes → Met rest (getD heads j 0) e → e < L .parts * 3
   pub falls : (e : ℕ) → e < L .parts * 3 → getD rest e 0 ≤ e
-  pub causes : (i j : ℕ) → i < L .parts → j < 1024 → Touches (getD (L .next) i 0) (partOf (L .tree) i) j → (e : ℕ) × Met rest (getD heads j 0) e × (e / 3 ≡ i)
+  pub causes : (i j : ℕ) → i < L .parts → j < maxNodes → Touches (getD (L .next) i 0) (partOf (L .tree) i) j → (e : ℕ) × Met rest (getD heads j 0) e × (e / 3 ≡ i)

@@ -5,13 +5,16 @@ use mathlib.Core.Bool.{Bool, false, true, _||_}
 use mathlib.Core.List.{List}
 use mathlib.Core.Logic.{_⊎_}
 use mathlib.Core.Path.{_≡_}
-use Prim.Native.Nat.{ℕ, _%_, _*_, _+_, _-_, _/_, _<_, _≤_}
+use Prim.Native.Nat.{ℕ, _*_, _+_, _<_, _≤_}
 use Rattle.alive.specs.Lists.{AliveIn, Lists, leafAt, numbered}
-use Rattle.alive.specs.Worklist.{states}
 use Rattle.index.specs.Index.{Met}
 use Rattle.index.specs.Triples.{predicateOf, subjectOf}
+use Rattle.meaning.specs.Limits.{maxNodes, maxParts, maxStates}
 use Rattle.meaning.specs.Query.{Joins}
-use Rattle.walk.specs.Parts.{Child, Part, chain, either, kindOf, leaf, partOf, repeat, test}
+use Rattle.query.specs.Tree.{kindOf}
+use Rattle.states.specs.State.{nodeAt, partAt, state}
+use Rattle.states.specs.Table.{Marked}
+use Rattle.walk.specs.Parts.{Child, Part, chain, either, leaf, partOf, repeat, test}
 
 -- Whether a step of this kind (1 any, 2 by name) takes the predicate p.
 abbrev pub takes : ℕ → ℕ → ℕ → Bool
@@ -21,26 +24,26 @@ takes kind want p = eqb kind 1 || eqb p want
 pub record Chain (triples earlier : List ℕ) (x : ℕ) : Type 0 where
   pub listed : (k : ℕ) → Met earlier x k → k < length earlier
   pub whole : (k : ℕ) → Met earlier x k → k * 3 + 3 ≤ length triples
-  pub nodes : (k : ℕ) → Met earlier x k → subjectOf triples k < 1024
+  pub nodes : (k : ℕ) → Met earlier x k → subjectOf triples k < maxNodes
   pub falls : (k : ℕ) → Met earlier x k → getD earlier k 0 ≤ k
 
 -- y is the part i at the subject of the triple k, which the step takes.
 pub record SubjectAt (triples : List ℕ) (k kind want i y : ℕ) : Type 0 where
   pub taken : takes kind want (predicateOf triples k) ≡ true
-  pub state : y ≡ i * 1024 + subjectOf triples k
+  pub state : y ≡ state i (subjectOf triples k)
 
 -- y is the part i at the subject of a triple of the chain that the step takes.
 pub record SubjectOn (triples earlier : List ℕ) (x kind want i y : ℕ) : Type 0 where
   pub at : ℕ
   pub met : Met earlier x at
   pub taken : takes kind want (predicateOf triples at) ≡ true
-  pub state : y ≡ i * 1024 + subjectOf triples at
+  pub state : y ≡ state i (subjectOf triples at)
 
 -- y is the leaf i, of this kind, at a node from which it leads to m, where a chain has the triples that end at m.
 pub data LeafBack (triples earlier : List ℕ) (x kind want i m y : ℕ) : Type 0 where
-  stays : kind ≡ 0 → y ≡ i * 1024 + m → LeafBack triples earlier x kind want i m y
+  stays : kind ≡ 0 → y ≡ state i m → LeafBack triples earlier x kind want i m y
   steps : 1 ≤ kind → kind ≤ 2 → SubjectOn triples earlier x kind want i y → LeafBack triples earlier x kind want i m y
-  labels : 3 ≤ kind → kind ≤ 4 → want ≡ m → y ≡ i * 1024 + m → LeafBack triples earlier x kind want i m y
+  labels : 3 ≤ kind → kind ≤ 4 → want ≡ m → y ≡ state i m → LeafBack triples earlier x kind want i m y
 
 -- The part p, which has parts, is alive at a node, as B says of parts there; `after` comes after p.
 abbrev pub Led : (ℕ → Type 0) → ℕ → Part → Type 0
@@ -56,37 +59,37 @@ Turns false B after p = Led B after p → ⊥
 
 -- The parts that are marked at the node m.
 abbrev pub At : List ℕ → ℕ → ℕ → Type 0
-At table m j = getD table (j * 1024 + m) 0 ≡ 1
+At table m j = Marked 1 table (state j m)
 
 -- y is the part i at a node from which a step of it leads to (j, m), or which its own parts at m make alive.
 pub data PartBack (triples earlier last tree next wanted table : List ℕ) (i j m y : ℕ) : Type 0 where
   leaves : getD next i 0 ≡ j → LeafBack triples earlier (getD last m 0) (kindOf tree i) (getD wanted i 0) i m y → PartBack triples earlier last tree next wanted table i j m y
-  turns : Led (At table m) (getD next i 0) (partOf tree i) → y ≡ i * 1024 + m → PartBack triples earlier last tree next wanted table i j m y
+  turns : Led (At table m) (getD next i 0) (partOf tree i) → y ≡ state i m → PartBack triples earlier last tree next wanted table i j m y
 
 -- The part i is there, its own parts stand before it, and after it comes a part or the end.
 pub record PartReady (tree next : List ℕ) (i : ℕ) : Type 0 where
-  pub short : i < 256
+  pub short : i < maxParts
   pub in-tree : i < length tree
   pub in-next : i < length next
   pub kind : kindOf tree i ≤ 8
   pub before : (c : ℕ) → Child (partOf tree i) c → c < i
-  pub onward : getD next i 0 ≤ 256
+  pub onward : getD next i 0 ≤ maxParts
 
 -- y is the end at a node.
 pub record EndAt (nodes parts y : ℕ) : Type 0 where
   pub node : ℕ
   pub is : node < nodes
-  pub state : y ≡ parts * 1024 + node
+  pub state : y ≡ state parts node
 
 -- The number x is a state that is alive.
 pub record StateAlive (L : Lists) (x : ℕ) : Type 0 where
-  pub part : x / 1024 ≤ L .parts
-  pub node : x % 1024 < L .nodes
-  pub alive : AliveIn L (x / 1024) (x % 1024)
+  pub part : partAt x ≤ L .parts
+  pub node : nodeAt x < L .nodes
+  pub alive : AliveIn L (partAt x) (nodeAt x)
 
 -- Every marked state is alive.
 abbrev pub AllAlive : Lists → List ℕ → Type 0
-AllAlive L table = (x : ℕ) → x < states → getD table x 0 ≡ 1 → StateAlive L x
+AllAlive L table = (x : ℕ) → x < maxStates → Marked 1 table x → StateAlive L x
 
 -- The part p, after which `after` comes, can turn alive when the part j does.
 abbrev pub Touches : ℕ → Part → ℕ → Type 0
@@ -99,8 +102,8 @@ Touches after (either left right) j = (j ≡ left) ⊎ (j ≡ right)
 -- y is a state of the part i that is alive if the state s and what is marked are: the part is a leaf that leads to s, or
 -- it has parts, s is of one of these or of what comes after, and they make it alive at the node of s.
 pub data BackAt (L : Lists) (table : List ℕ) (s i y : ℕ) : Type 0 where
-  leads : (n : ℕ) → partOf (L .tree) i ≡ leaf → getD (L .next) i 0 ≡ s / 1024 → Joins (numbered L) (leafAt L i) n (s % 1024) → y ≡ i * 1024 + n → BackAt L table s i y
-  turns : Led (At table (s % 1024)) (getD (L .next) i 0) (partOf (L .tree) i) → Touches (getD (L .next) i 0) (partOf (L .tree) i) (s / 1024) → y ≡ i * 1024 + s % 1024 → BackAt L table s i y
+  leads : (n : ℕ) → partOf (L .tree) i ≡ leaf → getD (L .next) i 0 ≡ partAt s → Joins (numbered L) (leafAt L i) n (nodeAt s) → y ≡ state i n → BackAt L table s i y
+  turns : Led (At table (nodeAt s)) (getD (L .next) i 0) (partOf (L .tree) i) → Touches (getD (L .next) i 0) (partOf (L .tree) i) (partAt s) → y ≡ state i (nodeAt s) → BackAt L table s i y
 
 pub record BackTo (L : Lists) (table : List ℕ) (s y : ℕ) : Type 0 where
   pub part : ℕ

@@ -3,12 +3,15 @@ ghost use lib.ListN.{getD, length};
 ghost use mathlib.Core.Path.{_≡_};
 ghost use Prim.Native.Nat.{_*_, _+_, _<_, _≤_};
 ghost use Rattle.alive.specs.Steps.{At, Chain, LeafBack, PartBack, PartReady, SubjectAt, SubjectOn, Turns, takes};
-ghost use Rattle.alive.specs.Worklist.{AddsOnly, Table, states};
 ghost use Rattle.index.specs.Triples.{subjectOf};
+ghost use Rattle.meaning.specs.Limits.{maxNodes, maxParts, maxStates};
+ghost use Rattle.states.specs.Table.{AddsOnly, Table};
 ghost use Rattle.walk.specs.Parts.{partOf};
-use crate::PLACES;
-use crate::marks::mark;
 use query::kinds;
+use query::parts::first_number;
+use query::parts::kind_of;
+use states::is_marked;
+use states::mark;
 
 // Whether a step of this kind takes the predicate.
 pub fn takes_predicate(kind: usize, want: u16, predicate: u16) -> bool
@@ -28,14 +31,14 @@ fn mark_subject(
     queue: &mut [u32],
     tail: usize,
 ) -> usize
-    requires { ⌜ (k * 3 + 3 ≤ length (now triples)) × ((subjectOf (now triples) k < 1024) × ((i < 256) × Table 1 states (now alive) (now queue) tail)) ⌝ }
-    ensures { λ r. ⌜ AddsOnly 1 states (SubjectAt (now (triples .entry)) k kind want i) (now (alive .entry)) (now (queue .entry)) tail (now (alive .exit)) (now (queue .exit)) r ⌝ }
+    requires { ⌜ (k * 3 + 3 ≤ length (now triples)) × ((subjectOf (now triples) k < maxNodes) × ((i < maxParts) × Table 1 maxStates (now alive) (now queue) tail)) ⌝ }
+    ensures { λ r. ⌜ AddsOnly 1 maxStates (SubjectAt (now (triples .entry)) k kind want i) (now (alive .entry)) (now (queue .entry)) tail (now (alive .exit)) (now (queue .exit)) r ⌝ }
 {
     if !takes_predicate(kind, want, triples[k * 3 + 1]) {
         return tail;
     }
     let subject = triples[k * 3] as usize;
-    mark(i * PLACES + subject, alive, queue, tail)
+    mark(i, subject, alive, queue, tail)
 }
 
 // Marks the part i at the subjects of the triples of a chain, which begins at x, that the step takes.
@@ -50,8 +53,8 @@ fn mark_subjects(
     queue: &mut [u32],
     tail: usize,
 ) -> usize
-    requires { ⌜ Chain (now triples) (now earlier) x × ((i < 256) × Table 1 states (now alive) (now queue) tail) ⌝ }
-    ensures { λ r. ⌜ AddsOnly 1 states (SubjectOn (now (triples .entry)) (now (earlier .entry)) x kind want i) (now (alive .entry)) (now (queue .entry)) tail (now (alive .exit)) (now (queue .exit)) r ⌝ }
+    requires { ⌜ Chain (now triples) (now earlier) x × ((i < maxParts) × Table 1 maxStates (now alive) (now queue) tail) ⌝ }
+    ensures { λ r. ⌜ AddsOnly 1 maxStates (SubjectOn (now (triples .entry)) (now (earlier .entry)) x kind want i) (now (alive .entry)) (now (queue .entry)) tail (now (alive .exit)) (now (queue .exit)) r ⌝ }
 {
     let mut end = tail;
     let mut at = x;
@@ -75,11 +78,11 @@ fn mark_leaf(
     queue: &mut [u32],
     tail: usize,
 ) -> usize
-    requires { ⌜ Chain (now triples) (now earlier) x × (((i < 256) × (m < 1024)) × Table 1 states (now alive) (now queue) tail) ⌝ }
-    ensures { λ r. ⌜ AddsOnly 1 states (LeafBack (now (triples .entry)) (now (earlier .entry)) x kind want i m) (now (alive .entry)) (now (queue .entry)) tail (now (alive .exit)) (now (queue .exit)) r ⌝ }
+    requires { ⌜ Chain (now triples) (now earlier) x × (((i < maxParts) × (m < maxNodes)) × Table 1 maxStates (now alive) (now queue) tail) ⌝ }
+    ensures { λ r. ⌜ AddsOnly 1 maxStates (LeafBack (now (triples .entry)) (now (earlier .entry)) x kind want i m) (now (alive .entry)) (now (queue .entry)) tail (now (alive .exit)) (now (queue .exit)) r ⌝ }
 {
     if kind == kinds::STAY {
-        return mark(i * PLACES + m, alive, queue, tail);
+        return mark(i, m, alive, queue, tail);
     }
     if kind < kinds::AT_IRI {
         return mark_subjects(triples, earlier, x, kind, want, i, alive, queue, tail);
@@ -90,42 +93,40 @@ fn mark_leaf(
     if want as usize != m {
         return tail;
     }
-    mark(i * PLACES + m, alive, queue, tail)
+    mark(i, m, alive, queue, tail)
 }
 
 // Whether the part i, which has parts, is alive at m by what is marked there.
 fn turns_alive(tree: &[u32], next: &[u16], i: usize, m: usize, alive: &[u8]) -> bool
-    requires { ⌜ PartReady (now tree) (now next) i × ((m < 1024) × (states ≤ length (now alive))) ⌝ }
+    requires { ⌜ PartReady (now tree) (now next) i × ((m < maxNodes) × (maxStates ≤ length (now alive))) ⌝ }
     ensures { λ r. ⌜ Turns r (At (now (alive .entry)) m) (getD (now (next .entry)) i 0) (partOf (now (tree .entry)) i) ⌝ }
 {
-    let part = tree[i] as usize;
-    let kind = part / 65536;
+    let kind = kind_of(tree, i);
     if kind < kinds::NESTED {
         return false;
     }
-    let left = part / 256 % 256;
-    let body = alive[(i - 1) * PLACES + m];
-    let after = alive[next[i] as usize * PLACES + m];
-    let first = alive[left * PLACES + m];
+    let body = is_marked(alive, i - 1, m);
+    let after = is_marked(alive, next[i] as usize, m);
+    let first = is_marked(alive, first_number(tree, i), m);
     if kind == kinds::NESTED {
-        if body != 1 {
+        if !body {
             return false;
         }
-        return after == 1;
+        return after;
     }
     if kind == kinds::STAR {
-        if after == 1 {
+        if after {
             return true;
         }
-        return body == 1;
+        return body;
     }
-    if first == 1 {
+    if first {
         return true;
     }
     if kind == kinds::SEQUENCE {
         return false;
     }
-    body == 1
+    body
 }
 
 // Marks the part i at each node from which it leads to (j, m), or at m, if its own parts make it alive there.
@@ -143,16 +144,16 @@ pub fn mark_part(
     queue: &mut [u32],
     tail: usize,
 ) -> usize
-    requires { ⌜ (Chain (now triples) (now earlier) (getD (now last) m 0) × (1024 ≤ length (now last))) × ((PartReady (now tree) (now next) i × (i < length (now wanted))) × ((m < 1024) × Table 1 states (now alive) (now queue) tail)) ⌝ }
-    ensures { λ r. ⌜ AddsOnly 1 states (PartBack (now (triples .entry)) (now (earlier .entry)) (now (last .entry)) (now (tree .entry)) (now (next .entry)) (now (wanted .entry)) (now (alive .entry)) i j m) (now (alive .entry)) (now (queue .entry)) tail (now (alive .exit)) (now (queue .exit)) r ⌝ }
+    requires { ⌜ (Chain (now triples) (now earlier) (getD (now last) m 0) × (maxNodes ≤ length (now last))) × ((PartReady (now tree) (now next) i × (i < length (now wanted))) × ((m < maxNodes) × Table 1 maxStates (now alive) (now queue) tail)) ⌝ }
+    ensures { λ r. ⌜ AddsOnly 1 maxStates (PartBack (now (triples .entry)) (now (earlier .entry)) (now (last .entry)) (now (tree .entry)) (now (next .entry)) (now (wanted .entry)) (now (alive .entry)) i j m) (now (alive .entry)) (now (queue .entry)) tail (now (alive .exit)) (now (queue .exit)) r ⌝ }
 {
     if turns_alive(tree, next, i, m, &alive[..]) {
-        return mark(i * PLACES + m, alive, queue, tail);
+        return mark(i, m, alive, queue, tail);
     }
     if next[i] as usize != j {
         return tail;
     }
-    let kind = tree[i] as usize / 65536;
+    let kind = kind_of(tree, i);
     mark_leaf(
         triples,
         earlier,

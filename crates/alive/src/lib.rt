@@ -1,22 +1,26 @@
 // The states of a query over a graph in number lists from which the end is reached, found backward from the ends.
-mod marks; // a state is marked once
 mod links; // the parts that each part can make alive
 pub mod back; // the states from which a step leads to one
 
-ghost use lib.ListN.{getD, length};
-ghost use mathlib.Core.Path.{_≡_};
-ghost use Prim.Native.Nat.{_%_, _*_, _+_, _-_, _/_, _<_, _≤_};
+ghost use lib.ListN.{length};
+ghost use Prim.Native.Nat.{_-_, _<_, _≤_};
 ghost use Rattle.alive.specs.Fits.{Fits};
 ghost use Rattle.alive.specs.Links.{Caused};
 ghost use Rattle.alive.specs.Lists.{lists};
 ghost use Rattle.alive.specs.Living.{Living, SomeAt};
 ghost use Rattle.alive.specs.Steps.{AllAlive, BackTo, EndAt, StateAlive};
-ghost use Rattle.alive.specs.Worklist.{Adds, AddsOnly, Table, Unmarked, states};
 ghost use Rattle.index.specs.Index.{ByObject};
+ghost use Rattle.meaning.specs.Limits.{maxNodes, maxParts, maxStates};
+ghost use Rattle.states.specs.Table.{Adds, AddsOnly, Marked, Table, Unmarked};
 use crate::back::mark_part;
 use crate::links::link_parts;
-use crate::marks::mark;
 use index::chain_by_object;
+use meaning::MAX_NODES;
+use meaning::MAX_PARTS;
+use states::is_marked;
+use states::mark;
+use states::node_at;
+use states::part_at;
 
 // How many nodes, triples and parts there are.
 pub struct Sizes {
@@ -25,23 +29,18 @@ pub struct Sizes {
     pub parts: usize,
 }
 
-// The nodes of a part's states, and the states of all parts and the end.
-pub const PLACES: usize = 1024;
-
-pub const STATES: usize = 263168;
-
-// Three links for each of 256 parts.
-const MAX_LINKS: usize = 768;
+// Three for each part.
+const MAX_LINKS: usize = MAX_PARTS * 3;
 
 // Marks the end at every node.
 fn mark_ends(nodes: usize, parts: usize, alive: &mut [u8], queue: &mut [u32]) -> usize
-    requires { ⌜ ((nodes ≤ 1024) × (parts ≤ 256)) × Unmarked 1 states (now alive) (now queue) ⌝ }
-    ensures { λ r. ⌜ AddsOnly 1 states (EndAt nodes parts) (now (alive .entry)) (now (queue .entry)) 0 (now (alive .exit)) (now (queue .exit)) r ⌝ }
+    requires { ⌜ ((nodes ≤ maxNodes) × (parts ≤ maxParts)) × Unmarked 1 maxStates (now alive) (now queue) ⌝ }
+    ensures { λ r. ⌜ AddsOnly 1 maxStates (EndAt nodes parts) (now (alive .entry)) (now (queue .entry)) 0 (now (alive .exit)) (now (queue .exit)) r ⌝ }
 {
     let mut tail = 0;
     let mut n = 0;
     while n < nodes {
-        tail = mark(parts * PLACES + n, alive, queue, tail);
+        tail = mark(parts, n, alive, queue, tail);
         n += 1;
     }
     tail
@@ -63,11 +62,11 @@ fn mark_back(
     queue: &mut [u32],
     tail: usize,
 ) -> usize
-    requires { ⌜ (Fits (lists sizes (now triples) (now tree) (now next) (now wanted)) × (ByObject (now triples) (sizes .edges) (now last) (now earlier) × Caused (lists sizes (now triples) (now tree) (now next) (now wanted)) (now heads) (now rest))) × ((AllAlive (lists sizes (now triples) (now tree) (now next) (now wanted)) (now alive) × ((s < states) × (getD (now alive) s 0 ≡ 1))) × Table 1 states (now alive) (now queue) tail) ⌝ }
-    ensures { λ r. ⌜ Adds 1 states (StateAlive (lists sizes (now (triples .entry)) (now (tree .entry)) (now (next .entry)) (now (wanted .entry)))) (BackTo (lists sizes (now (triples .entry)) (now (tree .entry)) (now (next .entry)) (now (wanted .entry))) (now (alive .entry)) s) (now (alive .entry)) (now (queue .entry)) tail (now (alive .exit)) (now (queue .exit)) r ⌝ }
+    requires { ⌜ (Fits (lists sizes (now triples) (now tree) (now next) (now wanted)) × (ByObject (now triples) (sizes .edges) (now last) (now earlier) × Caused (lists sizes (now triples) (now tree) (now next) (now wanted)) (now heads) (now rest))) × ((AllAlive (lists sizes (now triples) (now tree) (now next) (now wanted)) (now alive) × ((s < maxStates) × (Marked 1 (now alive) s))) × Table 1 maxStates (now alive) (now queue) tail) ⌝ }
+    ensures { λ r. ⌜ Adds 1 maxStates (StateAlive (lists sizes (now (triples .entry)) (now (tree .entry)) (now (next .entry)) (now (wanted .entry)))) (BackTo (lists sizes (now (triples .entry)) (now (tree .entry)) (now (next .entry)) (now (wanted .entry))) (now (alive .entry)) s) (now (alive .entry)) (now (queue .entry)) tail (now (alive .exit)) (now (queue .exit)) r ⌝ }
 {
-    let j = s / PLACES;
-    let m = s % PLACES;
+    let j = part_at(s);
+    let m = node_at(s);
     let mut end = tail;
     let mut at = heads[j] as usize;
     while 0 < at {
@@ -105,7 +104,7 @@ fn mark_all(
     alive: &mut [u8],
     queue: &mut [u32],
 )
-    requires { ⌜ (Fits (lists sizes (now triples) (now tree) (now next) (now wanted)) × (ByObject (now triples) (sizes .edges) (now last) (now earlier) × Caused (lists sizes (now triples) (now tree) (now next) (now wanted)) (now heads) (now rest))) × Unmarked 1 states (now alive) (now queue) ⌝ }
+    requires { ⌜ (Fits (lists sizes (now triples) (now tree) (now next) (now wanted)) × (ByObject (now triples) (sizes .edges) (now last) (now earlier) × Caused (lists sizes (now triples) (now tree) (now next) (now wanted)) (now heads) (now rest))) × Unmarked 1 maxStates (now alive) (now queue) ⌝ }
     ensures { λ _. ⌜ Living (lists sizes (now (triples .entry)) (now (tree .entry)) (now (next .entry)) (now (wanted .entry))) (now (alive .exit)) ⌝ }
 {
     let mut tail = mark_ends(sizes.nodes, sizes.parts, alive, queue);
@@ -143,14 +142,20 @@ pub fn mark_alive(
     alive: &mut [u8],
     queue: &mut [u32],
 )
-    requires { ⌜ (Fits (lists sizes (now triples) (now tree) (now next) (now wanted)) × ByObject (now triples) (sizes .edges) (now last) (now earlier)) × Unmarked 1 states (now alive) (now queue) ⌝ }
+    requires { ⌜ (Fits (lists sizes (now triples) (now tree) (now next) (now wanted)) × ByObject (now triples) (sizes .edges) (now last) (now earlier)) × Unmarked 1 maxStates (now alive) (now queue) ⌝ }
     ensures { λ _. ⌜ Living (lists sizes (now (triples .entry)) (now (tree .entry)) (now (next .entry)) (now (wanted .entry))) (now (alive .exit)) ⌝ }
 {
     let mut links = [0u16; MAX_LINKS * 3];
-    let mut heads = [0u16; PLACES];
+    let mut heads = [0u16; MAX_NODES];
     let mut rest = [0u16; MAX_LINKS];
     link_parts(tree, next, sizes.parts, &mut links);
-    chain_by_object(&links[..], PLACES, sizes.parts * 3, &mut heads, &mut rest);
+    chain_by_object(
+        &links[..],
+        MAX_NODES,
+        sizes.parts * 3,
+        &mut heads,
+        &mut rest,
+    );
     mark_all(
         sizes,
         triples,
@@ -168,12 +173,12 @@ pub fn mark_alive(
 
 // Whether the root is marked at some node.
 pub fn some_alive(nodes: usize, parts: usize, alive: &[u8]) -> bool
-    requires { ⌜ ((nodes ≤ 1024) × ((0 < parts) × (parts ≤ 256))) × (states ≤ length (now alive)) ⌝ }
+    requires { ⌜ ((nodes ≤ maxNodes) × ((0 < parts) × (parts ≤ maxParts))) × (maxStates ≤ length (now alive)) ⌝ }
     ensures { λ r. ⌜ SomeAt r (now (alive .entry)) nodes (parts - 1) ⌝ }
 {
     let mut n = 0;
     while n < nodes {
-        if alive[(parts - 1) * PLACES + n] == 1 {
+        if is_marked(alive, parts - 1, n) {
             return true;
         }
         n += 1;

@@ -1,6 +1,5 @@
 -- Listing the pairs in ascending order, start by start. Assumes nothing.
-use borrow.Author.Tests.{eq-eqb, ne-eqb}
-use lib.ListN.{getD, length, length-append, set, take}
+use lib.ListN.{length, length-append, set, take}
 use lib.Seq.{length-take-le, take-suc-set}
 use mathlib.Core.List.{List, List·Memᴰ·append-cases, Memᴰ·append-left, Memᴰ·append-right, [], append-assoc, append-nil, _++_, _∷_}
 use mathlib.Core.Logic.{⊎-elim, _≢_, _⊎_}
@@ -8,137 +7,142 @@ use mathlib.Core.Path.{ap, refl, subst, sym, _∙_, _≡_}
 use native.Mathlib.Decide.{decLt, ℕ-discrete}
 use native.Mathlib.Numerals.{add-one}
 use native.Mathlib.Omega.{arith}
-use Prim.Native.Nat.{suc, zero, ℕ, _*_, _+_, _-_, _<_, _≤_}
+use Prim.Native.Nat.{suc, zero, ℕ, _+_, _-_, _<_, _≤_}
 use Rattle.alive.specs.Fits.{Fits}
 use Rattle.alive.specs.Lists.{AliveIn, Lists, ReachedIn, leafAt, numbered}
 use Rattle.alive.specs.Living.{Living}
 use Rattle.answers.specs.Answers.{EndsAre, ListedBelow, ListedUpTo, PairIn, PairsAre, Walked, endsFrom}
 use Rattle.answers.specs.declared.pairs.Pairs.{Pairs}
 use Rattle.answers.specs.declared.pairs.Pairs.the-variants.{Listed, TooMany}
+use Rattle.answers.specs.Keys.{pairKey}
 use Rattle.meaning.specs.Limits.{maxPairs}
 use Rattle.meaning.specs.Member.{here, there, _∈_}
 use Rattle.meaning.specs.Ordered.{InOrder, ListOf, Over, before, empty}
+use Rattle.states.proofs.Marking.{true-false}
+use Rattle.states.specs.State.{state}
+use Rattle.states.specs.Table.{has, Marked}
 use Rattle.walk.proofs.Alive.{alive-saturated}
 use Rattle.walk.specs.Parts.{listed, partOf}
 use Rattle.walk.specs.Walk.{ended, onward, start}
+use mathlib.Core.Bool.{Bool, false, true}
 
 -- ---- one start, end by end
 
-module _ (seen : List ℕ) (row stamp base : ℕ) where
-  ends-hit : (e f : ℕ) → getD seen (row + e) 0 ≡ stamp → endsFrom seen row stamp base e (suc f) ≡ (base + e) ∷ endsFrom seen row stamp base (suc e) f
+module _ (seen : List ℕ) (part stamp start : ℕ) where
+  ends-hit : (e f : ℕ) → Marked stamp seen (state part e) → endsFrom seen part stamp start e (suc f) ≡ (pairKey start e) ∷ endsFrom seen part stamp start (suc e) f
   unfolding endsFrom
-  ends-hit e f h = rw (eq-eqb (getD seen (row + e) 0) stamp h)
+  ends-hit e f h = rw h
 
-  ends-miss : (e f : ℕ) → (getD seen (row + e) 0 ≡ stamp → ⊥) → endsFrom seen row stamp base e (suc f) ≡ endsFrom seen row stamp base (suc e) f
+  ends-miss : (e f : ℕ) → has stamp seen (state part e) ≡ false → endsFrom seen part stamp start e (suc f) ≡ endsFrom seen part stamp start (suc e) f
   unfolding endsFrom
-  ends-miss e f h = rw (ne-eqb (getD seen (row + e) 0) stamp h)
+  ends-miss e f h = rw h
 
-  ends-none : (e : ℕ) → endsFrom seen row stamp base e 0 ≡ []
+  ends-none : (e : ℕ) → endsFrom seen part stamp start e 0 ≡ []
   unfolding endsFrom
   ends-none e = refl
 
 -- What is listed, and what is still to come from the end e on.
-pub record Ends (seen : List ℕ) (row stamp base named : ℕ) (pairs₀ : List ℕ) (k₀ : ℕ) (pairs : List ℕ) (k e : ℕ) : Type 0 where
+pub record Ends (seen : List ℕ) (part stamp start named : ℕ) (pairs₀ : List ℕ) (k₀ : ℕ) (pairs : List ℕ) (k e : ℕ) : Type 0 where
   pub within : e ≤ named
   pub few : k ≤ maxPairs
-  pub are : take k pairs ++ endsFrom seen row stamp base e (named - e) ≡ take k₀ pairs₀ ++ endsFrom seen row stamp base 0 named
+  pub are : take k pairs ++ endsFrom seen part stamp start e (named - e) ≡ take k₀ pairs₀ ++ endsFrom seen part stamp start 0 named
 
-module _ {seen : List ℕ} {row stamp base named : ℕ} {pairs₀ : List ℕ} {k₀ : ℕ} where
-  pub ends-start : k₀ ≤ maxPairs → Ends seen row stamp base named pairs₀ k₀ pairs₀ k₀ 0
-  ends-start l = record { within = omega arith; few = l; are = let e : named - 0 ≡ named = omega arith in ap (λ x. take k₀ pairs₀ ++ endsFrom seen row stamp base 0 x) e }
+module _ {seen : List ℕ} {part stamp start named : ℕ} {pairs₀ : List ℕ} {k₀ : ℕ} where
+  pub ends-start : k₀ ≤ maxPairs → Ends seen part stamp start named pairs₀ k₀ pairs₀ k₀ 0
+  ends-start l = record { within = omega arith; few = l; are = let e : named - 0 ≡ named = omega arith in ap (λ x. take k₀ pairs₀ ++ endsFrom seen part stamp start 0 x) e }
 
-  module _ {pairs : List ℕ} {k e : ℕ} (s : Ends seen row stamp base named pairs₀ k₀ pairs k e) where
+  module _ {pairs : List ℕ} {k e : ℕ} (s : Ends seen part stamp start named pairs₀ k₀ pairs k e) where
     left-over : e < named → named - e ≡ suc (named - (e + 1))
     left-over l = omega arith
 
-    pub ends-skip : e < named → (getD seen (row + e) 0 ≡ stamp → ⊥) → Ends seen row stamp base named pairs₀ k₀ pairs k (e + 1)
+    pub ends-skip : e < named → has stamp seen (state part e) ≡ false → Ends seen part stamp start named pairs₀ k₀ pairs k (e + 1)
     ends-skip l h = record {
       within = omega arith;
       few = s .few;
       are =
-          ap (λ x. take k pairs ++ endsFrom seen row stamp base x (named - (e + 1))) (add-one e)
-          ∙ ap (λ x. take k pairs ++ x) (sym (ends-miss seen row stamp base e (named - (e + 1)) h))
-          ∙ ap (λ x. take k pairs ++ endsFrom seen row stamp base e x) (sym (left-over l))
+          ap (λ x. take k pairs ++ endsFrom seen part stamp start x (named - (e + 1))) (add-one e)
+          ∙ ap (λ x. take k pairs ++ x) (sym (ends-miss seen part stamp start e (named - (e + 1)) h))
+          ∙ ap (λ x. take k pairs ++ endsFrom seen part stamp start e x) (sym (left-over l))
           ∙ s .are;
     }
 
-    pub ends-add : e < named → k < maxPairs → k < length pairs → getD seen (row + e) 0 ≡ stamp → Ends seen row stamp base named pairs₀ k₀ (set pairs k (base + e)) (k + 1) (e + 1)
-    ends-add l g r h = record {
+    pub ends-add : e < named → k < maxPairs → k < length pairs → Marked stamp seen (state part e) → {key : ℕ} → key ≡ pairKey start e → Ends seen part stamp start named pairs₀ k₀ (set pairs k key) (k + 1) (e + 1)
+    ends-add l g r h {key} is = subst (λ x. Ends seen part stamp start named pairs₀ k₀ (set pairs k x) (k + 1) (e + 1)) (sym is) (record {
       within = omega arith;
       few = omega arith;
       are =
-          ap (λ x. take x (set pairs k (base + e)) ++ endsFrom seen row stamp base (e + 1) (named - (e + 1))) (add-one k)
-          ∙ ap (λ x. take (suc k) (set pairs k (base + e)) ++ endsFrom seen row stamp base x (named - (e + 1))) (add-one e)
-          ∙ ap (λ x. x ++ endsFrom seen row stamp base (suc e) (named - (e + 1))) (take-suc-set pairs k (base + e) r)
-          ∙ append-assoc (take k pairs) ((base + e) ∷ []) (endsFrom seen row stamp base (suc e) (named - (e + 1)))
-          ∙ ap (λ x. take k pairs ++ x) (sym (ends-hit seen row stamp base e (named - (e + 1)) h))
-          ∙ ap (λ x. take k pairs ++ endsFrom seen row stamp base e x) (sym (left-over l))
+          ap (λ x. take x (set pairs k (pairKey start e)) ++ endsFrom seen part stamp start (e + 1) (named - (e + 1))) (add-one k)
+          ∙ ap (λ x. take (suc k) (set pairs k (pairKey start e)) ++ endsFrom seen part stamp start x (named - (e + 1))) (add-one e)
+          ∙ ap (λ x. x ++ endsFrom seen part stamp start (suc e) (named - (e + 1))) (take-suc-set pairs k (pairKey start e) r)
+          ∙ append-assoc (take k pairs) ((pairKey start e) ∷ []) (endsFrom seen part stamp start (suc e) (named - (e + 1)))
+          ∙ ap (λ x. take k pairs ++ x) (sym (ends-hit seen part stamp start e (named - (e + 1)) h))
+          ∙ ap (λ x. take k pairs ++ endsFrom seen part stamp start e x) (sym (left-over l))
           ∙ s .are;
-    }
+    })
 
-    pub ends-over : e < named → k ≡ maxPairs → maxPairs ≤ length pairs → getD seen (row + e) 0 ≡ stamp → maxPairs < length (take k₀ pairs₀ ++ endsFrom seen row stamp base 0 named)
+    pub ends-over : e < named → k ≡ maxPairs → maxPairs ≤ length pairs → Marked stamp seen (state part e) → maxPairs < length (take k₀ pairs₀ ++ endsFrom seen part stamp start 0 named)
     ends-over l g r h =
-        let a : take k pairs ++ ((base + e) ∷ endsFrom seen row stamp base (suc e) (named - (e + 1))) ≡ take k₀ pairs₀ ++ endsFrom seen row stamp base 0 named
-        = ap (λ x. take k pairs ++ x) (sym (ends-hit seen row stamp base e (named - (e + 1)) h)) ∙ ap (λ x. take k pairs ++ endsFrom seen row stamp base e x) (sym (left-over l)) ∙ s .are in
+        let a : take k pairs ++ ((pairKey start e) ∷ endsFrom seen part stamp start (suc e) (named - (e + 1))) ≡ take k₀ pairs₀ ++ endsFrom seen part stamp start 0 named
+        = ap (λ x. take k pairs ++ x) (sym (ends-hit seen part stamp start e (named - (e + 1)) h)) ∙ ap (λ x. take k pairs ++ endsFrom seen part stamp start e x) (sym (left-over l)) ∙ s .are in
         let b = ap length a in
-        let c = length-append (take k pairs) ((base + e) ∷ endsFrom seen row stamp base (suc e) (named - (e + 1))) in
+        let c = length-append (take k pairs) ((pairKey start e) ∷ endsFrom seen part stamp start (suc e) (named - (e + 1))) in
         let d = length-take-le k pairs (omega arith) in
         omega arith
 
-    pub ends-done : named ≤ e → take k pairs ≡ take k₀ pairs₀ ++ endsFrom seen row stamp base 0 named
+    pub ends-done : named ≤ e → take k pairs ≡ take k₀ pairs₀ ++ endsFrom seen part stamp start 0 named
     ends-done l =
         let z : named - e ≡ 0 = omega arith in
-        sym (append-nil (take k pairs)) ∙ ap (λ x. take k pairs ++ x) (sym (ends-none seen row stamp base e)) ∙ ap (λ x. take k pairs ++ endsFrom seen row stamp base e x) (sym z) ∙ s .are
+        sym (append-nil (take k pairs)) ∙ ap (λ x. take k pairs ++ x) (sym (ends-none seen part stamp start e)) ∙ ap (λ x. take k pairs ++ endsFrom seen part stamp start e x) (sym z) ∙ s .are
 
 -- ---- what is in that list
 
-module _ (seen : List ℕ) (row stamp base : ℕ) where
+module _ (seen : List ℕ) (part stamp start : ℕ) where
   -- a number of the list, by the end that it is of
   pub record EndIn (e f x : ℕ) : Type 0 where
     pub end : ℕ
     pub from : e ≤ end
     pub upto : end < e + f
-    pub stamped : getD seen (row + end) 0 ≡ stamp
-    pub number : x ≡ base + end
+    pub stamped : Marked stamp seen (state part end)
+    pub number : x ≡ pairKey start end
 
   later : {e f x : ℕ} → EndIn (suc e) f x → EndIn e (suc f) x
   later r = let a = r .from in let b = r .upto in record { end = r .end; from = omega arith; upto = omega arith; stamped = r .stamped; number = r .number }
 
-  in-ends : (f e x : ℕ) → x ∈ endsFrom seen row stamp base e f → EndIn e f x
-  in-ends zero e x m = absurd (none (subst (λ xs. x ∈ xs) (ends-none seen row stamp base e) m))
+  in-ends : (f e x : ℕ) → x ∈ endsFrom seen part stamp start e f → EndIn e f x
+  in-ends zero e x m = absurd (none (subst (λ xs. x ∈ xs) (ends-none seen part stamp start e) m))
     where
       none : x ∈ [] → ⊥
       none y = elim y [ ]
-  in-ends (suc f) e x m = go (ℕ-discrete (getD seen (row + e) 0) stamp) (in-ends f (suc e) x)
+  in-ends (suc f) e x m = go (has stamp seen (state part e)) refl (in-ends f (suc e) x)
     where
-      hit : getD seen (row + e) 0 ≡ stamp → (x ∈ endsFrom seen row stamp base (suc e) f → EndIn (suc e) f x) → x ∈ ((base + e) ∷ endsFrom seen row stamp base (suc e) f) → EndIn e (suc f) x
+      hit : Marked stamp seen (state part e) → (x ∈ endsFrom seen part stamp start (suc e) f → EndIn (suc e) f x) → x ∈ ((pairKey start e) ∷ endsFrom seen part stamp start (suc e) f) → EndIn e (suc f) x
       hit h rec (here p) = record { end = e; from = omega arith; upto = omega arith; stamped = h; number = p }
       hit h rec (there n) = later (rec n)
 
-      go : Dec (getD seen (row + e) 0 ≡ stamp) → (x ∈ endsFrom seen row stamp base (suc e) f → EndIn (suc e) f x) → EndIn e (suc f) x
-      go (yes h) rec = hit h rec (subst (λ xs. x ∈ xs) (ends-hit seen row stamp base e f h) m)
-      go (no h) rec = later (rec (subst (λ xs. x ∈ xs) (ends-miss seen row stamp base e f h) m))
+      go : (b : Bool) → has stamp seen (state part e) ≡ b → (x ∈ endsFrom seen part stamp start (suc e) f → EndIn (suc e) f x) → EndIn e (suc f) x
+      go true h rec = hit h rec (subst (λ xs. x ∈ xs) (ends-hit seen part stamp start e f h) m)
+      go false h rec = later (rec (subst (λ xs. x ∈ xs) (ends-miss seen part stamp start e f h) m))
 
-  into-ends : (f e x : ℕ) → EndIn e f x → x ∈ endsFrom seen row stamp base e f
+  into-ends : (f e x : ℕ) → EndIn e f x → x ∈ endsFrom seen part stamp start e f
   into-ends zero e x r = absurd (let a = r .from in let b = r .upto in omega arith)
-  into-ends (suc f) e x r = go (ℕ-discrete (getD seen (row + e) 0) stamp) (ℕ-discrete (r .end) e) (λ n. into-ends f (suc e) x (rest n))
+  into-ends (suc f) e x r = go (has stamp seen (state part e)) refl (ℕ-discrete (r .end) e) (λ n. into-ends f (suc e) x (rest n))
     where
       rest : (r .end ≡ e → ⊥) → EndIn (suc e) f x
       rest n = let a = r .from in let b = r .upto in record { end = r .end; from = omega arith; upto = omega arith; stamped = r .stamped; number = r .number }
 
-      go : Dec (getD seen (row + e) 0 ≡ stamp) → Dec (r .end ≡ e) → ((r .end ≡ e → ⊥) → x ∈ endsFrom seen row stamp base (suc e) f) → x ∈ endsFrom seen row stamp base e (suc f)
-      go (yes h) (yes p) rec = subst (λ xs. x ∈ xs) (sym (ends-hit seen row stamp base e f h)) (here (r .number ∙ ap (λ y. base + y) p))
-      go (yes h) (no p) rec = subst (λ xs. x ∈ xs) (sym (ends-hit seen row stamp base e f h)) (there (rec p))
-      go (no h) (yes p) rec = absurd (h (ap (λ y. getD seen (row + y) 0) (sym p) ∙ r .stamped))
-      go (no h) (no p) rec = subst (λ xs. x ∈ xs) (sym (ends-miss seen row stamp base e f h)) (rec p)
+      go : (b : Bool) → has stamp seen (state part e) ≡ b → Dec (r .end ≡ e) → ((r .end ≡ e → ⊥) → x ∈ endsFrom seen part stamp start (suc e) f) → x ∈ endsFrom seen part stamp start e (suc f)
+      go true h (yes p) rec = subst (λ xs. x ∈ xs) (sym (ends-hit seen part stamp start e f h)) (here (r .number ∙ ap (λ y. pairKey start y) p))
+      go true h (no p) rec = subst (λ xs. x ∈ xs) (sym (ends-hit seen part stamp start e f h)) (there (rec p))
+      go false h (yes p) rec = absurd (true-false (ap (λ y. has stamp seen (state part y)) (sym p) ∙ r .stamped) h)
+      go false h (no p) rec = subst (λ xs. x ∈ xs) (sym (ends-miss seen part stamp start e f h)) (rec p)
 
-  ends-ascend : (f e : ℕ) → InOrder _<_ (endsFrom seen row stamp base e f)
-  ends-ascend zero e = subst (InOrder _<_) (sym (ends-none seen row stamp base e)) empty
-  ends-ascend (suc f) e = go (ℕ-discrete (getD seen (row + e) 0) stamp) (ends-ascend f (suc e))
+  ends-ascend : (f e : ℕ) → InOrder _<_ (endsFrom seen part stamp start e f)
+  ends-ascend zero e = subst (InOrder _<_) (sym (ends-none seen part stamp start e)) empty
+  ends-ascend (suc f) e = go (has stamp seen (state part e)) refl (ends-ascend f (suc e))
     where
-      go : Dec (getD seen (row + e) 0 ≡ stamp) → InOrder _<_ (endsFrom seen row stamp base (suc e) f) → InOrder _<_ (endsFrom seen row stamp base e (suc f))
-      go (yes h) rec = subst (InOrder _<_) (sym (ends-hit seen row stamp base e f h)) (before (λ y m. let r = in-ends f (suc e) y m in let a = r .from in let b = r .number in omega arith) rec)
-      go (no h) rec = subst (InOrder _<_) (sym (ends-miss seen row stamp base e f h)) rec
+      go : (b : Bool) → has stamp seen (state part e) ≡ b → InOrder _<_ (endsFrom seen part stamp start (suc e) f) → InOrder _<_ (endsFrom seen part stamp start e (suc f))
+      go true h rec = subst (InOrder _<_) (sym (ends-hit seen part stamp start e f h)) (before (λ y m. let r = in-ends f (suc e) y m in let a = r .from in let b = r .number in omega arith) rec)
+      go false h rec = subst (InOrder _<_) (sym (ends-miss seen part stamp start e f h)) rec
 
 -- ---- lists of a set, piece by piece
 
@@ -192,7 +196,7 @@ module _ {L : Lists} (f : Fits L) {named : ℕ} (fit : named ≤ L .nodes) where
   listed-start = record { few = omega arith; are = list-none (PairIn L named) }
 
   -- the pair that a number in the range of a start is
-  from-start : {x v : ℕ} → (p : PairIn L named x) → v * 1024 ≤ x → x < (v + 1) * 1024 → p .from ≡ v
+  from-start : {x v : ℕ} → (p : PairIn L named x) → pairKey v 0 ≤ x → x < pairKey (v + 1) 0 → p .from ≡ v
   from-start p l h = let q = f .graph .few-nodes in let a = p .number in let b = p .to-named in omega arith
 
   -- Where an end is reached from the root, the root is alive.
@@ -201,10 +205,10 @@ module _ {L : Lists} (f : Fits L) {named : ℕ} (fit : named ≤ L .nodes) where
   reached-alive (onward {j = j} {k = k} {m = m} {o = o} r s) a = reached-alive r (alive-saturated (numbered L) (partOf (L .tree)) (leafAt L) (listed (L .next)) (L .parts) .back j k m o s a)
 
   -- A start at which the root is not alive has no pair.
-  pub listed-dead : {pairs table : List ℕ} {v k : ℕ} → Living L table → v < named → (getD table ((L .parts - 1) * 1024 + v) 0 ≡ 1 → ⊥) → ListedBelow L named (v * 1024) pairs k → ListedBelow L named ((v + 1) * 1024) pairs k
+  pub listed-dead : {pairs table : List ℕ} {v k : ℕ} → Living L table → v < named → (Marked 1 table (state (L .parts - 1) v) → ⊥) → ListedBelow L named (pairKey v 0) pairs k → ListedBelow L named (pairKey (v + 1) 0) pairs k
   listed-dead {v = v} t l dead b = record { few = b .few; are = list-skip (PairIn L named) (omega arith) (b .are) none }
     where
-      none : (x : ℕ) → PairIn L named x → v * 1024 ≤ x → x < (v + 1) * 1024 → ⊥
+      none : (x : ℕ) → PairIn L named x → pairKey v 0 ≤ x → x < pairKey (v + 1) 0 → ⊥
       none x p g h =
           let e = from-start p g h in
           let s = f .query .some in
@@ -212,11 +216,11 @@ module _ {L : Lists} (f : Fits L) {named : ℕ} (fit : named ≤ L .nodes) where
 
   module _ {v stamp : ℕ} {seen : List ℕ} (w : Walked L v stamp seen) (l : v < named) where
     abbrev ends : List ℕ
-    ends = endsFrom seen (L .parts * 1024) stamp (v * 1024) 0 named
+    ends = endsFrom seen (L .parts) stamp v 0 named
 
-    sound : (x : ℕ) → x ∈ ends → PairIn L named x × (v * 1024 ≤ x) × (x < (v + 1) * 1024)
+    sound : (x : ℕ) → x ∈ ends → PairIn L named x × (pairKey v 0 ≤ x) × (x < pairKey (v + 1) 0)
     sound x m =
-        let r = in-ends seen (L .parts * 1024) stamp (v * 1024) named 0 x m in
+        let r = in-ends seen (L .parts) stamp v named 0 x m in
         let a = r .upto in
         let b = r .number in
         let q = f .graph .few-nodes in (
@@ -232,28 +236,28 @@ module _ {L : Lists} (f : Fits L) {named : ℕ} (fit : named ≤ L .nodes) where
           omega arith,
         )
 
-    complete : (x : ℕ) → PairIn L named x → v * 1024 ≤ x → x < (v + 1) * 1024 → x ∈ ends
+    complete : (x : ℕ) → PairIn L named x → pairKey v 0 ≤ x → x < pairKey (v + 1) 0 → x ∈ ends
     complete x p g h =
         let e = from-start p g h in
         let a = p .to-named in
         let b = p .number in
-        into-ends seen (L .parts * 1024) stamp (v * 1024) named 0 x (record {
+        into-ends seen (L .parts) stamp v named 0 x (record {
           end = p .to;
           from = omega arith;
           upto = omega arith;
           stamped = w .reached (L .parts) (p .to) (omega arith) (omega arith) .1 (subst (λ y. ReachedIn L y (L .parts) (p .to)) e (p .reached));
-          number = b ∙ ap (λ y. y * 1024 + p .to) e;
+          number = b ∙ ap (λ y. pairKey y (p .to)) e;
         })
 
-    added : {xs : List ℕ} → ListOf _<_ (λ x. PairIn L named x × (x < v * 1024)) xs → ListOf _<_ (λ x. PairIn L named x × (x < (v + 1) * 1024)) (xs ++ ends)
-    added b = list-append (PairIn L named) (omega arith) b (ends-ascend seen (L .parts * 1024) stamp (v * 1024) named 0) sound complete
+    added : {xs : List ℕ} → ListOf _<_ (λ x. PairIn L named x × (x < pairKey v 0)) xs → ListOf _<_ (λ x. PairIn L named x × (x < pairKey (v + 1) 0)) (xs ++ ends)
+    added b = list-append (PairIn L named) (omega arith) b (ends-ascend seen (L .parts) stamp v named 0) sound complete
 
     -- The pairs of one start more.
-    pub listed-from : {pairs : List ℕ} (pairs′ : List ℕ) {k : ℕ} (r : Pairs) → ListedBelow L named (v * 1024) pairs k → EndsAre r (endsFrom seen (L .parts * 1024) stamp (v * 1024) 0 named) pairs k pairs′ → ListedUpTo r L named ((v + 1) * 1024) pairs′
-    listed-from pairs′ (Listed n) b (h, e) = record { few = h; are = subst (ListOf _<_ (λ x. PairIn L named x × (x < (v + 1) * 1024))) (sym e) (added (b .are)) }
+    pub listed-from : {pairs : List ℕ} (pairs′ : List ℕ) {k : ℕ} (r : Pairs) → ListedBelow L named (pairKey v 0) pairs k → EndsAre r (endsFrom seen (L .parts) stamp v 0 named) pairs k pairs′ → ListedUpTo r L named (pairKey (v + 1) 0) pairs′
+    listed-from pairs′ (Listed n) b (h, e) = record { few = h; are = subst (ListOf _<_ (λ x. PairIn L named x × (x < pairKey (v + 1) 0))) (sym e) (added (b .are)) }
     listed-from pairs′ TooMany b h = list-over (PairIn L named) (added (b .are)) h
 
-  pub listed-done : {pairs : List ℕ} {k v : ℕ} → named ≤ v → ListedBelow L named (v * 1024) pairs k → PairsAre (Listed k) L named pairs
+  pub listed-done : {pairs : List ℕ} {k v : ℕ} → named ≤ v → ListedBelow L named (pairKey v 0) pairs k → PairsAre (Listed k) L named pairs
   listed-done {pairs} {k} {v} l b = (
     b .few,
     record {
@@ -262,5 +266,5 @@ module _ {L : Lists} (f : Fits L) {named : ℕ} (fit : named ≤ L .nodes) where
     },
   )
     where
-      low : {x : ℕ} → PairIn L named x → x < v * 1024
+      low : {x : ℕ} → PairIn L named x → x < pairKey v 0
       low p = let q = f .graph .few-nodes in let a = p .number in let c = p .from-named in let d = p .to-named in omega arith

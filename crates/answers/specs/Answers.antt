@@ -1,25 +1,26 @@
 -- What the evaluation of a query answers, over lists. Assumes nothing.
-use lib.Dec.{eqb}
-use lib.ListN.{getD, length, take}
+use lib.ListN.{length, take}
 use mathlib.Core.Bool.{cond}
 use mathlib.Core.List.{List, [], _++_, _∷_}
 use mathlib.Core.Logic.{_↔_}
 use mathlib.Core.Path.{_≡_}
-use Prim.Native.Nat.{suc, zero, ℕ, _*_, _+_, _-_, _<_, _≤_}
+use Prim.Native.Nat.{suc, zero, ℕ, _+_, _<_, _≤_}
 use Rattle.alive.specs.Fits.{Fits}
 use Rattle.alive.specs.Lists.{Lists, ReachedIn}
-use Rattle.alive.specs.Worklist.{Unmarked, states}
 use Rattle.answers.specs.declared.pairs.Pairs.{Pairs}
 use Rattle.answers.specs.declared.pairs.Pairs.the-variants.{Listed, TooMany}
+use Rattle.answers.specs.Keys.{pairKey}
 use Rattle.index.specs.Index.{ChainReady}
 use Rattle.index.specs.Triples.{SubjectsRise}
-use Rattle.meaning.specs.Limits.{maxPairs}
+use Rattle.meaning.specs.Limits.{maxNodes, maxPairs, maxStates}
 use Rattle.meaning.specs.Ordered.{ListOf, Over}
+use Rattle.states.specs.State.{state}
+use Rattle.states.specs.Table.{Clean, has, Marked, NoneOver, Unmarked}
 
--- The stamp says which states are reached from the root at v. No number is over the stamp.
+-- The stamp says which states are reached from the root at v. No number is over it.
 pub record Walked (L : Lists) (v stamp : ℕ) (seen : List ℕ) : Type 0 where
-  pub reached : (i n : ℕ) → i ≤ L .parts → n < L .nodes → (getD seen (i * 1024 + n) 0 ≡ stamp) ↔ ReachedIn L v i n
-  pub most : (x : ℕ) → x < states → getD seen x 0 ≤ stamp
+  pub reached : (i n : ℕ) → i ≤ L .parts → n < L .nodes → Marked stamp seen (state i n) ↔ ReachedIn L v i n
+  pub most : NoneOver stamp maxStates seen
 
 -- x is the number of a pair of two of the first `named` nodes, where the end is reached from the root at the start.
 pub record PairIn (L : Lists) (named x : ℕ) : Type 0 where
@@ -28,15 +29,15 @@ pub record PairIn (L : Lists) (named x : ℕ) : Type 0 where
   pub from-named : from < named
   pub to-named : to < named
   pub reached : ReachedIn L from (L .parts) to
-  pub number : x ≡ from * 1024 + to
+  pub number : x ≡ pairKey from to
 
 -- ---- listing
 
--- The numbers base + e, for each of so many e from the first on at which the table, from row on, has the stamp.
+-- The pairs of start and e, for each of so many e from the first on at which the part has the stamp.
 unfoldable pub endsFrom : List ℕ → ℕ → ℕ → ℕ → ℕ → ℕ → List ℕ
-endsFrom seen row stamp base e zero = []
-endsFrom seen row stamp base e (suc f) =
-    cond (eqb (getD seen (row + e) 0) stamp) ((base + e) ∷ endsFrom seen row stamp base (suc e) f) (endsFrom seen row stamp base (suc e) f)
+endsFrom seen part stamp start e zero = []
+endsFrom seen part stamp start e (suc f) =
+    cond (has stamp seen (state part e)) (pairKey start e ∷ endsFrom seen part stamp start (suc e) f) (endsFrom seen part stamp start (suc e) f)
 
 -- xs were added to the k numbers that are listed; or there are too many then.
 abbrev pub EndsAre : Pairs → List ℕ → List ℕ → ℕ → List ℕ → Type 0
@@ -63,12 +64,11 @@ PairsAre TooMany L named pairs = Over maxPairs (PairIn L named)
 pub record YesReady (L : Lists) (last earlier alive queue : List ℕ) : Type 0 where
   pub fits : Fits L
   pub chains : ChainReady (L .edges) last earlier
-  pub unmarked : Unmarked 1 states alive queue
+  pub unmarked : Unmarked 1 maxStates alive queue
 
 pub record PairsReady (L : Lists) (named : ℕ) (first seen pairs : List ℕ) : Type 0 where
   pub rise : SubjectsRise (L .triples) (L .edges)
   pub nodes : named ≤ L .nodes
-  pub starts : 1025 ≤ length first
-  pub long : states ≤ length seen
-  pub unseen : (x : ℕ) → x < states → getD seen x 0 ≡ 0
+  pub starts : maxNodes + 1 ≤ length first
+  pub unseen : Clean 1 maxStates seen
   pub room : maxPairs ≤ length pairs

@@ -2,13 +2,15 @@
 use lib.ListN.{getD}
 use mathlib.Core.Logic.{_↔_}
 use mathlib.Core.Path.{_≡_}
-use Prim.Native.Nat.{ℕ, _*_, _+_, _<_}
+use Prim.Native.Nat.{ℕ, _<_}
 use Rattle.alive.specs.Lists.{Lists}
+use Rattle.answers.specs.Keys.{pairKey}
 use Rattle.index.specs.Triples.{TripleIn}
 use Rattle.meaning.specs.Limits.{maxPredicates}
 use Rattle.meaning.specs.Pack.{Text}
 use Rattle.meaning.specs.Query.{Expr, Joins, View}
-use Rattle.walk.specs.Parts.{kindOf, partText}
+use Rattle.query.specs.Tree.{kindOf}
+use Rattle.walk.specs.Parts.{partText}
 
 -- The nodes are the numbers below count.
 pub record Numbered : Type 1 where
@@ -48,4 +50,4 @@ pub record JoinedPair (G : Numbered) (e : Expr) (named x : ℕ) : Type 0 where
   pub from-named : from < named
   pub to-named : to < named
   pub joined : Joins (view G) e from to
-  pub number : x ≡ from * 1024 + to
+  pub number : x ≡ pairKey from to

@@ -4,11 +4,13 @@ use mathlib.Core.Bool.{true}
 use mathlib.Core.List.{List}
 use mathlib.Core.Logic.{_⊎_}
 use mathlib.Core.Path.{_≡_}
-use Prim.Native.Nat.{ℕ, _%_, _*_, _+_, _-_, _/_, _<_, _≤_}
+use Prim.Native.Nat.{ℕ, _*_, _<_, _≤_}
 use Rattle.alive.specs.declared.Sizes.{Sizes}
 use Rattle.alive.specs.Lists.{Lists, StepIn}
 use Rattle.alive.specs.Steps.{At, takes}
 use Rattle.index.specs.Triples.{objectOf, predicateOf}
+use Rattle.meaning.specs.Limits.{maxNodes, maxTriples}
+use Rattle.states.specs.State.{nodeAt, partAt, state}
 use Rattle.walk.specs.Parts.{Part, chain, either, leaf, repeat, test}
 
 -- y is `to` at the object of a triple from lo up to hi that the step takes.
@@ -17,42 +19,42 @@ pub record ObjectIn (triples : List ℕ) (lo hi kind want to y : ℕ) : Type 0 w
   pub above : lo ≤ at
   pub below : at < hi
   pub taken : takes kind want (predicateOf triples at) ≡ true
-  pub state : y ≡ to * 1024 + objectOf triples at
+  pub state : y ≡ state to (objectOf triples at)
 
 -- y is `to` at the object of the triple k, which the step takes.
 pub record ObjectAt (triples : List ℕ) (k kind want to y : ℕ) : Type 0 where
   pub taken : takes kind want (predicateOf triples k) ≡ true
-  pub state : y ≡ to * 1024 + objectOf triples k
+  pub state : y ≡ state to (objectOf triples k)
 
 -- The leaf leads from n to y, a node at `to`, where the triples from lo up to hi are those of n.
 pub data LeafOnward (triples : List ℕ) (lo hi kind want to n y : ℕ) : Type 0 where
-  stays : kind ≡ 0 → y ≡ to * 1024 + n → LeafOnward triples lo hi kind want to n y
+  stays : kind ≡ 0 → y ≡ state to n → LeafOnward triples lo hi kind want to n y
   steps : 1 ≤ kind → kind ≤ 2 → ObjectIn triples lo hi kind want to y → LeafOnward triples lo hi kind want to n y
-  labels : 3 ≤ kind → kind ≤ 4 → want ≡ n → y ≡ to * 1024 + n → LeafOnward triples lo hi kind want to n y
+  labels : 3 ≤ kind → kind ≤ 4 → want ≡ n → y ≡ state to n → LeafOnward triples lo hi kind want to n y
 
 -- The triples from lo up to hi are there, and their objects are nodes.
 pub record Ahead (triples : List ℕ) (lo hi : ℕ) : Type 0 where
   pub ordered : lo ≤ hi
-  pub small : hi ≤ 10228
+  pub small : hi ≤ maxTriples
   pub whole : hi * 3 ≤ length triples
-  pub nodes : (k : ℕ) → lo ≤ k → k < hi → objectOf triples k < 1024
+  pub nodes : (k : ℕ) → lo ≤ k → k < hi → objectOf triples k < maxNodes
 
 -- The state s of the sizes' parts, or the end, and nodes.
 pub record StateIn (sizes : Sizes) (s : ℕ) : Type 0 where
-  pub part : s / 1024 ≤ sizes .parts
-  pub node : s % 1024 < sizes .nodes
+  pub part : partAt s ≤ sizes .parts
+  pub node : nodeAt s < sizes .nodes
 
 -- The part p, which has parts, leads from the node n to y; nested tests go by the table.
 abbrev pub PartsOnward : List ℕ → ℕ → ℕ → Part → ℕ → Type 0
 PartsOnward table after n leaf y = ⊥
-PartsOnward table after n (test body) y = At table n body × (y ≡ after * 1024 + n)
-PartsOnward table after n (repeat body) y = (y ≡ after * 1024 + n) ⊎ (y ≡ body * 1024 + n)
-PartsOnward table after n (chain left right) y = y ≡ left * 1024 + n
-PartsOnward table after n (either left right) y = (y ≡ left * 1024 + n) ⊎ (y ≡ right * 1024 + n)
+PartsOnward table after n (test body) y = At table n body × (y ≡ state after n)
+PartsOnward table after n (repeat body) y = (y ≡ state after n) ⊎ (y ≡ state body n)
+PartsOnward table after n (chain left right) y = y ≡ state left n
+PartsOnward table after n (either left right) y = (y ≡ state left n) ⊎ (y ≡ state right n)
 
 -- y is the state that a step leads to from the state s.
 pub record StepFrom (L : Lists) (s y : ℕ) : Type 0 where
   pub part : ℕ
   pub node : ℕ
-  pub step : StepIn L (s / 1024) (s % 1024) part node
-  pub state : y ≡ part * 1024 + node
+  pub step : StepIn L (partAt s) (nodeAt s) part node
+  pub state : y ≡ state part node

@@ -1,5 +1,5 @@
 // A query's answers over a graph in number lists: yes or no by the states that are alive, pairs by a walk from each start.
-mod marks; // a state gets the stamp once
+pub mod keys; // a pair as one number
 mod onward; // the states to which a step leads from one
 pub mod pairs; // the walk from each start
 

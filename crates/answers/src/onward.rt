@@ -5,17 +5,23 @@ ghost use Rattle.alive.specs.Fits.{Fits};
 ghost use Rattle.alive.specs.Lists.{lists};
 ghost use Rattle.alive.specs.Living.{Living};
 ghost use Rattle.alive.specs.Steps.{PartReady};
-ghost use Rattle.alive.specs.Worklist.{AddsOnly, Table, states};
 ghost use Rattle.answers.specs.Steps.{Ahead, LeafOnward, ObjectAt, ObjectIn, PartsOnward, StateIn, StepFrom};
 ghost use Rattle.index.specs.Index.{BySubject};
 ghost use Rattle.index.specs.Triples.{objectOf};
-ghost use Rattle.walk.specs.Parts.{kindOf, partOf};
-use crate::marks::visit;
-use alive::PLACES;
+ghost use Rattle.meaning.specs.Limits.{maxNodes, maxParts, maxStates};
+ghost use Rattle.query.specs.Tree.{kindOf};
+ghost use Rattle.states.specs.Table.{AddsOnly, Table};
+ghost use Rattle.walk.specs.Parts.{partOf};
 use alive::Sizes;
 use alive::back::takes_predicate;
 use index::subject_range;
 use query::kinds;
+use query::parts::first_number;
+use query::parts::kind_of;
+use states::is_marked;
+use states::node_at;
+use states::part_at;
+use states::visit;
 
 // Visits `to` at the object of the triple k, if the step takes it.
 fn visit_object(
@@ -29,14 +35,14 @@ fn visit_object(
     queue: &mut [u32],
     tail: usize,
 ) -> usize
-    requires { ⌜ (k * 3 + 3 ≤ length (now triples)) × ((objectOf (now triples) k < 1024) × ((to ≤ 256) × Table stamp states (now seen) (now queue) tail)) ⌝ }
-    ensures { λ r. ⌜ AddsOnly stamp states (ObjectAt (now (triples .entry)) k kind want to) (now (seen .entry)) (now (queue .entry)) tail (now (seen .exit)) (now (queue .exit)) r ⌝ }
+    requires { ⌜ (k * 3 + 3 ≤ length (now triples)) × ((objectOf (now triples) k < maxNodes) × ((to ≤ maxParts) × Table stamp maxStates (now seen) (now queue) tail)) ⌝ }
+    ensures { λ r. ⌜ AddsOnly stamp maxStates (ObjectAt (now (triples .entry)) k kind want to) (now (seen .entry)) (now (queue .entry)) tail (now (seen .exit)) (now (queue .exit)) r ⌝ }
 {
     if !takes_predicate(kind, want, triples[k * 3 + 1]) {
         return tail;
     }
     let object = triples[k * 3 + 2] as usize;
-    visit(to * PLACES + object, stamp, seen, queue, tail)
+    visit(to, object, stamp, seen, queue, tail)
 }
 
 // Visits `to` at the objects of the triples from lo up to hi that the step takes.
@@ -52,8 +58,8 @@ fn visit_objects(
     queue: &mut [u32],
     tail: usize,
 ) -> usize
-    requires { ⌜ Ahead (now triples) lo hi × ((to ≤ 256) × Table stamp states (now seen) (now queue) tail) ⌝ }
-    ensures { λ r. ⌜ AddsOnly stamp states (ObjectIn (now (triples .entry)) lo hi kind want to) (now (seen .entry)) (now (queue .entry)) tail (now (seen .exit)) (now (queue .exit)) r ⌝ }
+    requires { ⌜ Ahead (now triples) lo hi × ((to ≤ maxParts) × Table stamp maxStates (now seen) (now queue) tail) ⌝ }
+    ensures { λ r. ⌜ AddsOnly stamp maxStates (ObjectIn (now (triples .entry)) lo hi kind want to) (now (seen .entry)) (now (queue .entry)) tail (now (seen .exit)) (now (queue .exit)) r ⌝ }
 {
     let mut end = tail;
     let mut k = lo;
@@ -78,11 +84,11 @@ fn visit_leaf(
     queue: &mut [u32],
     tail: usize,
 ) -> usize
-    requires { ⌜ (Ahead (now triples) lo hi × (kind < 5)) × (((to ≤ 256) × (n < 1024)) × Table stamp states (now seen) (now queue) tail) ⌝ }
-    ensures { λ r. ⌜ AddsOnly stamp states (LeafOnward (now (triples .entry)) lo hi kind want to n) (now (seen .entry)) (now (queue .entry)) tail (now (seen .exit)) (now (queue .exit)) r ⌝ }
+    requires { ⌜ (Ahead (now triples) lo hi × (kind < 5)) × (((to ≤ maxParts) × (n < maxNodes)) × Table stamp maxStates (now seen) (now queue) tail) ⌝ }
+    ensures { λ r. ⌜ AddsOnly stamp maxStates (LeafOnward (now (triples .entry)) lo hi kind want to n) (now (seen .entry)) (now (queue .entry)) tail (now (seen .exit)) (now (queue .exit)) r ⌝ }
 {
     if kind == kinds::STAY {
-        return visit(to * PLACES + n, stamp, seen, queue, tail);
+        return visit(to, n, stamp, seen, queue, tail);
     }
     if kind < kinds::AT_IRI {
         return visit_objects(triples, lo, hi, kind, want, to, stamp, seen, queue, tail);
@@ -90,7 +96,7 @@ fn visit_leaf(
     if want as usize != n {
         return tail;
     }
-    visit(to * PLACES + n, stamp, seen, queue, tail)
+    visit(to, n, stamp, seen, queue, tail)
 }
 
 // Visits what the part i, which has parts, leads to at n.
@@ -105,28 +111,27 @@ fn visit_parts(
     queue: &mut [u32],
     tail: usize,
 ) -> usize
-    requires { ⌜ (PartReady (now tree) (now next) i × (5 ≤ kindOf (now tree) i)) × (((n < 1024) × (states ≤ length (now alive))) × Table stamp states (now seen) (now queue) tail) ⌝ }
-    ensures { λ r. ⌜ AddsOnly stamp states (PartsOnward (now (alive .entry)) (getD (now (next .entry)) i 0) n (partOf (now (tree .entry)) i)) (now (seen .entry)) (now (queue .entry)) tail (now (seen .exit)) (now (queue .exit)) r ⌝ }
+    requires { ⌜ (PartReady (now tree) (now next) i × (5 ≤ kindOf (now tree) i)) × (((n < maxNodes) × (maxStates ≤ length (now alive))) × Table stamp maxStates (now seen) (now queue) tail) ⌝ }
+    ensures { λ r. ⌜ AddsOnly stamp maxStates (PartsOnward (now (alive .entry)) (getD (now (next .entry)) i 0) n (partOf (now (tree .entry)) i)) (now (seen .entry)) (now (queue .entry)) tail (now (seen .exit)) (now (queue .exit)) r ⌝ }
 {
-    let part = tree[i] as usize;
-    let kind = part / 65536;
-    let left = part / 256 % 256;
+    let kind = kind_of(tree, i);
+    let left = first_number(tree, i);
     let after = next[i] as usize;
     if kind == kinds::NESTED {
-        if alive[(i - 1) * PLACES + n] != 1 {
+        if !is_marked(alive, i - 1, n) {
             return tail;
         }
-        return visit(after * PLACES + n, stamp, seen, queue, tail);
+        return visit(after, n, stamp, seen, queue, tail);
     }
     if kind == kinds::STAR {
-        let end = visit(after * PLACES + n, stamp, seen, queue, tail);
-        return visit((i - 1) * PLACES + n, stamp, seen, queue, end);
+        let end = visit(after, n, stamp, seen, queue, tail);
+        return visit(i - 1, n, stamp, seen, queue, end);
     }
-    let end = visit(left * PLACES + n, stamp, seen, queue, tail);
+    let end = visit(left, n, stamp, seen, queue, tail);
     if kind == kinds::SEQUENCE {
         return end;
     }
-    visit((i - 1) * PLACES + n, stamp, seen, queue, end)
+    visit(i - 1, n, stamp, seen, queue, end)
 }
 
 // Visits each state that a step leads to from the state s.
@@ -144,15 +149,15 @@ pub fn visit_onward(
     queue: &mut [u32],
     tail: usize,
 ) -> usize
-    requires { ⌜ (Fits (lists sizes (now triples) (now tree) (now next) (now wanted)) × BySubject (now triples) (sizes .edges) (now first)) × ((Living (lists sizes (now triples) (now tree) (now next) (now wanted)) (now alive) × StateIn sizes s) × Table stamp states (now seen) (now queue) tail) ⌝ }
-    ensures { λ r. ⌜ AddsOnly stamp states (StepFrom (lists sizes (now (triples .entry)) (now (tree .entry)) (now (next .entry)) (now (wanted .entry))) s) (now (seen .entry)) (now (queue .entry)) tail (now (seen .exit)) (now (queue .exit)) r ⌝ }
+    requires { ⌜ (Fits (lists sizes (now triples) (now tree) (now next) (now wanted)) × BySubject (now triples) (sizes .edges) (now first)) × ((Living (lists sizes (now triples) (now tree) (now next) (now wanted)) (now alive) × StateIn sizes s) × Table stamp maxStates (now seen) (now queue) tail) ⌝ }
+    ensures { λ r. ⌜ AddsOnly stamp maxStates (StepFrom (lists sizes (now (triples .entry)) (now (tree .entry)) (now (next .entry)) (now (wanted .entry))) s) (now (seen .entry)) (now (queue .entry)) tail (now (seen .exit)) (now (queue .exit)) r ⌝ }
 {
-    let i = s / PLACES;
-    let n = s % PLACES;
+    let i = part_at(s);
+    let n = node_at(s);
     if sizes.parts <= i {
         return tail;
     }
-    let kind = tree[i] as usize / 65536;
+    let kind = kind_of(tree, i);
     if kinds::NESTED <= kind {
         return visit_parts(tree, next, alive, i, n, stamp, seen, queue, tail);
     }

@@ -1,20 +1,23 @@
 // The pairs of named nodes that a query joins, ascending.
 ghost use lib.ListN.{length};
-ghost use Prim.Native.Nat.{_*_, _+_, _<_, _≤_};
+ghost use Prim.Native.Nat.{_+_, _<_, _≤_};
 ghost use Rattle.alive.specs.Fits.{Fits};
 ghost use Rattle.alive.specs.Lists.{lists};
 ghost use Rattle.alive.specs.Living.{Living};
-ghost use Rattle.alive.specs.Worklist.{Unmarked, states};
 ghost use Rattle.answers.specs.Answers.{EndsAre, ListedBelow, ListedUpTo, PairsAre, Walked, endsFrom};
+ghost use Rattle.answers.specs.Keys.{pairKey};
 ghost use Rattle.index.specs.Index.{BySubject};
-ghost use Rattle.meaning.specs.Limits.{maxPairs};
-use crate::marks::visit;
+ghost use Rattle.meaning.specs.Limits.{maxNodes, maxPairs, maxParts, maxStates};
+ghost use Rattle.states.specs.Table.{Unmarked};
+use crate::keys::pair_key;
 use crate::onward::visit_onward;
-use alive::PLACES;
 use alive::Sizes;
 use meaning::MAX_PAIRS;
+use states::has_stamp;
+use states::is_marked;
+use states::visit;
 
-// The pairs are listed, so many; or they are over 4,096.
+// The pairs are listed, so many; or they are too many.
 pub enum Pairs {
     Listed(usize),
     TooMany,
@@ -34,11 +37,11 @@ fn walk(
     seen: &mut [u16],
     queue: &mut [u32],
 )
-    requires { ⌜ (Fits (lists sizes (now triples) (now tree) (now next) (now wanted)) × BySubject (now triples) (sizes .edges) (now first)) × ((Living (lists sizes (now triples) (now tree) (now next) (now wanted)) (now alive) × (start < sizes .nodes)) × Unmarked stamp states (now seen) (now queue)) ⌝ }
+    requires { ⌜ (Fits (lists sizes (now triples) (now tree) (now next) (now wanted)) × BySubject (now triples) (sizes .edges) (now first)) × ((Living (lists sizes (now triples) (now tree) (now next) (now wanted)) (now alive) × (start < sizes .nodes)) × Unmarked stamp maxStates (now seen) (now queue)) ⌝ }
     ensures { λ _. ⌜ Walked (lists sizes (now (triples .entry)) (now (tree .entry)) (now (next .entry)) (now (wanted .entry))) start stamp (now (seen .exit)) ⌝ }
 {
     let root = sizes.parts - 1;
-    let mut tail = visit(root * PLACES + start, stamp, seen, queue, 0);
+    let mut tail = visit(root, start, stamp, seen, queue, 0);
     let mut head = 0;
     while head < tail {
         let s = queue[head] as usize;
@@ -70,17 +73,18 @@ fn list_ends(
     pairs: &mut [u32],
     k: usize,
 ) -> Pairs
-    requires { ⌜ (((named ≤ 1024) × (start < 1024)) × ((parts ≤ 256) × (states ≤ length (now seen)))) × ((k ≤ maxPairs) × (maxPairs ≤ length (now pairs))) ⌝ }
-    ensures { λ r. ⌜ EndsAre r (endsFrom (now (seen .entry)) (parts * 1024) stamp (start * 1024) 0 named) (now (pairs .entry)) k (now (pairs .exit)) ⌝ }
+    requires { ⌜ (((named ≤ maxNodes) × (start < maxNodes)) × ((parts ≤ maxParts) × (maxStates ≤ length (now seen)))) × ((k ≤ maxPairs) × (maxPairs ≤ length (now pairs))) ⌝ }
+    ensures { λ r. ⌜ EndsAre r (endsFrom (now (seen .entry)) parts stamp start 0 named) (now (pairs .entry)) k (now (pairs .exit)) ⌝ }
 {
     let mut listed = k;
     let mut e = 0;
     while e < named {
-        if seen[parts * PLACES + e] == stamp {
+        let key = pair_key(start, e);
+        if has_stamp(seen, parts, e, stamp) {
             if listed == MAX_PAIRS {
                 return Pairs::TooMany;
             }
-            pairs[listed] = (start * PLACES + e) as u32;
+            pairs[listed] = key;
             listed += 1;
         }
         e += 1;
@@ -104,11 +108,11 @@ fn list_from(
     pairs: &mut [u32],
     k: usize,
 ) -> Pairs
-    requires { ⌜ (Fits (lists sizes (now triples) (now tree) (now next) (now wanted)) × BySubject (now triples) (sizes .edges) (now first)) × ((Living (lists sizes (now triples) (now tree) (now next) (now wanted)) (now alive) × ((start < named) × (named ≤ sizes .nodes))) × (Unmarked (start + 1) states (now seen) (now queue) × (ListedBelow (lists sizes (now triples) (now tree) (now next) (now wanted)) named (start * 1024) (now pairs) k × (maxPairs ≤ length (now pairs))))) ⌝ }
-    ensures { λ r. ⌜ ListedUpTo r (lists sizes (now (triples .entry)) (now (tree .entry)) (now (next .entry)) (now (wanted .entry))) named ((start + 1) * 1024) (now (pairs .exit)) × Unmarked (start + 2) states (now (seen .exit)) (now (queue .exit)) ⌝ }
+    requires { ⌜ (Fits (lists sizes (now triples) (now tree) (now next) (now wanted)) × BySubject (now triples) (sizes .edges) (now first)) × ((Living (lists sizes (now triples) (now tree) (now next) (now wanted)) (now alive) × ((start < named) × (named ≤ sizes .nodes))) × (Unmarked (start + 1) maxStates (now seen) (now queue) × (ListedBelow (lists sizes (now triples) (now tree) (now next) (now wanted)) named (pairKey start 0) (now pairs) k × (maxPairs ≤ length (now pairs))))) ⌝ }
+    ensures { λ r. ⌜ ListedUpTo r (lists sizes (now (triples .entry)) (now (tree .entry)) (now (next .entry)) (now (wanted .entry))) named (pairKey (start + 1) 0) (now (pairs .exit)) × Unmarked (start + 2) maxStates (now (seen .exit)) (now (queue .exit)) ⌝ }
 {
     let root = sizes.parts - 1;
-    if alive[root * PLACES + start] != 1 {
+    if !is_marked(alive, root, start) {
         return Pairs::Listed(k);
     }
     let stamp = (start + 1) as u16;
@@ -142,7 +146,7 @@ pub fn list_pairs(
     queue: &mut [u32],
     pairs: &mut [u32],
 ) -> Pairs
-    requires { ⌜ (Fits (lists sizes (now triples) (now tree) (now next) (now wanted)) × BySubject (now triples) (sizes .edges) (now first)) × ((Living (lists sizes (now triples) (now tree) (now next) (now wanted)) (now alive) × (named ≤ sizes .nodes)) × (Unmarked 1 states (now seen) (now queue) × (maxPairs ≤ length (now pairs)))) ⌝ }
+    requires { ⌜ (Fits (lists sizes (now triples) (now tree) (now next) (now wanted)) × BySubject (now triples) (sizes .edges) (now first)) × ((Living (lists sizes (now triples) (now tree) (now next) (now wanted)) (now alive) × (named ≤ sizes .nodes)) × (Unmarked 1 maxStates (now seen) (now queue) × (maxPairs ≤ length (now pairs)))) ⌝ }
     ensures { λ r. ⌜ PairsAre r (lists sizes (now (triples .entry)) (now (tree .entry)) (now (next .entry)) (now (wanted .entry))) named (now (pairs .exit)) ⌝ }
 {
     let mut k = 0;

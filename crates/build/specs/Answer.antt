@@ -1,9 +1,10 @@
 -- What build answers and leaves (document 01, "Refused, in checking order": build uses 1 and 3 to 11). Assumes nothing.
 use mathlib.Core.List.{List, [], _∷_}
 use Rattle.calls.specs.Call.{Call, Contents, Lent, _at-least_}
-use Rattle.construct.specs.Outcome.{Gives, Refuses, headsLength, refusedAs, rowsLength}
+use Rattle.construct.specs.Outcome.{Gives, Refuses, refusedAs}
 use Rattle.construct.specs.declared.Constructed.{Constructed}
 use Rattle.graph.specs.Fronts.{graphLists}
+use Rattle.meaning.specs.Limits.{headsLength, rowsLength}
 use Rattle.meaning.specs.Pack.{Text}
 
 -- the working buffers

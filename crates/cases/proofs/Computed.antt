@@ -18,8 +18,6 @@ use Rattle.construct.specs.declared.Constructed.{Constructed}
 use Rattle.grammar.proofs.Agree.{reading}
 use Rattle.grammar.specs.Grammar.{IsQuery}
 use Rattle.grammar.specs.Parse.{expressionOf}
-use Rattle.graph.specs.NodeList.{maxNodes}
-use Rattle.graph.specs.Triples.{maxTriples}
 use Rattle.meaning.proofs.Computed.Certain.{graph-there, pairRecords, pairs-listed, walkBuilt, yes-computed-certain}
 use Rattle.meaning.proofs.Computed.Evaluate.{answersYes}
 use Rattle.meaning.proofs.Lists.Members.{both}
@@ -32,7 +30,7 @@ use Rattle.meaning.specs.Built.{core}
 use Rattle.meaning.specs.Certain.{Distinct, PairList}
 use Rattle.meaning.specs.Clash.{ClashGiven}
 use Rattle.meaning.specs.Core.{Node}
-use Rattle.meaning.specs.Limits.{maxPairs}
+use Rattle.meaning.specs.Limits.{maxNodes, maxPairs, maxTriples}
 use Rattle.meaning.specs.Listing.{NodeRecord, nodeKey}
 use Rattle.meaning.specs.Pack.{Pack, Text}
 use Rattle.meaning.specs.Query.{Expr}

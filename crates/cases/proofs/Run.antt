@@ -10,8 +10,6 @@ use Rattle.cases.specs.Says.{Call, Outcome, answer, ask, build, check, f
 use Rattle.construct.specs.Outcome.{clashing, refusedAs}
 use Rattle.construct.specs.declared.Constructed.{Constructed}
 use Rattle.grammar.specs.Parse.{expressionOf}
-use Rattle.graph.specs.NodeList.{maxNodes}
-use Rattle.graph.specs.Triples.{maxTriples}
 use Rattle.meaning.proofs.Computed.Certain.{pairRecords, walkBuilt}
 use Rattle.meaning.proofs.Computed.Evaluate.{answersYes}
 use Rattle.meaning.proofs.Model.Clash.{Clash, firstClash}
@@ -20,7 +18,7 @@ use Rattle.meaning.proofs.Model.Facts.{facts}
 use Rattle.meaning.proofs.Model.Listing.{nodeNumbers, nodeRecords, tripleRecords}
 use Rattle.meaning.proofs.Model.Refusals.{mixedKinds?}
 use Rattle.meaning.specs.Built.{core}
-use Rattle.meaning.specs.Limits.{maxCoreTriples, maxIris, maxPairs}
+use Rattle.meaning.specs.Limits.{maxCoreTriples, maxIris, maxNodes, maxPairs, maxTriples}
 use Rattle.meaning.specs.Pack.{Constructor, Pack, Text}
 use Rattle.meaning.specs.Query.{Expr}
 use Rattle.meaning.specs.Tests.{every, thereAnd}

@@ -6,6 +6,14 @@ mod spelled; // nodes, spelled
 use crate::input::query_length;
 use crate::input::read_pack;
 use crate::spelled::say_pairs;
+use meaning::HEADS_LENGTH;
+use meaning::MAX_PACK_BYTES;
+use meaning::MAX_QUERY_BYTES;
+use meaning::MAX_STATES;
+use meaning::NODE_LIST_LENGTH;
+use meaning::PAIR_LIST_LENGTH;
+use meaning::ROWS_LENGTH;
+use meaning::TRIPLE_LIST_LENGTH;
 use pairs::pairs;
 use yes_no::yes_no;
 
@@ -29,12 +37,12 @@ fn say_answer(yes: bool, count: usize) {
 
 // Asks both calls; a refusal by either is printed alone.
 fn answer(pack: &[u8], query: &[u8]) {
-    let mut nodes = [0u16; 7168];
-    let mut triples = [0u16; 30684];
-    let mut rows = [0u16; 9216];
-    let mut heads = [0u64; 32768];
-    let mut alive = [0u8; 263168];
-    let mut queue = [0u32; 263168];
+    let mut nodes = [0u16; NODE_LIST_LENGTH];
+    let mut triples = [0u16; TRIPLE_LIST_LENGTH];
+    let mut rows = [0u16; ROWS_LENGTH];
+    let mut heads = [0u64; HEADS_LENGTH];
+    let mut alive = [0u8; MAX_STATES];
+    let mut queue = [0u32; MAX_STATES];
     let first = yes_no(
         pack,
         query,
@@ -49,8 +57,8 @@ fn answer(pack: &[u8], query: &[u8]) {
         say_refused(first.graph.refusal);
         return;
     }
-    let mut list = [0u16; 8192];
-    let mut seen = [0u16; 263168];
+    let mut list = [0u16; PAIR_LIST_LENGTH];
+    let mut seen = [0u16; MAX_STATES];
     let second = pairs(
         pack,
         query,
@@ -72,8 +80,8 @@ fn answer(pack: &[u8], query: &[u8]) {
 }
 
 fn main() {
-    let mut pack = [0u8; 65537];
-    let mut query = [0u8; 258];
+    let mut pack = [0u8; MAX_PACK_BYTES + 1];
+    let mut query = [0u8; MAX_QUERY_BYTES + 2];
     let n = read_pack(&mut pack);
     let m = query_length(&mut query);
     answer(&pack[..n], &query[..m]);

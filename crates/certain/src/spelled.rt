@@ -6,10 +6,16 @@ use access::ConstructorPlace;
 use access::Place;
 use access::constructor_place;
 use access::value_place;
+use meaning::MAX_VALUE_BYTES;
+use meaning::NODE_WIDTH;
+use meaning::PAIR_WIDTH;
 use meaning::UNUSED;
 use pack::check::first_refusal;
 use spelling::write::Wrote;
 use spelling::write::write_segment;
+
+// A byte of a value is spelled as at most three.
+const MAX_SEGMENT_BYTES: usize = 3 * MAX_VALUE_BYTES;
 
 // The bytes from a place on.
 fn say_bytes(pack: &[u8], start: usize, len: usize) {
@@ -22,10 +28,10 @@ fn say_bytes(pack: &[u8], start: usize, len: usize) {
 
 // A value's segment.
 fn say_segment(value: &[u8]) {
-    let mut text = [0u8; 192];
+    let mut text = [0u8; MAX_SEGMENT_BYTES];
     match write_segment(value, &mut text, 0) {
         Wrote::To(n) => {
-            if n <= 192 {
+            if n <= MAX_SEGMENT_BYTES {
                 io::write_all(1, &text[..n]);
             }
         }
@@ -74,7 +80,7 @@ fn say_further(pack: &[u8], v: u16)
 fn say_iri(pack: &[u8], node: &[u16])
     requires { ⌜ badSize (now pack) ≡ false ⌝ }
 {
-    if node.len() != 7 {
+    if node.len() != NODE_WIDTH {
         return;
     }
     io::write_all(1, b"<");
@@ -89,7 +95,7 @@ fn say_iri(pack: &[u8], node: &[u16])
 fn say_literal(pack: &[u8], node: &[u16])
     requires { ⌜ badSize (now pack) ≡ false ⌝ }
 {
-    if node.len() != 7 {
+    if node.len() != NODE_WIDTH {
         return;
     }
     io::write_all(1, b"\"");
@@ -101,14 +107,14 @@ fn say_literal(pack: &[u8], node: &[u16])
 fn say_node(pack: &[u8], nodes: &[u16], n: u16)
     requires { ⌜ badSize (now pack) ≡ false ⌝ }
 {
-    let at = n as usize * 7;
-    if nodes.len() < at + 7 {
+    let at = n as usize * NODE_WIDTH;
+    if nodes.len() < at + NODE_WIDTH {
         return;
     }
     if nodes[at] == 0 {
-        say_iri(pack, &nodes[at..at + 7]);
+        say_iri(pack, &nodes[at..at + NODE_WIDTH]);
     } else {
-        say_literal(pack, &nodes[at..at + 7]);
+        say_literal(pack, &nodes[at..at + NODE_WIDTH]);
     }
 }
 
@@ -118,12 +124,12 @@ fn say_each(pack: &[u8], nodes: &[u16], list: &[u16], count: usize)
 {
     let mut i = 0;
     while i < count {
-        if list.len() / 2 <= i {
+        if list.len() / PAIR_WIDTH <= i {
             return;
         }
-        say_node(pack, nodes, list[2 * i]);
+        say_node(pack, nodes, list[PAIR_WIDTH * i]);
         io::write_all(1, b" ");
-        say_node(pack, nodes, list[2 * i + 1]);
+        say_node(pack, nodes, list[PAIR_WIDTH * i + 1]);
         io::write_all(1, b"\n");
         i += 1;
     }

@@ -5,9 +5,9 @@ use lib.ListN.{getElem?, length}
 use mathlib.Core.List.{List, [], _∷_}
 use mathlib.Core.Logic.{_≢_}
 use mathlib.Core.Option.{some}
-use mathlib.Core.Path.{_≡_, refl, sym, subst, _∙_}
+use mathlib.Core.Path.{_≡_, sym, subst, _∙_}
 use native.Mathlib.Omega.{arith}
-use Prim.Native.Nat.{ℕ, _≤_, _<_}
+use Prim.Native.Nat.{ℕ, _≤_}
 use Rattle.evaluate.proofs.Built.{built-listed}
 use Rattle.evaluate.proofs.Over.{over-carried}
 use Rattle.meaning.proofs.Lists.Members.{element}
@@ -19,7 +19,7 @@ use Rattle.meaning.specs.Core.{CoreNode, Node}
 use Rattle.meaning.specs.Graph.{Spelling}
 use Rattle.meaning.specs.Limits.{maxPairs}
 use Rattle.meaning.specs.Listing.{NodesInOrder}
-use Rattle.meaning.specs.Ordered.{InOrder, Over, _≺_, before, empty}
+use Rattle.meaning.specs.Ordered.{InOrder, _≺_, before, empty}
 use Rattle.meaning.specs.Pack.{Pack}
 use Rattle.meaning.specs.Query.{Expr}
 use Rattle.sets.proofs.Cases.{case-on}

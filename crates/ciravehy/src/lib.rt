@@ -2,6 +2,8 @@
 ghost use Rattle.calls.specs.Call.{lent};
 ghost use Rattle.ciravehy.specs.Exported.{Builds, Decides, Finds, Reads};
 use build::build;
+use meaning::REPORT_LENGTH;
+use meaning::TERM_LENGTH;
 use pairs::pairs as find_pairs;
 use readback::read_back;
 use report::numbers;
@@ -17,7 +19,7 @@ pub extern "C" fn ciravehy_build(
     triples: &mut [u16],
     rows: &mut [u16],
     heads: &mut [u64],
-    report: &mut [u16; 25],
+    report: &mut [u16; REPORT_LENGTH],
 ) -> u8
     ensures { λ r. ⌜ Builds (now (pack .entry)) r (lent nodes) (lent triples) (lent rows) (lent heads) (now (report .exit)) ⌝ }
 {
@@ -38,7 +40,7 @@ pub extern "C" fn ciravehy_yes_no(
     heads: &mut [u64],
     alive: &mut [u8],
     queue: &mut [u32],
-    report: &mut [u16; 25],
+    report: &mut [u16; REPORT_LENGTH],
 ) -> u8
     ensures { λ r. ⌜ Decides (now (pack .entry)) (now (query .entry)) r (lent nodes) (lent triples) (lent rows) (lent heads) (lent alive) (lent queue) (now (report .exit)) ⌝ }
 {
@@ -62,7 +64,7 @@ pub extern "C" fn ciravehy_pairs(
     alive: &mut [u8],
     queue: &mut [u32],
     seen: &mut [u16],
-    report: &mut [u16; 25],
+    report: &mut [u16; REPORT_LENGTH],
 ) -> u8
     ensures { λ r. ⌜ Finds (now (pack .entry)) (now (query .entry)) r (lent nodes) (lent triples) (lent pairs) (lent rows) (lent heads) (lent alive) (lent queue) (lent seen) (now (report .exit)) ⌝ }
 {
@@ -86,7 +88,11 @@ pub extern "C" fn ciravehy_pairs(
 
 // `readback::read_back`, in the same way.
 #[no_mangle]
-pub extern "C" fn ciravehy_read_back(pack: &[u8], text: &[u8], report: &mut [u16; 5]) -> u8
+pub extern "C" fn ciravehy_read_back(
+    pack: &[u8],
+    text: &[u8],
+    report: &mut [u16; TERM_LENGTH],
+) -> u8
     ensures { λ r. ⌜ Reads (now (pack .entry)) (now (text .entry)) r (now (report .exit)) ⌝ }
 {
     let read = read_back(pack, text);

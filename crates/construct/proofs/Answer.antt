@@ -12,6 +12,7 @@ use Rattle.calls.specs.Call.{gives, refuses, _becomes_}
 use Rattle.construct.specs.Outcome.{Constructs, Gives, HasGraph, counted, mixed-kinds, not-accepted, refusedAs, too-large, two-objects}
 use Rattle.construct.specs.Steps.{FromCore, FromHeads, clash, graph, large, mixed, small}
 use Rattle.construct.specs.declared.Constructed.{Constructed}
+use Rattle.meaning.specs.Limits.{maxRows, rowWidth}
 use Rattle.meaning.specs.NoGraph.{TooLarge}
 use Rattle.meaning.specs.Pack.{Pack, Text}
 use Rattle.pack.proofs.Unpacking.{unpacked}
@@ -24,10 +25,10 @@ use Rattle.rules.specs.Answer.{RowsFrom}
 pub is-formed : {s : List ℕ} → Accepts s → IsWellFormed s
 is-formed a = record { pack = a .pack; is = a .formed }
 
-pub rows-few : (s : List ℕ) (n : ℕ) (out out′ : List ℕ) → Accepts s → LoadedFrom s n out out′ → n ≤ 1024
+pub rows-few : (s : List ℕ) (n : ℕ) (out out′ : List ℕ) → Accepts s → LoadedFrom s n out out′ → n ≤ maxRows
 rows-few s n out out′ a l = omega (arith, l (a .pack) (a .formed) .count, unpacked s (a .pack) (well-formed s (a .pack) (a .formed) .read) .rows .1)
 
-pub rows-from : (s : List ℕ) (n : ℕ) (out out′ : List ℕ) → LoadedFrom s n out out′ → RowsFrom s (take (9 * n) out′)
+pub rows-from : (s : List ℕ) (n : ℕ) (out out′ : List ℕ) → LoadedFrom s n out out′ → RowsFrom s (take (rowWidth * n) out′)
 rows-from s n out out′ l P e = l P e .held
 
 -- ---- the answers

@@ -10,9 +10,10 @@ use native.Mathlib.Omega.{arith}
 use Prim.Native.Nat.{ℕ, _+_, _≤_, _<_}
 use Rattle.access.proofs.Accepted.{well-formed}
 use Rattle.access.proofs.Found.{sought-there}
-use Rattle.access.specs.Places.{IsWellFormed}
-use Rattle.graph.specs.Records.{Arities}
+use Rattle.access.specs.Places.{IsWellFormed, OfPack}
+use Rattle.node_list.specs.Records.{Arities}
 use Rattle.meaning.proofs.Lists.Places.{inside, same-at}
+use Rattle.meaning.specs.Limits.{maxConstructors}
 use Rattle.meaning.specs.Pack.{Constructor, Pack}
 use Rattle.pack.proofs.Bodies.{shrinks-of}
 use Rattle.pack.proofs.Sizes.{in-body}
@@ -25,7 +26,6 @@ use Rattle.pack.specs.Shown.{BodyAt, Got, Not, left}
 use Rattle.pack.specs.Unpack.{readAll}
 use Rattle.pack.specs.declared.cursor.Cursor.{Cursor}
 use Rattle.pack.specs.declared.walk.Kind.the-variants as Of
-use Rattle.rules.specs.Answer.{OfPack}
 
 pub size-good : (s : List ℕ) → IsWellFormed s → badSize s ≡ false
 size-good s w = well-formed s (w .pack) (w .is) .size
@@ -54,7 +54,7 @@ module _ {s : List ℕ} {c₀ : Cursor} {n : ℕ} {c : Cursor} (b : BodyAt s 6 c
     here P w = sought-there (shrinks-of Of.Constructor) (all-constructors P w) n q g
 
     -- there is room for it
-    pub room : IsWellFormed s → n < 16
+    pub room : IsWellFormed s → n < maxConstructors
     room w = omega (
       arith,
       inside (w .pack .setting .constructors) n k (here (w .pack) (w .is)),

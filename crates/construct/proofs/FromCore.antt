@@ -7,12 +7,13 @@ use Prim.Native.Nat.{ℕ, _+_, _<_}
 use Rattle.construct.specs.Outcome.{counted, refusedAs}
 use Rattle.construct.specs.Steps.{CoreGiven, FromCore, OfCore, clash, graph, mixed}
 use Rattle.construct.specs.declared.Constructed.{Constructed}
-use Rattle.graph.proofs.ClashRecords.{clash-place}
+use Rattle.clash.proofs.ClashRecords.{clash-place}
 use Rattle.graph.specs.Build.{BuildShown}
-use Rattle.graph.specs.Clash.{ClashAt, ClashRecorded}
-use Rattle.graph.specs.Input.{Input}
-use Rattle.graph.specs.declared.build.Built.{Built}
-use Rattle.graph.specs.declared.build.Built.the-variants.{Clash, Graph, Mixed}
+use Rattle.clash.specs.Clash.{ClashAt, ClashRecorded}
+use Rattle.core_lists.specs.Input.{Input}
+use Rattle.graph.specs.declared.Built.{Built}
+use Rattle.graph.specs.declared.Built.the-variants.{Clash, Graph, Mixed}
+use Rattle.meaning.specs.Limits.{clashWidth}
 use Rattle.meaning.specs.Pack.{Pack}
 
 -- the answer with a clash's numbers
@@ -36,7 +37,7 @@ module _ (table : List (List ℕ)) (arities nodes triples masks out out′ edges
     pub clash-inside : CoreGiven table arities nodes triples masks → i + 1 < length triples
     clash-inside g = let h = clash-place (clash-at (g .pack) (g .input)) in omega arith
 
-    pub clash-answer : (before after : List ℕ) → drop 22 before ≡ [] → ClashRecorded arities nodes triples masks i before after
+    pub clash-answer : (before after : List ℕ) → drop clashWidth before ≡ [] → ClashRecorded arities nodes triples masks i before after
         → OfCore table arities nodes triples masks (λ P. FromCore P (withClash after) out out′ edges edges′)
     clash-answer before after none w P I A =
         let s = subst (BuildShown table arities nodes triples masks out out′ edges edges′) e shown in

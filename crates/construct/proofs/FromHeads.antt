@@ -9,26 +9,27 @@ use mathlib.Core.Path.{_≡_, subst}
 use native.Mathlib.Omega.{arith}
 use Prim.Native.Nat.{ℕ, _≤_}
 use Rattle.access.proofs.Accepted.{well-formed}
-use Rattle.construct.specs.Outcome.{headsLength, refusedAs}
+use Rattle.access.specs.Places.{OfPack}
+use Rattle.construct.specs.Outcome.{refusedAs}
 use Rattle.construct.specs.Steps.{CoreGiven, FromCore, FromHeads, HeadsGiven, OfCore, OfHeads, large, small}
 use Rattle.construct.specs.declared.Constructed.{Constructed}
 use Rattle.core.proofs.Fits.{heads-fit}
 use Rattle.core.proofs.Iris.{iris-over}
 use Rattle.core.proofs.Shapes.{codes-fit, tabled}
-use Rattle.core.specs.Bounds.{Bounded, HeadsFit, maxNodes}
+use Rattle.core.specs.Bounds.{Bounded, HeadsFit}
 use Rattle.core.specs.Held.{CoreHeld}
 use Rattle.core.specs.Outcomes.{CoreAnswer, CoreListed}
 use Rattle.core.specs.declared.Outcome.the-variants.{Held, TooLarge}
 use Rattle.core.specs.declared.Outcome.{Outcome}
-use Rattle.graph.specs.Input.{Input, firstLiteral}
-use Rattle.graph.specs.Records.{Arities}
-use Rattle.meaning.specs.Limits.{maxCoreTriples, maxIris}
+use Rattle.core_lists.specs.Input.{Input}
+use Rattle.node_list.specs.Records.{Arities}
+use Rattle.meaning.specs.Limits.{firstLiteral, headsLength, maxCoreNodes, maxCoreTriples, maxIris}
 use Rattle.meaning.specs.Pack.{Pack}
 use Rattle.meaning.specs.Tables.{ShapeTable}
 use Rattle.pack.specs.Checked.{accepted, wellFormed}
 use Rattle.pack.specs.Unpack.{Decoded}
 use Rattle.rules.proofs.Bounds.{bounded}
-use Rattle.rules.specs.Answer.{HeadsFound, OfPack, TableFrom}
+use Rattle.rules.specs.Answer.{HeadsFound, TableFrom}
 use Rattle.rules.specs.declared.heads.AllHeads.{AllHeads}
 use Rattle.sets.proofs.Cases.{case-on}
 use Rattle.sets.specs.Ordered.{rankOf}
@@ -52,7 +53,7 @@ module _ (s : List ℕ) (found : AllHeads) (heads : List ℕ) (table rules : Lis
     large-answer a e q x y P w f =
         large (subst (λ o. CoreAnswer o table rules (found .count) heads (found .counts) nodes triples masks) e answer P (f .held rules (numbers P w)) (bounded s P w)) q x y
 
-    module _ (n t : ℕ) (e : r ≡ Held n t) (room : length nodes ≡ maxNodes) (space : length triples ≡ maxCoreTriples) where
+    module _ (n t : ℕ) (e : r ≡ Held n t) (room : length nodes ≡ maxCoreNodes) (space : length triples ≡ maxCoreTriples) where
       pub listed : CoreListed n t table rules (found .count) heads (found .counts) nodes triples masks
       listed = subst (λ o. CoreAnswer o table rules (found .count) heads (found .counts) nodes triples masks) e answer
 

@@ -9,6 +9,7 @@ use Rattle.construct.specs.declared.Constructed.{Constructed}
 use Rattle.graph.specs.Fronts.{GraphFronts, graphLists}
 use Rattle.meaning.specs.Clash.{ClashGiven}
 use Rattle.meaning.specs.Graph.{Graph, Obeys}
+use Rattle.meaning.specs.Limits.{clashWidth}
 use Rattle.meaning.specs.NoGraph.{MixedKinds, TooLarge, TwoObjects}
 use Rattle.meaning.specs.Pack.{Pack, Text}
 use Rattle.pack.specs.Checked.{accepted, firstRefusal, refused}
@@ -16,12 +17,9 @@ use Rattle.spelling.specs.Iri.{plain}
 
 -- ---- the answer's numbers
 
-abbrev pub clashNumbers : ℕ  -- three node records and a predicate
-clashNumbers = 22
-
 -- A refusal gives its number, and nothing else.
 abbrev pub refusedAs : ℕ → Constructed
-refusedAs k = record { refusal = k; nodes = 0; triples = 0; clash = replicate clashNumbers 0 }
+refusedAs k = record { refusal = k; nodes = 0; triples = 0; clash = replicate clashWidth 0 }
 
 -- 10: "one such node, predicate and two objects are given, the nodes as node records of the core"; the first (card 8)
 abbrev pub clashing : List ℕ → ℕ → List ℕ → List ℕ → Constructed
@@ -30,15 +28,9 @@ clashing subject predicate first second =
 
 -- A graph is counted, and nothing else is said.
 abbrev pub counted : ℕ → ℕ → Constructed
-counted nodes triples = record { refusal = 0; nodes = nodes; triples = triples; clash = replicate clashNumbers 0 }
+counted nodes triples = record { refusal = 0; nodes = nodes; triples = triples; clash = replicate clashWidth 0 }
 
 -- ---- the working buffers: nine numbers a row, 1,024 heads a rule
-
-abbrev pub rowsLength : ℕ
-rowsLength = 9216
-
-abbrev pub headsLength : ℕ
-headsLength = 32768
 
 -- ---- which finite graphs obey the pack, by document 01's spelling
 

@@ -6,8 +6,8 @@ use Rattle.calls.specs.Call.{_becomes_}
 use Rattle.construct.specs.Outcome.{clashing, counted, refusedAs}
 use Rattle.construct.specs.declared.Constructed.{Constructed}
 use Rattle.graph.specs.Build.{GraphWritten}
-use Rattle.graph.specs.Input.{Input}
-use Rattle.graph.specs.Records.{Arities}
+use Rattle.core_lists.specs.Input.{Input}
+use Rattle.node_list.specs.Records.{Arities}
 use Rattle.meaning.specs.Clash.{ClashGiven}
 use Rattle.meaning.specs.NoGraph.{MixedKinds, TooLarge, TwoObjects}
 use Rattle.meaning.specs.Pack.{Pack}

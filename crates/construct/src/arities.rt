@@ -1,13 +1,13 @@
 // The arities of a pack's constructors.
-ghost use Rattle.access.specs.Places.{IsWellFormed};
-ghost use Rattle.graph.specs.Records.{Arities};
-ghost use Rattle.rules.specs.Answer.{OfPack};
+ghost use Rattle.access.specs.Places.{IsWellFormed, OfPack};
+ghost use Rattle.node_list.specs.Records.{Arities};
+use meaning::Arities;
 use meaning::MAX_CONSTRUCTORS;
 use pack::contents::body;
 use pack::cursor::ConstructorRead;
 
 // The arity of each constructor, by its number.
-pub fn arities(s: &[u8]) -> [u8; MAX_CONSTRUCTORS]
+pub fn arities(s: &[u8]) -> Arities
     requires { ⌜ IsWellFormed (now s) ⌝ }
     ensures { λ r. ⌜ OfPack (now (s .entry)) (λ P. Arities P r) ⌝ }
 {

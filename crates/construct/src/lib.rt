@@ -4,10 +4,18 @@ mod arities; // the constructors' arities
 use crate::arities::arities;
 use access::check::first_of_all;
 use access::table::shape_table;
+use clash::clash_records;
 use core::Outcome;
-use graph::build::Built;
-use graph::build::build;
-use graph::clash::clash_records;
+use graph::Built;
+use graph::build;
+use meaning::Arities;
+use meaning::CANDIDATES_LENGTH;
+use meaning::CLASH_WIDTH;
+use meaning::MAX_CORE_NODES;
+use meaning::MAX_CORE_TRIPLES;
+use meaning::MEMBER_SETS;
+use meaning::ROW_WIDTH;
+use meaning::ShapeTable;
 use rows::load_rows;
 use rules::heads::AllHeads;
 use rules::heads::all_heads;
@@ -16,21 +24,16 @@ ghost use lib.ListN.{length};
 ghost use mathlib.Core.Path.{_≡_};
 ghost use Prim.Native.Nat.{_≤_};
 ghost use Rattle.calls.specs.Call.{lent};
-ghost use Rattle.construct.specs.Outcome.{Constructs, headsLength, refusedAs, rowsLength};
+ghost use Rattle.construct.specs.Outcome.{Constructs, refusedAs};
 ghost use Rattle.construct.specs.Steps.{CoreGiven, FromCore, FromHeads, HeadsGiven, OfCore, OfHeads};
-ghost use Rattle.meaning.specs.Limits.{nodeListLength, tripleListLength};
-
-// The working buffers: nine numbers for each of 1,024 rows, 1,024 heads for each of 32 rules.
-pub const ROWS_LENGTH: usize = 9216;
-
-pub const HEADS_LENGTH: usize = 32768;
+ghost use Rattle.meaning.specs.Limits.{headsLength, nodeListLength, rowsLength, tripleListLength};
 
 // What a pack comes to: a refusal's number, with the clash of 10; or 0 and the two counts.
 pub struct Constructed {
     pub refusal: u8,
     pub nodes: usize,
     pub triples: usize,
-    pub clash: [u16; 22],
+    pub clash: [u16; CLASH_WIDTH],
 }
 
 // A refusal other than 10.
@@ -41,14 +44,14 @@ pub fn refused(k: u8) -> Constructed
         refusal: k,
         nodes: 0,
         triples: 0,
-        clash: [0; 22],
+        clash: [0; CLASH_WIDTH],
     }
 }
 
 // From the core: 10, 11 or the graph.
 fn from_core(
-    shapes: [[u16; 12]; 8],
-    arities: [u8; 16],
+    shapes: ShapeTable,
+    arities: Arities,
     keys: &[u64],
     edges: &[u64],
     masks: &[u16],
@@ -58,8 +61,8 @@ fn from_core(
     requires { ⌜ CoreGiven shapes arities (now keys) (now edges) (now masks) × (nodeListLength ≤ length (now nodes)) × (tripleListLength ≤ length (now triples)) ⌝ }
     ensures { λ r. ⌜ OfCore shapes arities (now (keys .entry)) (now (edges .entry)) (now (masks .entry)) (λ P. FromCore P r (now (nodes .entry)) (now (nodes .exit)) (now (triples .entry)) (now (triples .exit))) ⌝ }
 {
-    let mut flags = [0u16; 512];
-    let mut places = [0u16; 512];
+    let mut flags = [0u16; MEMBER_SETS];
+    let mut places = [0u16; MEMBER_SETS];
     match build(
         shapes,
         arities,
@@ -75,10 +78,10 @@ fn from_core(
             refusal: 0,
             nodes: n,
             triples: t,
-            clash: [0; 22],
+            clash: [0; CLASH_WIDTH],
         },
         Built::Clash(i) => {
-            let mut clash = [0u16; 22];
+            let mut clash = [0u16; CLASH_WIDTH];
             clash_records(arities, keys, edges, masks, i, &mut clash);
             Constructed {
                 refusal: 10,
@@ -104,9 +107,9 @@ fn from_heads(
 {
     let shapes = shape_table(pack);
     let counts = found.counts;
-    let mut keys = [0u64; 768];
-    let mut edges = [0u64; 1024];
-    let mut masks = [0u16; 768];
+    let mut keys = [0u64; MAX_CORE_NODES];
+    let mut edges = [0u64; MAX_CORE_TRIPLES];
+    let mut masks = [0u16; MAX_CORE_NODES];
     match core::core(
         shapes,
         head_table(pack),
@@ -146,8 +149,8 @@ pub fn construct(
         return refused(refusal);
     }
     let n = load_rows(pack, rows);
-    let mut work = [0u64; 3072];
-    let found = all_heads(pack, &rows[..9 * n], heads, &mut work);
+    let mut work = [0u64; CANDIDATES_LENGTH];
+    let found = all_heads(pack, &rows[..ROW_WIDTH * n], heads, &mut work);
     if found.too_large {
         return refused(9);
     }

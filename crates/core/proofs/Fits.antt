@@ -9,12 +9,12 @@ use Rattle.core.proofs.Declared.{head-predicate}
 use Rattle.core.proofs.NodeSources.{Fine, bytes-of, fine}
 use Rattle.core.proofs.Packed.{packed-lt}
 use Rattle.core.specs.Bounds.{Bounded, HeadFits, HeadsFit, KeyFits}
-use Rattle.core.specs.Heads.{HeadsHeld, headArguments, headNumbers, keysOf, keysPerRule}
+use Rattle.core.specs.Heads.{HeadsHeld, headArguments, headNumbers, keysOf}
 use Rattle.meaning.proofs.Lists.Members.{element, ∈-append}
 use Rattle.meaning.proofs.Lists.Places.{inside, there-is}
 use Rattle.meaning.proofs.Model.Resolved.{headTerms, headVariables, resolved}
 use Rattle.meaning.specs.Core.{Assignment, headFact}
-use Rattle.meaning.specs.Limits.{maxArguments, maxConstructors, maxRules}
+use Rattle.meaning.specs.Limits.{maxArguments, maxConstructors, maxHeads, maxRules, maxValues}
 use Rattle.meaning.specs.Member.{_∈_, here, there}
 use Rattle.meaning.specs.Pack.{Head, Pack, Rule, Term, hasType, linksTo, linksToValue}
 use Rattle.meaning.specs.Tables.{packed}
@@ -73,12 +73,12 @@ arguments-in (linksToValue s p v) m = ⊎-elim there (λ i. ∈-append (v ∷ []
 key-fits : (σ : Assignment) (h : Head) → Fine σ h → KeyFits (headNumbers h) (packed (map σ (headArguments h)))
 key-fits σ h f =
     let l = packed-lt (map σ (headArguments h)) (bytes-of σ (headArguments h) (λ v m. f .small v (arguments-in h m))) in
-    subst (λ n. packed (map σ (headArguments h)) < 256 ^ n) (length-map (headArguments h) σ ∙ arguments-many h) l
+    subst (λ n. packed (map σ (headArguments h)) < maxValues ^ n) (length-map (headArguments h) σ ∙ arguments-many h) l
 
 -- ---- all rules
 
 pub heads-fit : {P : Pack} {rules : List (List ℕ)} {count : ℕ} {heads counts : List ℕ} → HeadsHeld P rules count heads counts → Bounded P
-    → count ≤ maxRules → maxRules * keysPerRule ≤ length heads → ((r : ℕ) → r < count → getD counts r 0 ≤ keysPerRule)
+    → count ≤ maxRules → maxRules * maxHeads ≤ length heads → ((r : ℕ) → r < count → getD counts r 0 ≤ maxHeads)
     → HeadsFit rules count heads counts
 heads-fit {P} {rules} {count} {heads} {counts} h b few room short = record {
   few = few;

@@ -12,8 +12,9 @@ use Rattle.core.proofs.Growing.{keys-more, keys-none, rules-more, rules
 use Rattle.core.proofs.NodeKeys.{subject-in}
 use Rattle.core.specs.Collected.{FromKeys, FromRules, KnownMatch, Marked, TypeFact, subjectKey}
 use Rattle.core.specs.Heads.{keysOf, kindNumber, namedNumber}
+use Rattle.meaning.specs.Limits.{literalBit}
 use Rattle.meaning.specs.Pack.{Target}
-use Rattle.meaning.specs.Tables.{literalBit, setOfMask}
+use Rattle.meaning.specs.Tables.{setOfMask}
 use Rattle.meaning.specs.TypeSet.{_∈ₜ_}
 use Rattle.meaning.specs.Ordered.{InOrder}
 use Rattle.sets.proofs.Rank.{rank-member}

@@ -17,6 +17,7 @@ use Rattle.meaning.proofs.Lists.Members.{element, ∈-append, ∈-map⁻¹}
 use Rattle.meaning.proofs.Model.Core.{nodesIn}
 use Rattle.meaning.proofs.Model.Resolved.{Bound, headTerms, headVariables, resolved}
 use Rattle.meaning.specs.Core.{Assignment, CoreNode, Fact, Given, Matches, Node, asObject, asSubject, asTyped, headFact, rowOf, triple, typed}
+use Rattle.meaning.specs.Limits.{maxArguments, maxValues}
 use Rattle.meaning.specs.Member.{_∈_, here, there}
 use Rattle.meaning.specs.Pack.{Head, Pack, Rule, Term, hasType, linksTo, linksToValue}
 use Rattle.meaning.specs.Tables.{packed}
@@ -24,12 +25,12 @@ use Rattle.meaning.specs.Tables.{packed}
 -- ---- what the bounds say of a match
 
 module _ {P : Pack} (b : Bounded P) {rule : Rule} (listed : rule ∈ P .setting .rules) where
-  pub term-short : (t : Term) → t ∈ headTerms (rule .head) → length (t .variables) ≤ 4
+  pub term-short : (t : Term) → t ∈ headTerms (rule .head) → length (t .variables) ≤ maxArguments
   term-short t m =
       let d = resolved P (b .resolved) .terms rule listed t m in
       omega (arith, b .arities (d .0) (element (P .setting .constructors) (t .constructor) (d .0) (d .1)) .1, d .2)
 
-  pub value-small : (σ : Assignment) → Matches (P .rows) σ (rule .atoms) → (v : ℕ) → v ∈ headVariables (rule .head) → σ v < 256
+  pub value-small : (σ : Assignment) → Matches (P .rows) σ (rule .atoms) → (v : ℕ) → v ∈ headVariables (rule .head) → σ v < maxValues
   unfolding Bound Matches
   value-small σ h v m =
       let a = resolved P (b .resolved) .bound rule listed v m in
@@ -39,13 +40,13 @@ module _ {P : Pack} (b : Bounded P) {rule : Rule} (listed : rule ∈ P .setting 
 
 -- terms of at most four variables, whose values are bytes
 pub record Fine (σ : Assignment) (h : Head) : Type 0 where
-  pub short : (t : Term) → t ∈ headTerms h → length (t .variables) ≤ 4
-  pub small : (v : ℕ) → v ∈ headVariables h → σ v < 256
+  pub short : (t : Term) → t ∈ headTerms h → length (t .variables) ≤ maxArguments
+  pub small : (v : ℕ) → v ∈ headVariables h → σ v < maxValues
 
 pub fine : {P : Pack} → Bounded P → {rule : Rule} → rule ∈ P .setting .rules → (σ : Assignment) → Matches (P .rows) σ (rule .atoms) → Fine σ (rule .head)
 fine b m σ h = record { short = term-short b m; small = value-small b m σ h }
 
-pub bytes-of : (σ : Assignment) (vs : List ℕ) → ((v : ℕ) → v ∈ vs → σ v < 256) → Bytes (map σ vs)
+pub bytes-of : (σ : Assignment) (vs : List ℕ) → ((v : ℕ) → v ∈ vs → σ v < maxValues) → Bytes (map σ vs)
 bytes-of σ vs h u m = let r = ∈-map⁻¹ σ vs m in rw (r .2) (h (r .0) (r .1))
 
 module _ (P : Pack) where

@@ -17,6 +17,7 @@ use Rattle.meaning.proofs.Lists.Places.{inside}
 use Rattle.meaning.proofs.Model.Core.{nodesIn}
 use Rattle.meaning.proofs.Model.Resolved.{headTerms, headVariables, resolved}
 use Rattle.meaning.specs.Core.{Assignment, CoreNode, Node, headFact, iriNode, literalNode, nodeOf}
+use Rattle.meaning.specs.Limits.{firstLiteral, maxArguments, maxConstructors, maxValues, termRoom}
 use Rattle.meaning.specs.Member.{_∈_, here, there}
 use Rattle.meaning.specs.Pack.{Constructor, Head, Pack, Rule, Term, hasType, linksTo, linksToValue}
 use Rattle.meaning.specs.Tables.{packed}
@@ -25,32 +26,32 @@ use Rattle.meaning.specs.Tables.{packed}
 pub record ProperIri (P : Pack) (c : ℕ) (vs : List ℕ) : Type 0 where
   pub constructor : Constructor
   pub is : getElem? (P .setting .constructors) c ≡ some constructor
-  pub low : c < 16
+  pub low : c < maxConstructors
   pub arity : length vs ≡ constructor .arity
-  pub few : length vs ≤ 4
+  pub few : length vs ≤ maxArguments
   pub bytes : Bytes vs
 
 abbrev pub Proper : Pack → Node → Type 0
 Proper P (iriNode c vs) = ProperIri P c vs
-Proper P (literalNode v) = v < 256
+Proper P (literalNode v) = v < maxValues
 
 -- ---- equal keys, equal nodes
 
-iri-key : (c : ℕ) (vs : List ℕ) → length vs ≤ 4 → Bytes vs → (keyOf (iriNode c vs) ≡ c * 2 ^ 32 + packed vs * 256 ^ (4 - length vs)) × (packed vs * 256 ^ (4 - length vs) < 2 ^ 32)
+iri-key : (c : ℕ) (vs : List ℕ) → length vs ≤ maxArguments → Bytes vs → (keyOf (iriNode c vs) ≡ c * termRoom + packed vs * maxValues ^ (maxArguments - length vs)) × (packed vs * maxValues ^ (maxArguments - length vs) < termRoom)
 unfolding keyOf
 iri-key c vs h b = (rw (packed-padded vs h), padded-lt (length vs) h (packed vs) (packed-lt vs b))
 
 -- padding forgets nothing
-padded-one : (a : ℕ) → a ≤ 4 → (x y : ℕ) → x * 256 ^ (4 - a) ≡ y * 256 ^ (4 - a) → x ≡ y
+padded-one : (a : ℕ) → a ≤ maxArguments → (x y : ℕ) → x * maxValues ^ (maxArguments - a) ≡ y * maxValues ^ (maxArguments - a) → x ≡ y
 padded-one =
-    up-to-four (λ a. (x y : ℕ) → x * 256 ^ (4 - a) ≡ y * 256 ^ (4 - a) → x ≡ y) (λ x y e. omega arith) (λ x y e. omega arith) (λ x y e. omega arith)
+    up-to-four (λ a. (x y : ℕ) → x * maxValues ^ (maxArguments - a) ≡ y * maxValues ^ (maxArguments - a) → x ≡ y) (λ x y e. omega arith) (λ x y e. omega arith) (λ x y e. omega arith)
     (λ x y e. omega arith) (λ x y e. omega arith)
 
-pub literal-key : (v : ℕ) → keyOf (literalNode v) ≡ 2 ^ 36 + v
+pub literal-key : (v : ℕ) → keyOf (literalNode v) ≡ firstLiteral + v
 unfolding keyOf
 literal-key v = refl
 
-pub iri-low : {P : Pack} (c : ℕ) (vs : List ℕ) → ProperIri P c vs → keyOf (iriNode c vs) < 2 ^ 36
+pub iri-low : {P : Pack} (c : ℕ) (vs : List ℕ) → ProperIri P c vs → keyOf (iriNode c vs) < firstLiteral
 iri-low c vs p = let k = iri-key c vs (p .few) (p .bytes) in omega (arith, k .0, k .1, p .low)
 
 pub key-injective : (P : Pack) (n m : Node) → Proper P n → Proper P m → keyOf n ≡ keyOf m → n ≡ m
@@ -60,7 +61,7 @@ key-injective P (iriNode c vs) (iriNode d ws) p q e =
     let s : c ≡ d = omega (arith, k .0, k .1, l .0, l .1, e) in
     let a : p .constructor ≡ q .constructor = Option·some-injective (p .constructor) (q .constructor) (sym (p .is) ∙ ap (getElem? (P .setting .constructors)) s ∙ q .is) in
     let n : length vs ≡ length ws = p .arity ∙ ap (λ (x : Constructor). x .arity) a ∙ sym (q .arity) in
-    let w : packed vs * 256 ^ (4 - length vs) ≡ packed ws * 256 ^ (4 - length ws) = omega (arith, k .0, l .0, e, s) in
+    let w : packed vs * maxValues ^ (maxArguments - length vs) ≡ packed ws * maxValues ^ (maxArguments - length ws) = omega (arith, k .0, l .0, e, s) in
     let x : packed vs ≡ packed ws = padded-one (length vs) (p .few) (packed vs) (packed ws) (rw n (rw n at w)) in
     ap₂ iriNode s (packed-injective vs ws (p .bytes) (q .bytes) n x)
 key-injective P (iriNode c vs) (literalNode v) p q e = absurd (omega (arith, iri-low c vs p, literal-key v, e))
@@ -70,7 +71,7 @@ key-injective P (literalNode v) (literalNode w) p q e = ap literalNode (omega (a
 -- ---- the core's nodes are proper
 
 module _ {P : Pack} (b : Bounded P) {rule : Rule} (listed : rule ∈ P .setting .rules) (σ : Assignment) where
-  term-proper : (t : Term) → t ∈ headTerms (rule .head) → length (t .variables) ≤ 4 → Bytes (map σ (t .variables)) → Proper P (nodeOf σ t)
+  term-proper : (t : Term) → t ∈ headTerms (rule .head) → length (t .variables) ≤ maxArguments → Bytes (map σ (t .variables)) → Proper P (nodeOf σ t)
   unfolding nodeOf
   term-proper t m l s =
       let d = resolved P (b .resolved) .terms rule listed t m in

@@ -3,13 +3,14 @@ use mathlib.Core.List.{List}
 use mathlib.Core.Option.{Option, none, some}
 use mathlib.Core.Path.{_≡_, refl, _∙_}
 use native.Mathlib.Omega.{arith}
-use Prim.Native.Nat.{ℕ, _*_, _≤_, _<_}
+use Prim.Native.Nat.{ℕ, _*_, _+_, _≤_, _<_}
 use Rattle.core.proofs.Declared.{shape-owner}
 use Rattle.core.specs.Bounds.{Bounded}
 use Rattle.meaning.proofs.Model.Resolved.{resolved}
-use Rattle.meaning.specs.Limits.{maxTypes}
-use Rattle.meaning.specs.Pack.{HasShape, Literal, Multiplicity, Pack, Shape, Target, anyNumber, atLeastOne, multiplicityNumber, one, optional, shapeOf, type}
-use Rattle.meaning.specs.Tables.{ShapeTable, cellAt, cellOf, literalBit, targetCode}
+use Rattle.meaning.specs.Limits.{literalBit, maxTypes, multiplicityRoom}
+use Rattle.meaning.specs.Pack.{HasShape, Literal, Pack, Shape, Target, shapeOf, type}
+use Rattle.meaning.specs.Tables.{ShapeTable, cellAt, cellOf, targetCode}
+use Rattle.shapes.proofs.Cells.{multiplicity-small}
 use Rattle.shapes.specs.Shapes.{CodesFit, FewTypes, Tabled}
 
 pub few-types : {P : Pack} → Bounded P → FewTypes (P .setting)
@@ -18,12 +19,6 @@ few-types {P} b = record {
   targets = λ e q. omega (arith, resolved P (b .resolved) .target-type e q, b .types);
 }
 
-multiplicity-small : (m : Multiplicity) → multiplicityNumber m < 8
-multiplicity-small one = omega arith
-multiplicity-small optional = omega arith
-multiplicity-small anyNumber = omega arith
-multiplicity-small atLeastOne = omega arith
-
 code-small : (S : Target) → ((u : ℕ) → S ≡ type u → u < maxTypes) → targetCode S ≤ literalBit
 code-small Literal h = omega arith
 code-small (type u) h = omega (arith, h u refl)
@@ -31,7 +26,7 @@ code-small (type u) h = omega (arith, h u refl)
 pub codes-fit : {P : Pack} {table : List (List ℕ)} → ShapeTable (P .setting) table → Bounded P → CodesFit table
 codes-fit {P} {table} tab b t p ht hp = go (shapeOf (P .setting) t p) refl
   where
-    go : (o : Option Shape) → shapeOf (P .setting) t p ≡ o → cellAt table t p < 16 * 8
+    go : (o : Option Shape) → shapeOf (P .setting) t p ≡ o → cellAt table t p < (literalBit + 1) * multiplicityRoom
     go none e = let c : cellAt table t p ≡ cellOf none = tab .cells t p ht hp ∙ rw e in omega arith
     go (some s) e =
         let c : cellAt table t p ≡ cellOf (some s) = tab .cells t p ht hp ∙ rw e in

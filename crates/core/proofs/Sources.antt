@@ -13,6 +13,7 @@ use Rattle.core.specs.Keys.{keyOf}
 use Rattle.meaning.proofs.Lists.Members.{element}
 use Rattle.meaning.proofs.Lists.Places.{inside, placed, there-is}
 use Rattle.meaning.specs.Core.{Assignment, Matches, literalNode, nodeOf}
+use Rattle.meaning.specs.Limits.{firstLiteral, maxArguments, maxValues, termRoom}
 use Rattle.meaning.specs.Member.{_∈_}
 use Rattle.meaning.specs.Pack.{Pack, Rule, Term, hasType, linksTo, linksToValue}
 use Rattle.meaning.specs.Tables.{packed}
@@ -61,48 +62,48 @@ module _ {P : Pack} {rules : List (List ℕ)} {count : ℕ} {heads counts : List
 
 module _ (σ : Assignment) where
   -- a term's key from its values
-  term-key : (t : Term) → length (t .variables) ≤ 4
-      → t .constructor * 2 ^ 32 + packed (map σ (t .variables)) * 256 ^ (4 - length (t .variables)) ≡ keyOf (nodeOf σ t)
+  term-key : (t : Term) → length (t .variables) ≤ maxArguments
+      → t .constructor * termRoom + packed (map σ (t .variables)) * maxValues ^ (maxArguments - length (t .variables)) ≡ keyOf (nodeOf σ t)
   unfolding keyOf nodeOf
   term-key t l =
       let e : length (map σ (t .variables)) ≡ length (t .variables) = length-map (t .variables) σ in
       rw (packed-padded (map σ (t .variables)) (omega arith), e)
 
-  module _ (s : Term) (l : length (s .variables) ≤ 4) where
+  module _ (s : Term) (l : length (s .variables) ≤ maxArguments) where
     pub type-subject : (t : ℕ) → subjectKey (headNumbers (hasType s t)) (packed (map σ (headArguments (hasType s t)))) ≡ keyOf (nodeOf σ s)
     unfolding subjectKey headNumbers headArguments
     type-subject t = rw div-one (term-key s l)
 
-    pub value-subject : (p v : ℕ) → σ v < 256
+    pub value-subject : (p v : ℕ) → σ v < maxValues
         → subjectKey (headNumbers (linksToValue s p v)) (packed (map σ (headArguments (linksToValue s p v)))) ≡ keyOf (nodeOf σ s)
     unfolding subjectKey headNumbers headArguments
     value-subject p v b =
-        let f : packed (map σ (s .variables ++ v ∷ [])) / 256 ^ 1 ≡ packed (map σ (s .variables)) =
+        let f : packed (map σ (s .variables ++ v ∷ [])) / maxValues ^ 1 ≡ packed (map σ (s .variables)) =
         rw (map-append σ (s .variables) (v ∷ [])) (packed-front (map σ (s .variables)) (σ v ∷ []) (single (σ v) b)) in
         rw f (term-key s l)
 
-    pub value-object : (p v : ℕ) → σ v < 256
+    pub value-object : (p v : ℕ) → σ v < maxValues
         → objectKey (headNumbers (linksToValue s p v)) (packed (map σ (headArguments (linksToValue s p v)))) ≡ keyOf (literalNode (σ v))
     unfolding objectKey headNumbers headArguments keyOf
     value-object p v b =
-        let f : packed (map σ (s .variables ++ v ∷ [])) % 256 ^ 1 ≡ packed (σ v ∷ []) =
+        let f : packed (map σ (s .variables ++ v ∷ [])) % maxValues ^ 1 ≡ packed (σ v ∷ []) =
         rw (map-append σ (s .variables) (v ∷ [])) (packed-back (map σ (s .variables)) (σ v ∷ []) (single (σ v) b)) in
-        ap (λ x. 2 ^ 36 + x) (f ∙ one-packed (σ v))
+        ap (λ x. firstLiteral + x) (f ∙ one-packed (σ v))
 
-    module _ (o : Term) (m : length (o .variables) ≤ 4) (b : Bytes (map σ (o .variables))) where
+    module _ (o : Term) (m : length (o .variables) ≤ maxArguments) (b : Bytes (map σ (o .variables))) where
       size : length (map σ (o .variables)) ≡ length (o .variables)
       size = length-map (o .variables) σ
 
       pub link-subject : (p : ℕ) → subjectKey (headNumbers (linksTo s p o)) (packed (map σ (headArguments (linksTo s p o)))) ≡ keyOf (nodeOf σ s)
       unfolding subjectKey headNumbers headArguments
       link-subject p =
-          let f : packed (map σ (s .variables ++ o .variables)) / 256 ^ length (o .variables) ≡ packed (map σ (s .variables)) =
+          let f : packed (map σ (s .variables ++ o .variables)) / maxValues ^ length (o .variables) ≡ packed (map σ (s .variables)) =
           rw (map-append σ (s .variables) (o .variables), ← size) (packed-front (map σ (s .variables)) (map σ (o .variables)) b) in
           rw f (term-key s l)
 
       pub link-object : (p : ℕ) → objectKey (headNumbers (linksTo s p o)) (packed (map σ (headArguments (linksTo s p o)))) ≡ keyOf (nodeOf σ o)
       unfolding objectKey headNumbers headArguments
       link-object p =
-          let f : packed (map σ (s .variables ++ o .variables)) % 256 ^ length (o .variables) ≡ packed (map σ (o .variables)) =
+          let f : packed (map σ (s .variables ++ o .variables)) % maxValues ^ length (o .variables) ≡ packed (map σ (o .variables)) =
           rw (map-append σ (s .variables) (o .variables), ← size) (packed-back (map σ (s .variables)) (map σ (o .variables)) b) in
           rw f (term-key o m)

@@ -11,7 +11,8 @@ use native.Mathlib.Nat.{not-suc-le-zero, le-of-suc-le-suc}
 use native.Mathlib.Omega.{arith}
 use Prim.Native.Nat.{ℕ, zero, suc, _+_, _^_, _≤_, _<_, zero-le}
 use Rattle.core.proofs.Lists.{front-more, zeros-at}
-use Rattle.core.specs.Spread.{Carried, PassShown, Passed, PassedOnce, Passes, Progress, RoundShown, SpreadFrom, along, held, objectOf, predicateOf, room, subjectOf}
+use Rattle.core.specs.Keys.{objectOf, predicateOf, subjectOf}
+use Rattle.core.specs.Spread.{Carried, PassShown, Passed, PassedOnce, Passes, RoundShown, SpreadFrom, along, held, maskRoom}
 use Rattle.meaning.specs.Member.{_∈_}
 use Rattle.meaning.specs.Pack.{Setting, Shape, Target, type}
 use Rattle.meaning.specs.Tables.{setOfMask}
@@ -19,18 +20,20 @@ use Rattle.meaning.specs.TypeSet.{_∈ₜ_}
 use Rattle.shapes.proofs.Sets.{none-in, union-in}
 use Rattle.shapes.specs.Shapes.{SomeShape, Tabled, TargetsOf}
 use Rattle.sets.proofs.Ascending.{∈-at}
+use Rattle.sets.proofs.Progress.{nearer}
 use Rattle.sets.specs.Buffers.{zeros}
+use Rattle.sets.specs.Progress.{Progress}
 
 -- ---- one triple
 
 or-ge : (a b : ℕ) → a ≤ bitOr a b
 or-ge a b = omega (arith, or-add-and a b, and-le-r a b)
 
--- a larger mask leaves less room
-room-set : (ms : List ℕ) (o v : ℕ) → o < length ms → getD ms o 0 < v → v < 2 ^ 16 → room (set ms o v) < room ms
+-- a larger mask leaves less maskRoom
+room-set : (ms : List ℕ) (o v : ℕ) → o < length ms → getD ms o 0 < v → v < 2 ^ 16 → maskRoom (set ms o v) < maskRoom ms
 room-set [] o v h l r = absurd (not-suc-le-zero h)
 room-set (m ∷ ms) zero v h l r = omega arith
-room-set (m ∷ ms) (suc o) v h l r = let k : room (set ms o v) < room ms = room-set ms o v (le-of-suc-le-suc h) l r in omega arith
+room-set (m ∷ ms) (suc o) v h l r = let k : maskRoom (set ms o v) < maskRoom ms = room-set ms o v (le-of-suc-le-suc h) l r in omega arith
 
 module _ (table : List (List ℕ)) (k t : ℕ) (d : List ℕ) (l : objectOf k < length d) (a : getD d (objectOf k) 0 < 2 ^ 16) (b : t < 2 ^ 16)
     (f : TargetsOf table (getD d (subjectOf k) 0) (predicateOf k) t) where
@@ -60,7 +63,7 @@ module _ (table : List (List ℕ)) (k t : ℕ) (d : List ℕ) (l : objectOf k < 
     pub pass-same : new ≡ getD d (objectOf k) 0 → PassedOnce S k d d
     pass-same e = let same : set d (objectOf k) new ≡ d = rw e (set-getD d (objectOf k) 0) in subst (PassedOnce S k d) same pass-more
 
-  pub pass-nearer : (new ≡ getD d (objectOf k) 0 → ⊥) → room (set d (objectOf k) new) < room d
+  pub pass-nearer : (new ≡ getD d (objectOf k) 0 → ⊥) → maskRoom (set d (objectOf k) new) < maskRoom d
   pass-nearer n = room-set d (objectOf k) new l (omega (arith, n, or-ge (getD d (objectOf k) 0) t)) (or-lt 16 (getD d (objectOf k) 0) t a b)
 
 -- ---- what passed last
@@ -117,7 +120,7 @@ pub record RoundDone (table : List (List ℕ)) (triples : List ℕ) (i : ℕ) (c
   pub within : i ≤ length triples
   pub long : length d ≡ length d₀
   done : (S : Setting) → Tabled S table → Carried S triples p₀ d₀ → RoundOf S triples i changed d₀ d × Carried S triples p d
-  pub progress : Progress changed d₀ d
+  pub progress : Progress maskRoom changed d₀ d
 
 pub round-start : (table : List (List ℕ)) (triples p d : List ℕ) → RoundDone table triples 0 false p p d d
 round-start table triples p d = record {
@@ -126,10 +129,6 @@ round-start table triples p d = record {
   done = λ S tab car. (record { keeps = λ j R h. h; only = λ j R h. held h; all = λ e k m. elim m [ ] }, car);
   progress = refl;
 }
-
-nearer : (c : Bool) (a b d : List ℕ) → Progress c a b → room d < room b → room d < room a
-nearer true a b d p q = omega arith
-nearer false a b d p q = rw (← p) q
 
 true-not-false : {A : Type 0} → true ≡ false → A
 true-not-false e = absurd (let z : _≡_ {A = ℕ} 0 1 = cc in omega arith)
@@ -171,15 +170,15 @@ module _ {table : List (List ℕ)} {triples : List ℕ} {i : ℕ} {changed : Boo
   }
 
   module _ (d′ : List ℕ) (s : PassShown table key d d′) (l : length d′ ≡ length d) where
-    pub round-hit : Progress true d d′ → RoundDone table triples (i + 1) true p₀ (set p i from) d₀ d′
+    pub round-hit : Progress maskRoom true d d′ → RoundDone table triples (i + 1) true p₀ (set p i from) d₀ d′
     round-hit n = record {
       within = omega arith;
       long = l ∙ r .long;
       done = λ S tab car. let o = r .done S tab car in (hit (o .0) d′ (s S tab), pass-carried (o .1) i h (s S tab));
-      progress = nearer changed d₀ d d′ (r .progress) n;
+      progress = nearer maskRoom changed d₀ d d′ (r .progress) n;
     }
 
-    pub round-miss : Progress false d d′ → RoundDone table triples (i + 1) changed p₀ (set p i from) d₀ d′
+    pub round-miss : Progress maskRoom false d d′ → RoundDone table triples (i + 1) changed p₀ (set p i from) d₀ d′
     round-miss e = subst (RoundDone table triples (i + 1) changed p₀ (set p i from) d₀) (sym e) (record {
       within = omega arith;
       long = r .long;

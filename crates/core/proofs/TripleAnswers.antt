@@ -11,7 +11,7 @@ use Rattle.core.proofs.Lists.{list-as, only-new}
 use Rattle.core.proofs.Proper.{core-proper, key-injective}
 use Rattle.core.proofs.Sources.{sources}
 use Rattle.core.proofs.TripleSources.{at-rank, rank-at, triple-sources}
-use Rattle.core.specs.Bounds.{Bounded, HeadFits, HeadsFit, maxNodes}
+use Rattle.core.specs.Bounds.{Bounded, HeadFits, HeadsFit}
 use Rattle.core.specs.Collected.{Adding, Beyond, FromRules, Grown, tripleKeys}
 use Rattle.core.specs.Heads.{HeadsHeld, headNumbers}
 use Rattle.core.specs.Held.{NodeKey, TripleKey}
@@ -21,7 +21,7 @@ use Rattle.core.specs.declared.counted.Counted.{Counted}
 use Rattle.core.specs.declared.counted.Counted.the-variants.{Count, TooLarge}
 use Rattle.meaning.proofs.Lists.Places.{inside, placed}
 use Rattle.meaning.specs.Core.{CoreEdge, CoreNode, Node, asObject, asSubject, headFact, triple}
-use Rattle.meaning.specs.Limits.{maxCoreTriples, maxPredicates}
+use Rattle.meaning.specs.Limits.{maxCoreNodes, maxCoreTriples, maxPredicates, placeRoom, predicateRoom}
 use Rattle.meaning.specs.Member.{_∈_}
 use Rattle.meaning.specs.NoGraph.{CoreTriple}
 use Rattle.meaning.specs.Ordered.{ListOf, Over}
@@ -30,7 +30,7 @@ use Rattle.sets.proofs.Rank.{rank-le}
 use Rattle.sets.specs.Ordered.{rankOf}
 
 -- a key's parts
-parts-one : (s p o s′ p′ o′ : ℕ) → p < 16 → p′ < 16 → o < 1024 → o′ < 1024 → tripleKey s p o ≡ tripleKey s′ p′ o′ → (s ≡ s′) × (p ≡ p′) × (o ≡ o′)
+parts-one : (s p o s′ p′ o′ : ℕ) → p < predicateRoom → p′ < predicateRoom → o < placeRoom → o′ < placeRoom → tripleKey s p o ≡ tripleKey s′ p′ o′ → (s ≡ s′) × (p ≡ p′) × (o ≡ o′)
 unfolding tripleKey
 parts-one s p o s′ p′ o′ a b c d e = (omega arith, omega arith, omega arith)
 
@@ -39,7 +39,7 @@ abbrev Triples : List ℕ → List (List ℕ) → ℕ → List ℕ → List ℕ 
 Triples nodes rules count heads counts = FromRules (λ head k y. y ∈ tripleKeys nodes head k) rules count heads counts
 
 module _ {rules : List (List ℕ)} {count : ℕ} {heads counts : List ℕ} (fit : HeadsFit rules count heads counts) (nodes : List ℕ)
-    (few : length nodes ≤ maxNodes) where
+    (few : length nodes ≤ maxCoreNodes) where
   module _ (P : Pack) (h : HeadsHeld P rules count heads counts) (b : Bounded P) (l : ListOf _<_ (NodeKey P) nodes) where
     triple-iff : (y : ℕ) → ((y ∈ []) ⊎ Triples nodes rules count heads counts y) ↔ TripleKey P nodes y
     triple-iff y = (λ s. all .0 (only-new s), λ t. inr (all .1 t))

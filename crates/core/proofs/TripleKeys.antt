@@ -10,6 +10,7 @@ use Rattle.core.proofs.Lists.{one}
 use Rattle.core.specs.Collected.{Grown, objectKey, subjectKey, tripleKeys}
 use Rattle.core.specs.Heads.{kindNumber, namedNumber}
 use Rattle.core.specs.Keys.{tripleKey}
+use Rattle.meaning.specs.Limits.{placeRoom, predicateRoom}
 use Rattle.meaning.specs.Member.{_∈_, here}
 use Rattle.meaning.specs.Ordered.{InOrder}
 use Rattle.sets.specs.Ordered.{rankOf}
@@ -33,6 +34,6 @@ module _ (nodes head : List ℕ) (k : ℕ) where
 
   -- the key as code makes it
   pub link-triples : (kindNumber head ≡ 0 → ⊥) → {s o : ℕ} → s ≡ rankOf (subjectKey head k) nodes → o ≡ rankOf (objectKey head k) nodes
-      → (y : ℕ) → (y ≡ (s * 16 + namedNumber head) * 1024 + o) ↔ (y ∈ tripleKeys nodes head k)
+      → (y : ℕ) → (y ≡ (s * predicateRoom + namedNumber head) * placeRoom + o) ↔ (y ∈ tripleKeys nodes head k)
   unfolding tripleKey
   link-triples n e f y = rw (link-triple n, e, f) (here, one)

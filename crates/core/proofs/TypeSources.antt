@@ -10,15 +10,16 @@ use Rattle.core.proofs.NodeSources.{Fine, fine}
 use Rattle.core.proofs.Sources.{sources, type-subject}
 use Rattle.core.proofs.TripleAnswers.{node-in, predicate-small, rank-one}
 use Rattle.core.proofs.TripleSources.{at-rank, rank-at}
-use Rattle.core.specs.Bounds.{Bounded, HeadsFit, maxNodes}
+use Rattle.core.specs.Bounds.{Bounded, HeadsFit}
 use Rattle.core.specs.Collected.{FromRules, Marked, TypeFact}
 use Rattle.core.specs.Heads.{HeadsHeld, headArguments, headNumbers}
 use Rattle.core.specs.Held.{NodeKey, TripleKey}
-use Rattle.core.specs.Keys.{keyOf, tripleKey}
-use Rattle.core.specs.Spread.{Passed, SpreadFrom, along, held, objectOf, predicateOf, subjectOf}
+use Rattle.core.specs.Keys.{keyOf, objectOf, predicateOf, subjectOf, tripleKey}
+use Rattle.core.specs.Spread.{Passed, SpreadFrom, along, held}
 use Rattle.meaning.proofs.Lists.Places.{inside}
 use Rattle.meaning.proofs.Model.Resolved.{headTerms}
 use Rattle.meaning.specs.Core.{Assignment, CoreNode, CoreType, Given, Node, asObject, asSubject, asTyped, given, headFact, nodeOf, passed, typed}
+use Rattle.meaning.specs.Limits.{maxCoreNodes, placeRoom, predicateRoom}
 use Rattle.meaning.specs.Member.{_∈_, here}
 use Rattle.meaning.specs.Ordered.{ListOf}
 use Rattle.meaning.specs.Pack.{HasShape, Head, Pack, Target, hasType, linksTo, linksToValue, type}
@@ -55,12 +56,12 @@ module _ (nodes : List ℕ) (σ : Assignment) where
   of-fact (linksToValue s p v) f n R e = absurd (let z : _≡_ {A = ℕ} 0 1 = cc in omega arith)
 
 -- a key's parts, read back
-pub decoded : (s p o : ℕ) → p < 16 → o < 1024 → (subjectOf (tripleKey s p o) ≡ s) × (predicateOf (tripleKey s p o) ≡ p) × (objectOf (tripleKey s p o) ≡ o)
+pub decoded : (s p o : ℕ) → p < predicateRoom → o < placeRoom → (subjectOf (tripleKey s p o) ≡ s) × (predicateOf (tripleKey s p o) ≡ p) × (objectOf (tripleKey s p o) ≡ o)
 unfolding tripleKey
 decoded s p o a b = (omega arith, omega arith, omega arith)
 
 module _ {rules : List (List ℕ)} {count : ℕ} {heads counts : List ℕ} (fit : HeadsFit rules count heads counts) (nodes : List ℕ)
-    (few : length nodes ≤ maxNodes) (P : Pack) (h : HeadsHeld P rules count heads counts) (b : Bounded P) (l : ListOf _<_ (NodeKey P) nodes)
+    (few : length nodes ≤ maxCoreNodes) (P : Pack) (h : HeadsHeld P rules count heads counts) (b : Bounded P) (l : ListOf _<_ (NodeKey P) nodes)
     (triples : List ℕ) (ts : ListOf _<_ (TripleKey P nodes) triples) (zero start : List ℕ) (none : (i : ℕ) → getD zero i 0 ≡ 0)
     (marked : Marked (FromRules (TypeFact nodes) rules count heads counts) zero start) where
   -- what the masks hold at the start

@@ -11,12 +11,12 @@ use Rattle.core.proofs.Lists.{one, only-new, zeros-at}
 use Rattle.core.proofs.NodeKeys.{link-keys, subject-in}
 use Rattle.core.proofs.TripleKeys.{link-triple, no-triple}
 use Rattle.core.proofs.TypeSources.{decoded, types-at}
-use Rattle.core.specs.Bounds.{HeadFits, HeadsFit, maxNodes}
+use Rattle.core.specs.Bounds.{HeadFits, HeadsFit}
 use Rattle.core.specs.Collected.{FromRules, Grown, KnownMatch, KnownRules, Marked, TypeFact, nodeKeys, objectKey, subjectKey, tripleKeys}
 use Rattle.core.specs.Heads.{kindNumber, namedNumber}
 use Rattle.core.specs.Outcomes.{CoreListed, NodesListed, TriplesListed, TypesAnswer}
 use Rattle.core.specs.Spread.{AllPlaced, Placed, SpreadFrom}
-use Rattle.meaning.specs.Limits.{maxCoreTriples, maxIris}
+use Rattle.meaning.specs.Limits.{maxCoreNodes, maxCoreTriples, maxIris}
 use Rattle.meaning.specs.Member.{_∈_}
 use Rattle.meaning.specs.NoGraph.{CoreIri, CoreTriple}
 use Rattle.meaning.specs.Ordered.{InOrder, Over}
@@ -28,7 +28,7 @@ use Rattle.sets.specs.Ordered.{rankOf}
 -- ---- types, from cleared masks on
 
 module _ {rules : List (List ℕ)} {count : ℕ} {heads counts : List ℕ} (fit : HeadsFit rules count heads counts) where
-  pub types-answer : (nodes : List ℕ) → length nodes ≤ maxNodes → (triples before : List ℕ) → before ≡ zeros (length before) → (start : List ℕ)
+  pub types-answer : (nodes : List ℕ) → length nodes ≤ maxCoreNodes → (triples before : List ℕ) → before ≡ zeros (length before) → (start : List ℕ)
       → Marked (FromRules (TypeFact nodes) rules count heads counts) before start → (table : List (List ℕ)) (after : List ℕ)
       → SpreadFrom table triples start after → TypesAnswer table rules count heads counts nodes triples after
   types-answer nodes few triples before e start marked table after spread P h b tab l ts =
@@ -41,7 +41,7 @@ module _ {rules : List (List ℕ)} {count : ℕ} {heads counts : List ℕ} (fit 
       → KnownRules (take m d′) rules count heads counts
   known-rules g r l k i y m = g .list .members y .1 (inr (record { rule = r; below = l; gives = record { key = k; listed = i; gives = m } }))
 
-  module _ (nodes : List ℕ) (a : InOrder _<_ nodes) (few : length nodes ≤ maxNodes) where
+  module _ (nodes : List ℕ) (a : InOrder _<_ nodes) (few : length nodes ≤ maxCoreNodes) where
     placed-triple : (head : List ℕ) (k : ℕ) → HeadFits head → KnownMatch nodes head k → (y : ℕ) → y ∈ tripleKeys nodes head k → Placed y
     placed-triple head k f known y m = go (ℕ-discrete (kindNumber head) 0)
       where
@@ -68,7 +68,7 @@ module _ {rules : List (List ℕ)} {count : ℕ} {heads counts : List ℕ} (fit 
 pub core-listed : {n t : ℕ} {table rules : List (List ℕ)} {count : ℕ} {heads counts nodes₀ nodes triples₀ triples masks : List ℕ}
     → NodesListed n rules count heads counts nodes₀ nodes → TriplesListed t (take n nodes) rules count heads counts triples₀ triples
     → TypesAnswer table rules count heads counts (take n nodes) (take t triples) masks
-    → length nodes ≡ maxNodes → length triples ≡ maxCoreTriples → maxNodes ≤ length masks
+    → length nodes ≡ maxCoreNodes → length triples ≡ maxCoreTriples → maxCoreNodes ≤ length masks
     → CoreListed n t table rules count heads counts nodes triples masks
 core-listed {n} {t} {nodes = nodes} {triples = triples} a b c l k m = record {
   few-nodes = omega (arith, a .grown .fits, l);

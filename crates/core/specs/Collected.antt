@@ -10,7 +10,7 @@ use Rattle.core.specs.Heads.{keysOf, kindNumber, namedNumber, objectArgu
 use Rattle.core.specs.Keys.{tripleKey}
 use Rattle.core.specs.declared.counted.Counted.{Counted}
 use Rattle.core.specs.declared.counted.Counted.the-variants.{Count, TooLarge}
-use Rattle.meaning.specs.Limits.{maxArguments}
+use Rattle.meaning.specs.Limits.{firstLiteral, maxArguments, maxValues, termRoom}
 use Rattle.meaning.specs.Member.{_∈_}
 use Rattle.meaning.specs.Ordered.{InOrder, ListOf}
 use Rattle.meaning.specs.Pack.{Target, type}
@@ -22,16 +22,16 @@ use Rattle.sets.specs.Ordered.{rankOf}
 
 -- a term's node: its constructor over the values, padded by zeros
 abbrev pub termKey : ℕ → ℕ → ℕ → ℕ
-termKey constructor arguments values = constructor * 2 ^ 32 + values * 256 ^ (maxArguments - arguments)
+termKey constructor arguments values = constructor * termRoom + values * maxValues ^ (maxArguments - arguments)
 
 unfoldable pub subjectKey : List ℕ → ℕ → ℕ
-subjectKey head k = termKey (subjectConstructor head) (subjectArguments head) (k / 256 ^ objectArguments head)
+subjectKey head k = termKey (subjectConstructor head) (subjectArguments head) (k / maxValues ^ objectArguments head)
 
 -- a term's for kind 1, a value's for kind 2
 unfoldable pub objectKey : List ℕ → ℕ → ℕ
 objectKey head k =
-    cond (eqb (kindNumber head) 1) (termKey (objectConstructor head) (objectArguments head) (k % 256 ^ objectArguments head))
-    (2 ^ 36 + k % 256)
+    cond (eqb (kindNumber head) 1) (termKey (objectConstructor head) (objectArguments head) (k % maxValues ^ objectArguments head))
+    (firstLiteral + k % maxValues)
 
 -- the subject's, and the object's unless the head's kind is 0
 unfoldable pub nodeKeys : List ℕ → ℕ → List ℕ

@@ -5,6 +5,7 @@ use mathlib.Core.Option.{some}
 use mathlib.Core.Path.{_≡_}
 use Prim.Native.Nat.{ℕ, _*_, _<_}
 use Rattle.matching.specs.Rule.{HeadKey}
+use Rattle.meaning.specs.Limits.{maxHeads}
 use Rattle.meaning.specs.Ordered.{ListOf}
 use Rattle.meaning.specs.Pack.{Head, hasType, linksTo, linksToValue, Pack, Rule}
 
@@ -46,13 +47,9 @@ headArguments (linksToValue s p v) = s .variables ++ v ∷ []
 
 -- ---- all rules
 
--- room for the keys of one rule
-abbrev pub keysPerRule : ℕ
-keysPerRule = 1024
-
 -- rule r's keys, the first of its part of the slice
 abbrev pub keysOf : List ℕ → List ℕ → ℕ → List ℕ
-keysOf heads counts r = take (getD counts r 0) (drop (r * keysPerRule) heads)
+keysOf heads counts r = take (getD counts r 0) (drop (r * maxHeads) heads)
 
 pub record HeadsHeld (P : Pack) (rules : List (List ℕ)) (count : ℕ) (heads counts : List ℕ) : Type 0 where
   pub many : count ≡ length (P .setting .rules)

@@ -2,7 +2,7 @@
 use lib.ListN.{take}
 use mathlib.Core.List.{List}
 use Prim.Native.Nat.{ℕ, _≤_, _<_}
-use Rattle.core.specs.Bounds.{Bounded, maxNodes}
+use Rattle.core.specs.Bounds.{Bounded}
 use Rattle.core.specs.Collected.{FromRules, Grown, nodeKeys, tripleKeys}
 use Rattle.core.specs.Heads.{HeadsHeld}
 use Rattle.core.specs.Held.{CoreHeld, NodeKey, TripleKey, TypesAt}
@@ -10,7 +10,7 @@ use Rattle.core.specs.declared.Outcome.{Outcome}
 use Rattle.core.specs.declared.Outcome.the-variants.{Held, TooLarge as NotHeld}
 use Rattle.core.specs.declared.counted.Counted.{Counted}
 use Rattle.core.specs.declared.counted.Counted.the-variants.{Count, TooLarge}
-use Rattle.meaning.specs.Limits.{maxCoreTriples, maxIris}
+use Rattle.meaning.specs.Limits.{maxCoreNodes, maxCoreTriples, maxIris}
 use Rattle.meaning.specs.Member.{_∈_}
 use Rattle.meaning.specs.NoGraph.{CoreIri, CoreTriple, TooLarge as CoreTooLarge}
 use Rattle.meaning.specs.Ordered.{ListOf, Over}
@@ -47,7 +47,7 @@ TypesAnswer table rules count heads counts nodes triples masks =
 
 -- The whole core: n nodes and t triples, or that it is too large (9: "The core has over 512 IRI nodes or 1,024 triples.").
 pub record CoreListed (n t : ℕ) (table rules : List (List ℕ)) (count : ℕ) (heads counts nodes triples masks : List ℕ) : Type 0 where
-  pub few-nodes : n ≤ maxNodes
+  pub few-nodes : n ≤ maxCoreNodes
   pub few-triples : t ≤ maxCoreTriples
   pub held : (P : Pack) → HeadsHeld P rules count heads counts → Bounded P → Tabled (P .setting) table
       → CoreHeld P (take n nodes) (take t triples) masks

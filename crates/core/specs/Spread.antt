@@ -1,36 +1,23 @@
 -- Types passed along the triples: the least set. Assumes nothing.
 use lib.ListN.{getD, length}
-use mathlib.Core.Bool.{Bool, true, false}
+use mathlib.Core.Bool.{Bool, false}
 use mathlib.Core.List.{List, [], _∷_}
 use mathlib.Core.Logic.{_↔_, _⊎_}
 use mathlib.Core.Path.{_≡_}
-use Prim.Native.Nat.{ℕ, _+_, _*_, _-_, _/_, _%_, _<_}
-use Rattle.core.specs.Bounds.{maxNodes}
-use Rattle.core.specs.Keys.{placeRoom, predicateRoom}
-use Rattle.meaning.specs.Limits.{maxPredicates}
+use Prim.Native.Nat.{ℕ, _+_, _-_, _<_}
+use Rattle.core.specs.Keys.{objectOf, predicateOf, subjectOf}
+use Rattle.meaning.specs.Limits.{maxCoreNodes, maxPredicates}
 use Rattle.meaning.specs.Member.{_∈_}
 use Rattle.meaning.specs.Pack.{HasShape, Setting, Shape, Target, type}
 use Rattle.meaning.specs.Tables.{setOfMask}
 use Rattle.meaning.specs.TypeSet.{_∈ₜ_}
 use Rattle.shapes.specs.Shapes.{SomeShape, Tabled}
 
--- ---- a triple's key, taken apart
-
--- the places and the predicate of a triple's key
-abbrev pub subjectOf : ℕ → ℕ
-subjectOf k = k / (placeRoom * predicateRoom)
-
-abbrev pub predicateOf : ℕ → ℕ
-predicateOf k = k / placeRoom % predicateRoom
-
-abbrev pub objectOf : ℕ → ℕ
-objectOf k = k % placeRoom
-
--- Its places are those of nodes, its predicate is one of 12.
+-- Its places are those of nodes, its predicate is one of the pack's.
 pub record Placed (k : ℕ) : Type 0 where
-  pub from : subjectOf k < maxNodes
+  pub from : subjectOf k < maxCoreNodes
   pub named : predicateOf k < maxPredicates
-  pub to : objectOf k < maxNodes
+  pub to : objectOf k < maxCoreNodes
 
 abbrev pub AllPlaced : List ℕ → Type 0
 AllPlaced triples = (k : ℕ) → k ∈ triples → Placed k
@@ -70,14 +57,9 @@ pub record Carried (S : Setting) (triples passed masks : List ℕ) : Type 0 wher
       → R ∈ₜ setOfMask (getD masks (objectOf (getD triples i 0)) 0)
 
 -- how far the masks are from full, as numbers
-abbrev pub room : List ℕ → ℕ
-room [] = 0
-room (m ∷ ms) = (65535 - m) + room ms
-
--- a step that says true brought the masks nearer to full, one that says false left them
-abbrev pub Progress : Bool → List ℕ → List ℕ → Type 0
-Progress true before after = room after < room before
-Progress false before after = after ≡ before
+abbrev pub maskRoom : List ℕ → ℕ
+maskRoom [] = 0
+maskRoom (m ∷ ms) = (65535 - m) + maskRoom ms
 
 -- Types are only passed along; every triple's are, if nothing changed.
 pub record Round (S : Setting) (triples : List ℕ) (changed : Bool) (before after : List ℕ) : Type 0 where

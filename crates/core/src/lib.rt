@@ -1,12 +1,15 @@
 // The core of a pack, in lent slices: its nodes and triples as ordered sets of keys, and its types as masks.
 use crate::counted::Counted;
+use crate::heads::Counts;
+use crate::heads::HeadTable;
+use meaning::ShapeTable;
 ghost use mathlib.Core.Path.{_≡_};
 ghost use Prim.Native.Nat.{_≤_};
 ghost use lib.ListN.{length};
-ghost use Rattle.meaning.specs.Limits.{maxCoreTriples};
+ghost use Rattle.meaning.specs.Limits.{maxCoreNodes, maxCoreTriples};
 ghost use Rattle.sets.specs.Buffers.{zeros};
 ghost use Rattle.shapes.specs.Shapes.{CodesFit};
-ghost use Rattle.core.specs.Bounds.{HeadsFit, maxNodes};
+ghost use Rattle.core.specs.Bounds.{HeadsFit};
 ghost use Rattle.core.specs.Outcomes.{CoreAnswer};
 
 pub mod heads; // the numbers of a rule's head
@@ -16,12 +19,6 @@ mod nodes; // the nodes
 mod triples; // the triples
 mod typing; // the types
 
-// Room for the keys of one rule's matches.
-pub const KEYS_PER_RULE: usize = 1024;
-
-// The most nodes that a core may have which is not too large.
-pub const MAX_NODES: usize = 768;
-
 // How many nodes and triples the core has, or that it is too large.
 pub enum Outcome {
     Held(usize, usize),
@@ -30,16 +27,16 @@ pub enum Outcome {
 
 // The core of the pack whose shapes and heads these are; the masks are zero at the start.
 pub fn core(
-    shapes: [[u16; 12]; 8],
-    rules: [[u64; 6]; 32],
+    shapes: ShapeTable,
+    rules: HeadTable,
     count: usize,
     heads: &[u64],
-    counts: [usize; 32],
+    counts: Counts,
     nodes: &mut [u64],
     triples: &mut [u64],
     masks: &mut [u16],
 ) -> Outcome
-    requires { ⌜ CodesFit shapes × HeadsFit rules count (now heads) counts × (length (now nodes) ≡ maxNodes) × (length (now triples) ≡ maxCoreTriples) × (maxNodes ≤ length (now masks)) × (now masks ≡ zeros (length (now masks))) ⌝ }
+    requires { ⌜ CodesFit shapes × HeadsFit rules count (now heads) counts × (length (now nodes) ≡ maxCoreNodes) × (length (now triples) ≡ maxCoreTriples) × (maxCoreNodes ≤ length (now masks)) × (now masks ≡ zeros (length (now masks))) ⌝ }
     ensures { λ r. ⌜ CoreAnswer r shapes rules count (now (heads .entry)) counts (now (nodes .exit)) (now (triples .exit)) (now (masks .exit)) ⌝ }
 {
     let listed = crate::nodes::nodes(rules, count, heads, counts, nodes);

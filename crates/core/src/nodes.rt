@@ -1,22 +1,26 @@
 // The nodes of all heads, as an ordered set of keys.
-use crate::KEYS_PER_RULE;
 use crate::counted::Counted;
 use crate::counted::add_at;
-use crate::heads::FIRST_LITERAL;
+use crate::heads::Counts;
+use crate::heads::Head;
+use crate::heads::HeadTable;
 use crate::heads::KIND;
+use meaning::FIRST_LITERAL;
+use meaning::MAX_HEADS;
 use sets::ordered::rank_near;
 ghost use mathlib.Core.Path.{_≡_};
 ghost use Prim.Native.Nat.{_≤_, _<_};
 ghost use lib.ListN.{length, take};
 ghost use Rattle.meaning.specs.Member.{_∈_};
 ghost use Rattle.meaning.specs.Ordered.{InOrder};
-ghost use Rattle.core.specs.Bounds.{HeadFits, KeyFits, KeysFit, HeadsFit, maxNodes};
+ghost use Rattle.core.specs.Bounds.{HeadFits, KeyFits, KeysFit, HeadsFit};
 ghost use Rattle.core.specs.Outcomes.{NodesAnswer};
 ghost use Rattle.core.specs.Collected.{Adding, FromKeys, FromRules, nodeKeys};
+ghost use Rattle.meaning.specs.Limits.{maxCoreNodes};
 
 // Adds the nodes of one match: the subject, and the object unless the head gives a type. near holds where
 // the last subject and object stood: each is looked for there first.
-fn add_match(head: [u64; 6], k: u64, near: &mut [usize; 2], nodes: &mut [u64], n: usize) -> Counted
+fn add_match(head: Head, k: u64, near: &mut [usize; 2], nodes: &mut [u64], n: usize) -> Counted
     requires { ⌜ HeadFits head × KeyFits head k × (n ≤ length (now nodes)) × InOrder _<_ (take n (now nodes)) ⌝ }
     ensures { λ r. ⌜ Adding r (λ y. y ∈ nodeKeys head k) n (now (nodes .entry)) (now (nodes .exit)) ⌝ }
 {
@@ -39,7 +43,7 @@ fn add_match(head: [u64; 6], k: u64, near: &mut [usize; 2], nodes: &mut [u64], n
 }
 
 // Adds those of all matches of one rule.
-fn add_rule(head: [u64; 6], keys: &[u64], nodes: &mut [u64], n: usize) -> Counted
+fn add_rule(head: Head, keys: &[u64], nodes: &mut [u64], n: usize) -> Counted
     requires { ⌜ HeadFits head × KeysFit head (now keys) × (n ≤ length (now nodes)) × InOrder _<_ (take n (now nodes)) ⌝ }
     ensures { λ r. ⌜ Adding r (FromKeys (λ k y. y ∈ nodeKeys head k) (now (keys .entry))) n (now (nodes .entry)) (now (nodes .exit)) ⌝ }
 {
@@ -59,10 +63,10 @@ fn add_rule(head: [u64; 6], keys: &[u64], nodes: &mut [u64], n: usize) -> Counte
 
 // Adds those of all rules to the empty set.
 fn add_rules(
-    rules: [[u64; 6]; 32],
+    rules: HeadTable,
     count: usize,
     heads: &[u64],
-    counts: [usize; 32],
+    counts: Counts,
     nodes: &mut [u64],
 ) -> Counted
     requires { ⌜ HeadsFit rules count (now heads) counts ⌝ }
@@ -70,7 +74,7 @@ fn add_rules(
 {
     let mut m = 0;
     for r in 0..count {
-        let start = r * KEYS_PER_RULE;
+        let start = r * MAX_HEADS;
         let end = start + counts[r];
         let added = add_rule(rules[r], &heads[start..end], nodes, m);
         match added {
@@ -83,15 +87,15 @@ fn add_rules(
     Counted::Count(m)
 }
 
-// The nodes of all heads, or that they have over 512 IRIs: a full slice has, since there are at most 256 literals.
+// The nodes of all heads, or that they have too many IRIs: a full slice has, since there is at most one literal a value.
 pub fn nodes(
-    rules: [[u64; 6]; 32],
+    rules: HeadTable,
     count: usize,
     heads: &[u64],
-    counts: [usize; 32],
+    counts: Counts,
     nodes: &mut [u64],
 ) -> Counted
-    requires { ⌜ HeadsFit rules count (now heads) counts × (length (now nodes) ≡ maxNodes) ⌝ }
+    requires { ⌜ HeadsFit rules count (now heads) counts × (length (now nodes) ≡ maxCoreNodes) ⌝ }
     ensures { λ r. ⌜ NodesAnswer r rules count (now (heads .entry)) counts (now (nodes .entry)) (now (nodes .exit)) ⌝ }
 {
     let added = add_rules(rules, count, heads, counts, nodes);

@@ -1,26 +1,31 @@
 // The types of the nodes, as masks by place: those of the heads, then those that spread along the triples.
-use crate::KEYS_PER_RULE;
+use crate::heads::Counts;
+use crate::heads::Head;
+use crate::heads::HeadTable;
 use crate::heads::KIND;
 use crate::heads::NAMED;
-use crate::triples::PLACE_ROOM;
-use crate::triples::PREDICATE_ROOM;
-use crate::triples::SUBJECT_WEIGHT;
 use meaning::MAX_CORE_TRIPLES;
+use meaning::MAX_HEADS;
+use meaning::PLACE_ROOM;
+use meaning::PREDICATE_ROOM;
+use meaning::SUBJECT_ROOM;
+use meaning::ShapeTable;
 ghost use mathlib.Core.Path.{_≡_};
 ghost use Prim.Native.Nat.{_≤_, _<_};
 ghost use lib.ListN.{length};
-ghost use Rattle.meaning.specs.Limits.{maxCoreTriples};
+ghost use Rattle.meaning.specs.Limits.{maxCoreNodes, maxCoreTriples};
 ghost use Rattle.meaning.specs.Ordered.{InOrder};
 ghost use Rattle.sets.specs.Buffers.{zeros};
 ghost use Rattle.shapes.specs.Shapes.{CodesFit};
-ghost use Rattle.core.specs.Bounds.{HeadFits, KeyFits, KeysFit, HeadsFit, maxNodes};
+ghost use Rattle.core.specs.Bounds.{HeadFits, KeyFits, KeysFit, HeadsFit};
 ghost use Rattle.core.specs.Collected.{FromKeys, FromRules, KnownMatch, KnownKeys, KnownRules, Marked, TypeFact};
 ghost use Rattle.core.specs.Outcomes.{TypesAnswer};
-ghost use Rattle.core.specs.Spread.{AllPlaced, PassShown, Placed, Progress, RoundShown, SpreadFrom};
+ghost use Rattle.core.specs.Spread.{AllPlaced, maskRoom, PassShown, Placed, RoundShown, SpreadFrom};
+ghost use Rattle.sets.specs.Progress.{Progress};
 
 // Marks the type of one match, if the head gives one. Looks for the subject at near first, and answers its place, or near
 // if there is no type.
-fn mark_match(head: [u64; 6], k: u64, nodes: &[u64], near: usize, masks: &mut [u16]) -> usize
+fn mark_match(head: Head, k: u64, nodes: &[u64], near: usize, masks: &mut [u16]) -> usize
     requires { ⌜ HeadFits head × KeyFits head k × InOrder _<_ (now nodes) × KnownMatch (now nodes) head k × (length (now nodes) ≤ length (now masks)) ⌝ }
     ensures { λ _. ⌜ Marked (TypeFact (now (nodes .entry)) head k) (now (masks .entry)) (now (masks .exit)) ⌝ }
 {
@@ -34,7 +39,7 @@ fn mark_match(head: [u64; 6], k: u64, nodes: &[u64], near: usize, masks: &mut [u
 }
 
 // Marks those of all matches of one rule.
-fn mark_rule(head: [u64; 6], keys: &[u64], nodes: &[u64], masks: &mut [u16])
+fn mark_rule(head: Head, keys: &[u64], nodes: &[u64], masks: &mut [u16])
     requires { ⌜ HeadFits head × KeysFit head (now keys) × InOrder _<_ (now nodes) × KnownKeys (now nodes) head (now keys) × (length (now nodes) ≤ length (now masks)) ⌝ }
     ensures { λ _. ⌜ Marked (FromKeys (TypeFact (now (nodes .entry)) head) (now (keys .entry))) (now (masks .entry)) (now (masks .exit)) ⌝ }
 {
@@ -46,10 +51,10 @@ fn mark_rule(head: [u64; 6], keys: &[u64], nodes: &[u64], masks: &mut [u16])
 
 // Marks those of all rules.
 fn mark_rules(
-    rules: [[u64; 6]; 32],
+    rules: HeadTable,
     count: usize,
     heads: &[u64],
-    counts: [usize; 32],
+    counts: Counts,
     nodes: &[u64],
     masks: &mut [u16],
 )
@@ -57,18 +62,18 @@ fn mark_rules(
     ensures { λ _. ⌜ Marked (FromRules (TypeFact (now (nodes .entry))) rules count (now (heads .entry)) counts) (now (masks .entry)) (now (masks .exit)) ⌝ }
 {
     for r in 0..count {
-        let start = r * KEYS_PER_RULE;
+        let start = r * MAX_HEADS;
         let end = start + counts[r];
         mark_rule(rules[r], &heads[start..end], nodes, masks);
     }
 }
 
 // Passes the subject's types along one triple; says whether that changed the object's.
-fn pass(shapes: &[[u16; 12]; 8], key: u64, masks: &mut [u16]) -> bool
-    requires { ⌜ CodesFit (now shapes) × Placed key × (maxNodes ≤ length (now masks)) ⌝ }
-    ensures { λ r. ⌜ PassShown (now (shapes .entry)) key (now (masks .entry)) (now (masks .exit)) × Progress r (now (masks .entry)) (now (masks .exit)) ⌝ }
+fn pass(shapes: &ShapeTable, key: u64, masks: &mut [u16]) -> bool
+    requires { ⌜ CodesFit (now shapes) × Placed key × (maxCoreNodes ≤ length (now masks)) ⌝ }
+    ensures { λ r. ⌜ PassShown (now (shapes .entry)) key (now (masks .entry)) (now (masks .exit)) × Progress maskRoom r (now (masks .entry)) (now (masks .exit)) ⌝ }
 {
-    let s = (key / SUBJECT_WEIGHT) as usize;
+    let s = (key / SUBJECT_ROOM) as usize;
     let p = (key / PLACE_ROOM % PREDICATE_ROOM) as usize;
     let o = (key % PLACE_ROOM) as usize;
     let old = masks[o];
@@ -82,18 +87,18 @@ fn pass(shapes: &[[u16; 12]; 8], key: u64, masks: &mut [u16]) -> bool
 
 // Passes along every triple whose subject's types are not those that passed last; says whether anything changed.
 fn round(
-    shapes: &[[u16; 12]; 8],
+    shapes: &ShapeTable,
     triples: &[u64],
     passed: &mut [u16; MAX_CORE_TRIPLES],
     masks: &mut [u16],
 ) -> bool
-    requires { ⌜ CodesFit (now shapes) × AllPlaced (now triples) × (length (now triples) ≤ maxCoreTriples) × (maxNodes ≤ length (now masks)) ⌝ }
-    ensures { λ r. ⌜ RoundShown (now (shapes .entry)) (now (triples .entry)) r (now (passed .entry)) (now (passed .exit)) (now (masks .entry)) (now (masks .exit)) × Progress r (now (masks .entry)) (now (masks .exit)) ⌝ }
+    requires { ⌜ CodesFit (now shapes) × AllPlaced (now triples) × (length (now triples) ≤ maxCoreTriples) × (maxCoreNodes ≤ length (now masks)) ⌝ }
+    ensures { λ r. ⌜ RoundShown (now (shapes .entry)) (now (triples .entry)) r (now (passed .entry)) (now (passed .exit)) (now (masks .entry)) (now (masks .exit)) × Progress maskRoom r (now (masks .entry)) (now (masks .exit)) ⌝ }
 {
     let mut changed = false;
     for i in 0..triples.len() {
         let key = triples[i];
-        let from = masks[(key / SUBJECT_WEIGHT) as usize];
+        let from = masks[(key / SUBJECT_ROOM) as usize];
         if passed[i] == from {
             continue;
         }
@@ -106,8 +111,8 @@ fn round(
 }
 
 // Passes along the triples until a round adds nothing. At the start nothing has passed along any.
-fn spread(shapes: &[[u16; 12]; 8], triples: &[u64], masks: &mut [u16])
-    requires { ⌜ CodesFit (now shapes) × AllPlaced (now triples) × (length (now triples) ≤ maxCoreTriples) × (maxNodes ≤ length (now masks)) ⌝ }
+fn spread(shapes: &ShapeTable, triples: &[u64], masks: &mut [u16])
+    requires { ⌜ CodesFit (now shapes) × AllPlaced (now triples) × (length (now triples) ≤ maxCoreTriples) × (maxCoreNodes ≤ length (now masks)) ⌝ }
     ensures { λ _. ⌜ SpreadFrom (now (shapes .entry)) (now (triples .entry)) (now (masks .entry)) (now (masks .exit)) ⌝ }
 {
     let mut passed = [0u16; MAX_CORE_TRIPLES];
@@ -121,16 +126,16 @@ fn spread(shapes: &[[u16; 12]; 8], triples: &[u64], masks: &mut [u16])
 
 // The types of the nodes, in masks that are zero at the start.
 pub fn typing(
-    shapes: [[u16; 12]; 8],
-    rules: [[u64; 6]; 32],
+    shapes: ShapeTable,
+    rules: HeadTable,
     count: usize,
     heads: &[u64],
-    counts: [usize; 32],
+    counts: Counts,
     nodes: &[u64],
     triples: &[u64],
     masks: &mut [u16],
 )
-    requires { ⌜ CodesFit shapes × HeadsFit rules count (now heads) counts × InOrder _<_ (now nodes) × (length (now nodes) ≤ maxNodes) × KnownRules (now nodes) rules count (now heads) counts × AllPlaced (now triples) × (length (now triples) ≤ maxCoreTriples) × (maxNodes ≤ length (now masks)) × (now masks ≡ zeros (length (now masks))) ⌝ }
+    requires { ⌜ CodesFit shapes × HeadsFit rules count (now heads) counts × InOrder _<_ (now nodes) × (length (now nodes) ≤ maxCoreNodes) × KnownRules (now nodes) rules count (now heads) counts × AllPlaced (now triples) × (length (now triples) ≤ maxCoreTriples) × (maxCoreNodes ≤ length (now masks)) × (now masks ≡ zeros (length (now masks))) ⌝ }
     ensures { λ _. ⌜ TypesAnswer shapes rules count (now (heads .entry)) counts (now (nodes .entry)) (now (triples .entry)) (now (masks .exit)) ⌝ }
 {
     mark_rules(rules, count, heads, counts, nodes, masks);

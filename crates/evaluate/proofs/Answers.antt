@@ -14,15 +14,10 @@ use Rattle.alive.specs.Lists.{Lists}
 use Rattle.alive.specs.Living.{Yes}
 use Rattle.answers.proofs.Graphs.{listed-joined, no-unsatisfied, over-joined, yes-satisfied}
 use Rattle.answers.specs.Answers.{PairIn, PairsAre}
-use Rattle.answers.specs.Graph.{HeldIn, JoinedPair, Numbered, Resolved, view}
 use Rattle.answers.specs.declared.pairs.Pairs.{Pairs}
 use Rattle.answers.specs.declared.pairs.Pairs.the-variants.{Listed, TooMany}
-use Rattle.evaluate.proofs.Built.{built-listed, built-whole}
-use Rattle.evaluate.proofs.InLists.{formed, some-graph}
-use Rattle.evaluate.proofs.Held.{graph-fits, held-in, inOrder, node-list, right-numbers}
-use Rattle.evaluate.proofs.KindOrder.{named-first}
-use Rattle.evaluate.proofs.CertainPairs.{not-too-many, pairs-are, too-many}
-use Rattle.evaluate.proofs.Places.{satisfied}
+use Rattle.answers.specs.Graph.{HeldIn, JoinedPair, Numbered, Resolved, view}
+use Rattle.answers.specs.Keys.{pairKeys}
 use Rattle.evaluate.specs.Answered.{PairsIn, Ready, YesIn}
 use Rattle.evaluate.specs.GraphIn.{GraphIn}
 use Rattle.evaluate.specs.Kinds.{FirstInvented}
@@ -31,7 +26,7 @@ use Rattle.grammar.proofs.Agree.{one-expression}
 use Rattle.grammar.specs.Grammar.{IsQuery}
 use Rattle.meaning.proofs.Theory.Theorem.{certain-yes}
 use Rattle.meaning.specs.Certain.{CertainYes, Distinct, PairList, TooManyPairs, built}
-use Rattle.meaning.specs.Limits.{maxPairs}
+use Rattle.meaning.specs.Limits.{maxNodes, maxPairs}
 use Rattle.meaning.specs.Member.{_∈_}
 use Rattle.meaning.specs.Ordered.{ListOf, Over}
 use Rattle.meaning.specs.Pack.{Pack, Text}
@@ -40,6 +35,12 @@ use Rattle.resolve.specs.Wanted.{Written}
 use Rattle.spelling.proofs.CoreTerms.{plain-distinct}
 use Rattle.spelling.specs.Iri.{plain}
 use Rattle.walk.specs.Parts.{Threaded, listed, partOf}
+use Rattle.evaluate.proofs.Built.{built-listed, built-whole}
+use Rattle.evaluate.proofs.CertainPairs.{not-too-many, pairs-are, too-many}
+use Rattle.evaluate.proofs.Held.{graph-fits, held-in, inOrder, node-list, right-numbers}
+use Rattle.evaluate.proofs.InLists.{formed, some-graph}
+use Rattle.evaluate.proofs.KindOrder.{named-first}
+use Rattle.evaluate.proofs.Places.{satisfied}
 
 module _ {pack query : Text} {tree : List ℕ} {parts : ℕ} {nodes : List ℕ} {count : ℕ} {triples : List ℕ} {edges : ℕ}
     (ready : Ready pack query tree parts nodes count triples edges) (next before wanted : List ℕ)
@@ -85,11 +86,11 @@ module _ {pack query : Text} {tree : List ℕ} {parts : ℕ} {nodes : List ℕ} 
   yes-answer r y P g e q = Iff·trans (told g r y) (subst (λ x. Satisfied (view (G g)) x ↔ CertainYes (plain P) P e) (sym (the-expression g e q)) (certain g e))
 
   module _ {named : ℕ} (first : FirstInvented nodes count named) where
-    few-named : {P : Pack} → GraphIn pack P nodes count triples edges → named ≤ 1024
+    few-named : {P : Pack} → GraphIn pack P nodes count triples edges → named ≤ maxNodes
     few-named g = omega (arith, first .within, g .has .graph .few-nodes)
 
     -- the numbers that are listed are those of pairs
-    pairs-small : {xs : List ℕ} → ListOf _<_ (PairIn L named) xs → (x : ℕ) → x ∈ xs → x < 1048576
+    pairs-small : {xs : List ℕ} → ListOf _<_ (PairIn L named) xs → (x : ℕ) → x ∈ xs → x < pairKeys
     pairs-small l x i = let p = l .members x .0 i in let g = ready .graph .graph in omega (arith, p .from-named, p .to-named, p .number, first .within, g .has .graph .few-nodes)
 
     pub pairs-answer : (r : Pairs) (found : List ℕ) → PairsAre r L named found → PairsIn pack query nodes count triples edges r found

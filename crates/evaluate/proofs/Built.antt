@@ -1,19 +1,18 @@
 -- The built graph's nodes stand in the node list, each once, the named ones first. Assumes nothing.
-use lib.ListN.{getElem?, length}
+use lib.ListN.{getElem?}
 use mathlib.Core.List.{List, [], _∷_}
 use mathlib.Core.Option.{some, Option·none-ne-some, Option·some-injective}
-use mathlib.Core.Path.{_≡_, refl, sym, ap, subst}
+use mathlib.Core.Path.{_≡_, refl, ap, subst}
 use native.Mathlib.Omega.{arith}
 use Prim.Native.Nat.{ℕ, zero, suc, _<_}
 use Rattle.meaning.proofs.Lists.Members.{element}
 use Rattle.meaning.proofs.Lists.Ordered.{Strict, by-key}
 use Rattle.meaning.proofs.Model.Built.{edge-from, edge-to}
-use Rattle.meaning.specs.Built.{BuiltNode, core, invented}
+use Rattle.meaning.specs.Built.{BuiltNode}
 use Rattle.meaning.specs.Certain.{built}
 use Rattle.meaning.specs.Graph.{Spelling}
-use Rattle.meaning.specs.Listing.{NodesInOrder, nodeKey, _◃_}
-use Rattle.meaning.specs.Member.{_∈_}
-use Rattle.meaning.specs.Ordered.{InOrder, empty, before}
+use Rattle.meaning.specs.Listing.{NodesInOrder, nodeKey}
+use Rattle.meaning.specs.Ordered.{InOrder, before}
 use Rattle.meaning.specs.Pack.{Pack}
 use Rattle.walk.specs.Walk.{EdgesJoinNodes}
 use Rattle.evaluate.specs.Listed.{ListsNodes}

@@ -7,21 +7,19 @@ use mathlib.Core.List.{List, [], _∷_, map, Memᴰ·map, Memᴰ·of-map}
 use mathlib.Core.Option.{some}
 use mathlib.Core.Path.{_≡_, refl, sym, subst, _∙_}
 use native.Mathlib.Omega.{arith}
-use Prim.Native.Nat.{ℕ, _+_, _*_, _/_, _%_, _≤_, _<_}
+use Prim.Native.Nat.{ℕ, _≤_, _<_}
 use Rattle.answers.specs.Graph.{JoinedPair}
-use Rattle.evaluate.proofs.Built.{built-listed, built-whole}
-use Rattle.evaluate.proofs.Over.{listed-few, over-carried}
-use Rattle.evaluate.proofs.Places.{joined, joined-back}
-use Rattle.meaning.proofs.Lists.Places.{placed, same-at}
+use Rattle.answers.specs.Keys.{pairFrom, pairKey, pairTo}
 use Rattle.evaluate.specs.Named.{NamedFirst, byPlace, pairOf}
+use Rattle.meaning.proofs.Lists.Members.{element}
+use Rattle.meaning.proofs.Lists.Places.{placed, same-at}
 use Rattle.meaning.proofs.Theory.Simulated.{is-core}
 use Rattle.meaning.proofs.Theory.Theorem.{certain-pair}
-use Rattle.meaning.proofs.Lists.Members.{element}
 use Rattle.meaning.specs.Built.{BuiltNode, core, inCore}
 use Rattle.meaning.specs.Certain.{CertainPair, Distinct, NamedPair, PairRecord, TooManyPairs, built}
 use Rattle.meaning.specs.Core.{CoreNode, Node}
 use Rattle.meaning.specs.Graph.{Spelling, nameOf}
-use Rattle.meaning.specs.Limits.{maxPairs}
+use Rattle.meaning.specs.Limits.{maxNodes, maxPairs}
 use Rattle.meaning.specs.Listing.{NodesInOrder}
 use Rattle.meaning.specs.Member.{_∈_}
 use Rattle.meaning.specs.NoGraph.{NoGraph}
@@ -30,28 +28,32 @@ use Rattle.meaning.specs.Pack.{Pack}
 use Rattle.meaning.specs.Query.{Expr, Joins}
 use Rattle.meaning.specs.WellFormed.{dangling}
 use Rattle.sets.proofs.Cases.{case-on}
+use Rattle.states.specs.Table.{has}
+use Rattle.evaluate.proofs.Built.{built-listed, built-whole}
+use Rattle.evaluate.proofs.Over.{listed-few, over-carried}
+use Rattle.evaluate.proofs.Places.{joined, joined-back}
 
 -- ---- pairs as numbers
 
 pair-less : (x y : ℕ) → x < y → pairOf x ≺ pairOf y
 pair-less x y l =
-    case-on (ltb (x / 1024) (y / 1024))
-    (λ h. less (ltb-true (x / 1024) (y / 1024) h))
-    (λ h. let k = ltb-false (x / 1024) (y / 1024) h in equal (omega arith) (less (omega arith)))
+    case-on (ltb (pairFrom x) (pairFrom y))
+    (λ h. less (ltb-true (pairFrom x) (pairFrom y) h))
+    (λ h. let k = ltb-false (pairFrom x) (pairFrom y) h in equal (omega arith) (less (omega arith)))
 
 pairs-rise : (xs : List ℕ) → InOrder _<_ xs → InOrder _≺_ (map pairOf xs)
 pairs-rise [] o = empty
 pairs-rise (x ∷ xs) (before f o) =
     before (λ y m. let r = Memᴰ·of-map pairOf xs m in subst (λ z. pairOf x ≺ z) (r .2) (pair-less x (r .0) (f (r .0) (r .1)))) (pairs-rise xs o)
 
-first-of : (x s e : ℕ) → e < 1024 → x ≡ s * 1024 + e → x / 1024 ≡ s
+first-of : (x s e : ℕ) → e < maxNodes → x ≡ pairKey s e → pairFrom x ≡ s
 first-of x s e l h = omega arith
 
-second-of : (x s e : ℕ) → e < 1024 → x ≡ s * 1024 + e → x % 1024 ≡ e
+second-of : (x s e : ℕ) → e < maxNodes → x ≡ pairKey s e → pairTo x ≡ e
 second-of x s e l h = omega arith
 
 module _ (P : Pack) (not-7 : dangling P ≡ false) (σ : Spelling) (distinct : Distinct σ P) (has : ¬ NoGraph P)
-    (nodes : List BuiltNode) (ordered : NodesInOrder P nodes) (named : ℕ) (first : NamedFirst nodes named) (few : named ≤ 1024) (e : Expr) where
+    (nodes : List BuiltNode) (ordered : NodesInOrder P nodes) (named : ℕ) (first : NamedFirst nodes named) (few : named ≤ maxNodes) (e : Expr) where
   abbrev Found : ℕ → Type 0
   Found = JoinedPair (byPlace σ P nodes) e named
 
@@ -65,7 +67,7 @@ module _ (P : Pack) (not-7 : dangling P ≡ false) (σ : Spelling) (distinct : D
   abbrev end-node : {x : ℕ} (f : Found x) → (k : Node) × (getElem? nodes (f .to) ≡ some (core k))
   end-node f = first .core-node (f .to) (f .to-named)
 
-  small : {x : ℕ} (f : Found x) → f .to < 1024
+  small : {x : ℕ} (f : Found x) → f .to < maxNodes
   small f = let h = f .to-named in omega (arith, few)
 
   -- it is certain
@@ -92,7 +94,7 @@ module _ (P : Pack) (not-7 : dangling P ≡ false) (σ : Spelling) (distinct : D
 
   -- a certain pair of two places is found
   found : (s t : ℕ) (n m : Node) → getElem? nodes s ≡ some (core n) → getElem? nodes t ≡ some (core m) → CertainPair σ P e (nameOf σ n) (nameOf σ m)
-      → Found (s * 1024 + t)
+      → Found (pairKey s t)
   found s t n m x y c = record {
     from = s;
     to = t;
@@ -112,8 +114,8 @@ module _ (P : Pack) (not-7 : dangling P ≡ false) (σ : Spelling) (distinct : D
 
       back : (r : List ℕ) → PairRecord σ P e nodes r → r ∈ map pairOf xs
       back r p =
-          let x = p .start * 1024 + p .end in
-          let small : p .end < 1024 = (let h = first .named-place (p .end) (p .to) (p .to-at) in omega (arith, few)) in
+          let x = pairKey (p .start) (p .end) in
+          let small : p .end < maxNodes = (let h = first .named-place (p .end) (p .to) (p .to-at) in omega (arith, few)) in
           let m = Memᴰ·map pairOf (l .members x .1 (found (p .start) (p .end) (p .from) (p .to) (p .from-at) (p .to-at) (p .certain))) in
           let q : pairOf x ≡ r = (λ i. first-of x (p .start) (p .end) small refl i ∷ second-of x (p .start) (p .end) small refl i ∷ []) ∙ sym (p .are) in
           subst (λ z. z ∈ map pairOf xs) q m
@@ -122,12 +124,12 @@ module _ (P : Pack) (not-7 : dangling P ≡ false) (σ : Spelling) (distinct : D
   record Numbers (x : ℕ) (q : Node × Node) : Type 0 where
     start : ℕ
     end : ℕ
-    small : end < 1024
+    small : end < maxNodes
     from-at : getElem? nodes start ≡ some (core (q .0))
     to-at : getElem? nodes end ≡ some (core (q .1))
-    is : x ≡ start * 1024 + end
+    is : x ≡ pairKey start end
 
-  -- 12: over 4,096 found are over 4,096 certain pairs
+  -- 12: too many found are too many certain pairs
   pub too-many : Over maxPairs Found → TooManyPairs σ P e
   too-many = over-carried Found (NamedPair σ P e) Numbers image one
     where
@@ -154,7 +156,7 @@ module _ (P : Pack) (not-7 : dangling P ≡ false) (σ : Spelling) (distinct : D
       image q (a, b, c) =
           let (s, x) = placed (ordered .members (core (q .0)) .1 (inCore a)) in
           let (t, y) = placed (ordered .members (core (q .1)) .1 (inCore b)) in (
-            s * 1024 + t,
+            pairKey s t,
             found s t (q .0) (q .1) x y c,
             record { start = s; end = t; small = (let h = first .named-place t (q .1) y in omega (arith, few)); from-at = x; to-at = y; is = refl },
           )

@@ -9,32 +9,33 @@ use mathlib.Core.Option.{some, Option·none-ne-some, Option·some-injective}
 use mathlib.Core.Path.{_≡_, refl, sym, ap, subst, _∙_}
 use native.Mathlib.Omega.{arith}
 use Prim.Native.Nat.{ℕ, zero, suc, _+_, _*_, _≤_, _<_}
-use Rattle.evaluate.proofs.Built.{in-order-at}
-use Rattle.evaluate.proofs.Held.{count-is, inOrder}
-use Rattle.meaning.proofs.Lists.Places.{inside, there-is}
 use Rattle.evaluate.specs.GraphIn.{GraphIn}
 use Rattle.evaluate.specs.Kinds.{FirstInvented, kindAt}
 use Rattle.evaluate.specs.Named.{NamedFirst}
 use Rattle.graph.proofs.Fronts.{nodes-are, record-length}
 use Rattle.meaning.proofs.Lists.Ordered.{by-key}
+use Rattle.meaning.proofs.Lists.Places.{inside, there-is}
 use Rattle.meaning.specs.Built.{BuiltNode, core, invented}
 use Rattle.meaning.specs.Core.{Node, iriNode, literalNode}
-use Rattle.meaning.specs.Listing.{NodeRecord, inventedKind, kind, nodeKey, number}
+use Rattle.meaning.specs.Limits.{nodeWidth}
+use Rattle.meaning.specs.Listing.{NodeRecord, inventedKind, kind, nodeKey}
 use Rattle.meaning.specs.Ordered.{_≺_, less, equal}
 use Rattle.meaning.specs.Pack.{Pack, Text}
 use Rattle.sets.proofs.Cases.{case-on}
+use Rattle.evaluate.proofs.Built.{in-order-at}
+use Rattle.evaluate.proofs.Held.{count-is, inOrder}
 
 -- ---- the kind of a node is the first number of its record and of its key
 
 flat-kind : {P : Pack} (bs : List BuiltNode) (rs : List (List ℕ)) → Forall₂ (NodeRecord P) bs rs → (n : ℕ) (b : BuiltNode) → getElem? bs n ≡ some b
-    → getD (flatten rs) (n * 7) 0 ≡ kind b
+    → getD (flatten rs) (n * nodeWidth) 0 ≡ kind b
 unfolding flatten
 flat-kind [] [] Forall₂·nil n b e = absurd (Option·none-ne-some b e)
 flat-kind (c ∷ bs) (r ∷ rs) (Forall₂·cons h t) zero b e =
     ap (λ l. getD (l ++ flatten rs) 0 0) (h .are) ∙ ap kind (Option·some-injective c b e)
 flat-kind (c ∷ bs) (r ∷ rs) (Forall₂·cons h t) (suc n) b e =
-    ap (λ i. getD (r ++ flatten rs) i 0) (let z : suc n * 7 ≡ length r + n * 7 = omega (arith, ap length (h .are), record-length c) in z)
-    ∙ getD-append-add r (flatten rs) (n * 7) 0
+    ap (λ i. getD (r ++ flatten rs) i 0) (let z : suc n * nodeWidth ≡ length r + n * nodeWidth = omega (arith, ap length (h .are), record-length c) in z)
+    ∙ getD-append-add r (flatten rs) (n * nodeWidth) 0
     ∙ flat-kind bs rs t n b e
 
 core-kind : (k : Node) → kind (core k) < 2
@@ -72,8 +73,8 @@ module _ {pack : Text} {P : Pack} {nodes : List ℕ} {count : ℕ} {triples : Li
   kind-at : (n : ℕ) (b : BuiltNode) → getElem? (inOrder g) n ≡ some b → kindAt nodes n ≡ kind b
   kind-at n b e =
       let l = inside (inOrder g) n b e in
-      sym (getD-take (count * 7) nodes (n * 7) 0 (omega (arith, count-is g)))
-      ∙ ap (λ l. getD l (n * 7) 0) (nodes-are nodes triples (g .has .graph))
+      sym (getD-take (count * nodeWidth) nodes (n * nodeWidth) 0 (omega (arith, count-is g)))
+      ∙ ap (λ l. getD l (n * nodeWidth) 0) (nodes-are nodes triples (g .has .graph))
       ∙ flat-kind (inOrder g) (g .has .graph .node-records) (g .has .graph .lists .records) n b e
 
   -- kinds do not fall

@@ -4,7 +4,7 @@ use mathlib.Core.List.{List, [], _∷_}
 use mathlib.Core.Logic.{_≢_}
 use mathlib.Core.Path.{_≡_, refl, sym, ap, _∙_}
 use native.Mathlib.Omega.{arith}
-use Prim.Native.Nat.{ℕ, suc, _≤_, _<_, zero-le}
+use Prim.Native.Nat.{ℕ, suc, _≤_, zero-le}
 use Rattle.meaning.specs.Member.{_∈_, here, there}
 use Rattle.meaning.specs.Ordered.{InOrder, ListOf, Over, before, empty}
 

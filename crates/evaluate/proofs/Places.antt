@@ -7,7 +7,6 @@ use mathlib.Core.Path.{_≡_, refl, sym, subst}
 use Prim.Native.Nat.{ℕ}
 use Rattle.meaning.proofs.Lists.Members.{element}
 use Rattle.meaning.proofs.Lists.Places.{inside, placed, same-at, there-is}
-use Rattle.meaning.specs.Member.{there}
 use Rattle.meaning.specs.Query.{Expr, stay, step, anyStep, atIri, atLiteral, nested, sequence, union, star, View, Repeated, none, more, Joins, Satisfied}
 use Rattle.walk.proofs.Meanings.{joins-from, joins-to}
 use Rattle.walk.specs.Walk.{EdgesJoinNodes}
@@ -107,7 +106,3 @@ module _ (G : View) (nodes : List (G .Node)) (L : ListsNodes G nodes) (whole : E
         let (m, y) = place-of c (joins-to G whole e b c j) in
         (n, m, joined-back e n m b c x y j)),
   )
-
-  -- edges join places
-  pub places-joined : EdgesJoinNodes S
-  places-joined n m p x = (inside nodes n (x .from) (x .from-at), inside nodes m (x .to) (x .to-at))

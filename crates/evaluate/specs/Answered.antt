@@ -7,6 +7,7 @@ use mathlib.Core.Logic.{_↔_}
 use Prim.Native.Nat.{ℕ, _≤_, _<_}
 use Rattle.answers.specs.declared.pairs.Pairs.{Pairs}
 use Rattle.answers.specs.declared.pairs.Pairs.the-variants.{Listed, TooMany}
+use Rattle.answers.specs.Keys.{pairKeys}
 use Rattle.evaluate.specs.GraphIn.{GraphIn, SomeGraph}
 use Rattle.evaluate.specs.Named.{pairOf}
 use Rattle.grammar.specs.Grammar.{IsQuery}
@@ -18,9 +19,9 @@ use Rattle.meaning.specs.Query.{Expr}
 use Rattle.query.specs.Answer.{HoldsQuery}
 use Rattle.spelling.specs.Iri.{plain}
 
--- The numbers are those of pairs of two nodes, each below 1,024.
+-- The numbers are those of pairs of two nodes.
 abbrev pub AllPairs : List ℕ → Type 0
-AllPairs xs = (x : ℕ) → x ∈ xs → x < 1048576
+AllPairs xs = (x : ℕ) → x ∈ xs → x < pairKeys
 
 -- The lists hold a pack's graph, and the tree the query's parts.
 pub record Ready (pack query : Text) (tree : List ℕ) (parts : ℕ) (nodes : List ℕ) (count : ℕ) (triples : List ℕ) (edges : ℕ) : Type 0 where
@@ -37,7 +38,7 @@ module _ (pack query : Text) (nodes : List ℕ) (count : ℕ) (triples : List �
   abbrev pub YesIn : Bool → Type 0
   YesIn r = OfQuery (λ P g e. T r ↔ CertainYes (plain P) P e)
 
-  -- "exactly the pairs of named nodes that the query joins in every such graph"; 12 exactly when they are over 4,096
+  -- "exactly the pairs of named nodes that the query joins in every such graph"; 12 exactly when they are too many
   abbrev pub PairsIn : Pairs → List ℕ → Type 0
   PairsIn (Listed k) found =
       (k ≤ maxPairs) × AllPairs (take k found) × OfQuery (λ P g e. PairList (plain P) P e (g .has .graph .lists .inOrder) (map pairOf (take k found)) × (¬ TooManyPairs (plain P) P e))

@@ -2,10 +2,10 @@
 use lib.ListN.{getD}
 use mathlib.Core.List.{List}
 use Prim.Native.Nat.{ℕ, _*_, _≤_, _<_}
-use Rattle.meaning.specs.Limits.{nodeNumbers}
+use Rattle.meaning.specs.Limits.{nodeWidth}
 
 abbrev pub kindAt : List ℕ → ℕ → ℕ
-kindAt nodes n = getD nodes (n * nodeNumbers) 0
+kindAt nodes n = getD nodes (n * nodeWidth) 0
 
 -- r is the first of the count nodes that is invented; or there is none, and r is the count.
 pub record FirstInvented (nodes : List ℕ) (count r : ℕ) : Type 0 where

@@ -6,7 +6,6 @@ use mathlib.Core.Option.{some}
 use mathlib.Core.Path.{_≡_}
 use Prim.Native.Nat.{ℕ, _<_}
 use Rattle.meaning.specs.Member.{_∈_}
-use Rattle.meaning.specs.Pack.{Text}
 use Rattle.meaning.specs.Query.{View}
 
 module _ (G : View) (nodes : List (G .Node)) where

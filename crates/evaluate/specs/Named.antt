@@ -3,8 +3,9 @@ use lib.ListN.{getElem?, length}
 use mathlib.Core.List.{List, [], _∷_}
 use mathlib.Core.Option.{some}
 use mathlib.Core.Path.{_≡_}
-use Prim.Native.Nat.{ℕ, _/_, _%_, _<_}
+use Prim.Native.Nat.{ℕ, _<_}
 use Rattle.answers.specs.Graph.{Numbered}
+use Rattle.answers.specs.Keys.{pairFrom, pairTo}
 use Rattle.evaluate.specs.Listed.{At, Between}
 use Rattle.meaning.specs.Built.{BuiltNode, core}
 use Rattle.meaning.specs.Certain.{built}
@@ -28,4 +29,4 @@ byPlace σ P nodes = record {
 
 -- a pair's number taken apart: start and end
 abbrev pub pairOf : ℕ → List ℕ
-pairOf x = (x / 1024) ∷ (x % 1024) ∷ []
+pairOf x = pairFrom x ∷ pairTo x ∷ []

@@ -1,20 +1,20 @@
 // The pairs of named nodes that a query joins in every finite graph that obeys a pack.
 ghost use lib.ListN.{length};
 ghost use Prim.Native.Nat.{_≤_};
-ghost use Rattle.alive.specs.Worklist.{Unmarked, states};
 ghost use Rattle.evaluate.specs.Answered.{PairsIn, Ready};
-ghost use Rattle.meaning.specs.Limits.{maxPairs};
+ghost use Rattle.meaning.specs.Limits.{maxPairs, maxStates};
+ghost use Rattle.states.specs.Table.{Unmarked};
 use crate::named::named;
-use crate::yes::MAX_NODES;
-use crate::yes::MAX_TRIPLES;
 use alive::Sizes;
 use answers::joined_pairs;
 use answers::pairs::Pairs;
-use meaning::MAX_QUERY_BYTES;
+use meaning::MAX_NODES;
+use meaning::MAX_PARTS;
+use meaning::MAX_TRIPLES;
 use resolve::resolve;
 use walk::thread;
 
-// The pairs as numbers, start * 1,024 + end, ascending at the front of `found`; or that they are over 4,096.
+// The pairs as numbers (answers, keys), ascending at the front of `found`; or that they are too many.
 pub fn pairs(
     pack: &[u8],
     query: &[u8],
@@ -29,16 +29,16 @@ pub fn pairs(
     seen: &mut [u16],
     found: &mut [u32],
 ) -> Pairs
-    requires { ⌜ Ready (now pack) (now query) (now tree) parts (now nodes) count (now triples) edges × Unmarked 1 states (now alive) (now queue) × Unmarked 1 states (now seen) (now queue) × (maxPairs ≤ length (now found)) ⌝ }
+    requires { ⌜ Ready (now pack) (now query) (now tree) parts (now nodes) count (now triples) edges × Unmarked 1 maxStates (now alive) (now queue) × Unmarked 1 maxStates (now seen) (now queue) × (maxPairs ≤ length (now found)) ⌝ }
     ensures { λ r. ⌜ PairsIn (now (pack .entry)) (now (query .entry)) (now (nodes .entry)) count (now (triples .entry)) edges r (now (found .exit)) ⌝ }
 {
-    let mut next = [0u16; MAX_QUERY_BYTES];
-    let mut wanted = [0u16; MAX_QUERY_BYTES];
+    let mut next = [0u16; MAX_PARTS];
+    let mut wanted = [0u16; MAX_PARTS];
     thread(tree, parts, &mut next);
     resolve(pack, query, tree, parts, nodes, count, &mut wanted);
     let mut last = [0u16; MAX_NODES];
     let mut earlier = [0u16; MAX_TRIPLES];
-    let mut first = [0u16; 1025];
+    let mut first = [0u16; MAX_NODES + 1];
     let sizes = Sizes {
         nodes: count,
         edges,

@@ -1,16 +1,14 @@
 // Whether a query is satisfied in every finite graph that obeys a pack.
-ghost use Rattle.alive.specs.Worklist.{Unmarked, states};
 ghost use Rattle.evaluate.specs.Answered.{Ready, YesIn};
+ghost use Rattle.meaning.specs.Limits.{maxStates};
+ghost use Rattle.states.specs.Table.{Unmarked};
 use alive::Sizes;
 use answers::some_joined;
-use meaning::MAX_QUERY_BYTES;
+use meaning::MAX_NODES;
+use meaning::MAX_PARTS;
+use meaning::MAX_TRIPLES;
 use resolve::resolve;
 use walk::thread;
-
-// The most nodes and the most triples of a graph.
-pub const MAX_NODES: usize = 1024;
-
-pub const MAX_TRIPLES: usize = 10228;
 
 // The answer for a query in its tree of parts, over the graph in its two lists.
 pub fn yes(
@@ -25,11 +23,11 @@ pub fn yes(
     alive: &mut [u8],
     queue: &mut [u32],
 ) -> bool
-    requires { ⌜ Ready (now pack) (now query) (now tree) parts (now nodes) count (now triples) edges × Unmarked 1 states (now alive) (now queue) ⌝ }
+    requires { ⌜ Ready (now pack) (now query) (now tree) parts (now nodes) count (now triples) edges × Unmarked 1 maxStates (now alive) (now queue) ⌝ }
     ensures { λ r. ⌜ YesIn (now (pack .entry)) (now (query .entry)) (now (nodes .entry)) count (now (triples .entry)) edges r ⌝ }
 {
-    let mut next = [0u16; MAX_QUERY_BYTES];
-    let mut wanted = [0u16; MAX_QUERY_BYTES];
+    let mut next = [0u16; MAX_PARTS];
+    let mut wanted = [0u16; MAX_PARTS];
     thread(tree, parts, &mut next);
     resolve(pack, query, tree, parts, nodes, count, &mut wanted);
     let mut last = [0u16; MAX_NODES];

@@ -4,16 +4,16 @@ use borrow.Author.Tests.{leb-true, le-leb}
 use lib.Dec.{leb}
 use lib.ListN.{length}
 use mathlib.Core.Bool.{Bool, true, false, cond}
-use mathlib.Core.List.{List, [], _∷_, append-nil}
+use mathlib.Core.List.{[], _∷_, append-nil}
 use mathlib.Core.Logic.{_↔_}
-use mathlib.Core.Option.{Option, none, some}
-use mathlib.Core.Path.{_≡_, refl, sym, ap, subst, _∙_}
+use mathlib.Core.Option.{none, some}
+use mathlib.Core.Path.{_≡_, refl, sym, subst, _∙_}
 use native.Mathlib.Omega.{arith}
-use Prim.Native.Nat.{ℕ, zero, suc, _≤_}
+use Prim.Native.Nat.{ℕ, _≤_}
 use Rattle.meaning.specs.Limits.{maxOpenBrackets, maxQueryBytes}
 use Rattle.meaning.specs.Pack.{Text}
 use Rattle.meaning.specs.Query.{Expr}
-use Rattle.grammar.specs.Grammar.{aUnion, letter, Reads, IsQuery}
+use Rattle.grammar.specs.Grammar.{aUnion, Reads, IsQuery}
 use Rattle.grammar.specs.Parse.{Out, bad, ok, run, parts, withStars, name, leaf, atomOf, stepBy, sequenceBy, unionBy, atomAt, parse, whole, expressionOf}
 use Rattle.grammar.proofs.Complete.{going-ends, complete}
 use Rattle.grammar.proofs.Sound.{never, sound}

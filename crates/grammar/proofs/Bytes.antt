@@ -10,23 +10,23 @@ use native.Mathlib.Nat.{add-zero}
 use native.Mathlib.Numerals.{add-one}
 use native.Mathlib.Omega.{arith}
 use Prim.Native.Nat.{ℕ, zero, suc, _+_, _≤_, _<_}
-use Rattle.meaning.specs.Pack.{Text}
 use Rattle.grammar.specs.Grammar.{All, none, also, asterisk}
-use Rattle.grammar.specs.Parse.{first, run}
+use Rattle.grammar.specs.Parse.{first, noByte, run}
+use Rattle.meaning.specs.Pack.{Text}
 
 pub eqb-suc : (n : ℕ) → eqb (suc n) 0 ≡ false
 eqb-suc n = ne-eqb (suc n) 0 (λ e. omega arith)
 
--- A first byte below 256 is there.
-pub uncons : (s : Text) (c : ℕ) → first s ≡ c → c < 256 → s ≡ c ∷ drop 1 s
+-- A first byte is there.
+pub uncons : (s : Text) (c : ℕ) → first s ≡ c → c < noByte → s ≡ c ∷ drop 1 s
 uncons [] c e h = absurd (omega arith)
 uncons (x ∷ s) c e h = ap (λ (y : ℕ). y ∷ s) e
 
-pub first-drop : (q : Text) (i : ℕ) → first (drop i q) ≡ getD q i 256
-first-drop q i = getD-drop i q 0 256 ∙ ap (λ (j : ℕ). getD q j 256) (add-zero i)
+pub first-drop : (q : Text) (i : ℕ) → first (drop i q) ≡ getD q i noByte
+first-drop q i = getD-drop i q 0 noByte ∙ ap (λ (j : ℕ). getD q j noByte) (add-zero i)
 
 -- Within the text a byte differs from the mark of the end.
-pub getD-within : (q : Text) (i c : ℕ) → getD q i 256 ≡ c → c < 256 → i < length q
+pub getD-within : (q : Text) (i c : ℕ) → getD q i noByte ≡ c → c < noByte → i < length q
 getD-within [] i c e h = absurd (omega arith)
 getD-within (x ∷ q) zero c e h = omega arith
 getD-within (x ∷ q) (suc i) c e h = let r = getD-within q i c e h in omega arith

@@ -1,17 +1,17 @@
 -- What the reading takes off the front of a text is in the grammar, with the expression that it gives. Assumes nothing.
-use borrow.Author.Tests.{eqb-true, eqb-false, leb-true}
+use borrow.Author.Tests.{eqb-true, leb-true}
 use lib.Dec.{eqb, leb, lit<}
 use lib.ListN.{length, take, drop, replicate, take-append-drop, length-take}
 use mathlib.Core.Bool.{Bool, true, false, cond, _&&_}
-use mathlib.Core.List.{List, [], _∷_, _++_, append-assoc}
+use mathlib.Core.List.{[], _∷_, _++_, append-assoc}
 use mathlib.Core.Path.{_≡_, refl, sym, ap, subst, _∙_}
 use native.Mathlib.Omega.{arith}
-use Prim.Native.Nat.{ℕ, zero, suc, _≤_, _<_}
+use Prim.Native.Nat.{ℕ, zero, suc, _<_}
+use Rattle.grammar.specs.Grammar.{Level, aUnion, aSequence, aStep, anAtom, bar, slash, asterisk, underscore, roundOpen, roundClose, squareOpen, squareClose, angleOpen, angleClose, quote, letter, other, stars, All, Reads, one-sequence, more-sequences, one-step, more-steps, starred, a-name, an-any, a-stay, a-group, a-test, an-iri, a-literal}
+use Rattle.grammar.specs.Parse.{atomAt, atomOf, bad, closed, first, joined, label, leaf, name, noByte, ok, Out, parse, parts, run, sequenceBy, stepBy, unionBy, withStars}
 use Rattle.meaning.specs.Limits.{maxNameBytes}
 use Rattle.meaning.specs.Pack.{Text}
 use Rattle.meaning.specs.Query.{Expr, stay, step, anyStep, atIri, atLiteral, nested, sequence, union}
-use Rattle.grammar.specs.Grammar.{Level, aUnion, aSequence, aStep, anAtom, bar, slash, asterisk, underscore, roundOpen, roundClose, squareOpen, squareClose, angleOpen, angleClose, quote, letter, other, stars, All, Reads, one-sequence, more-sequences, one-step, more-steps, starred, a-name, an-any, a-stay, a-group, a-test, an-iri, a-literal}
-use Rattle.grammar.specs.Parse.{Out, bad, ok, first, run, joined, parts, withStars, closed, label, name, leaf, atomOf, stepBy, sequenceBy, unionBy, atomAt, parse}
 use Rattle.grammar.proofs.Bytes.{eqb-suc, uncons, run-le, all-take, stars-take}
 
 pub never : {e : Expr} {s : Text} → bad ≡ ok e s → ⊥
@@ -27,10 +27,10 @@ Finds l d s o = (e : Expr) (r : Text) → o ≡ ok e r → Found l d s e r
 
 -- ---- parts and a separator between them
 
-join : (t u s s′ r : Text) (sep : ℕ) → s ≡ t ++ s′ → first s′ ≡ sep → sep < 256 → drop 1 s′ ≡ u ++ r → s ≡ (t ++ sep ∷ u) ++ r
+join : (t u s s′ r : Text) (sep : ℕ) → s ≡ t ++ s′ → first s′ ≡ sep → sep < noByte → drop 1 s′ ≡ u ++ r → s ≡ (t ++ sep ∷ u) ++ r
 join t u s s′ r sep p q lt w = p ∙ ap (λ (x : Text). t ++ x) (uncons s′ sep q lt ∙ ap (λ (x : Text). sep ∷ x) w) ∙ sym (append-assoc t (sep ∷ u) r)
 
-module _ (l m : Level) (d sep : ℕ) (f : Expr → Expr → Expr) (lt : sep < 256)
+module _ (l m : Level) (d sep : ℕ) (f : Expr → Expr → Expr) (lt : sep < noByte)
     (rule : (t u : Text) (a b : Expr) → Reads l d t a → Reads m d u b → Reads l d (t ++ sep ∷ u) (f a b))
     (read : Text → Out) (reads : (s : Text) → Finds m d s (read s)) (s : Text) where
   joined-found : (a : Expr) (s′ : Text) → Found l d s a s′ → first s′ ≡ sep → (o : Out) → Finds m d (drop 1 s′) o → Finds l d s (joined f a o)
@@ -69,7 +69,7 @@ stars-found d s (ok a s′) part e r h =
     )
 
 -- Behind its opening mark: a label and its closing mark.
-label-found : (opens mark d : ℕ) → opens < 256 → mark < 256 → (f : Text → Expr)
+label-found : (opens mark d : ℕ) → opens < noByte → mark < noByte → (f : Text → Expr)
     → ((t : Text) → All (other mark) t → Reads anAtom d (opens ∷ (t ++ mark ∷ [])) (f t))
     → (s : Text) → first s ≡ opens → Finds anAtom d s (label mark f (drop 1 s))
 unfolding label
@@ -137,7 +137,7 @@ leaf-found d s e r h = angle (eqb (first s) angleOpen) refl h
 
 -- ---- brackets
 
-closed-found : (opens mark d : ℕ) (f : Expr → Expr) (s : Text) → opens < 256 → mark < 256 → first s ≡ opens
+closed-found : (opens mark d : ℕ) (f : Expr → Expr) (s : Text) → opens < noByte → mark < noByte → first s ≡ opens
     → ((t : Text) (e : Expr) → Reads aUnion d t e → Reads anAtom (suc d) (opens ∷ (t ++ mark ∷ [])) (f e))
     → (o : Out) → Finds aUnion d (drop 1 s) o → Finds anAtom (suc d) s (closed mark f o)
 unfolding closed

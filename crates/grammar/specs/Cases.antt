@@ -3,7 +3,7 @@ use mathlib.Core.List.{List, [], _∷_}
 use mathlib.Core.Option.{Option, none, some}
 use Rattle.meaning.specs.Ascii.{ascii}
 use Rattle.meaning.specs.Pack.{Text}
-use Rattle.meaning.specs.Query.{Expr, stay, step, anyStep, atIri, atLiteral, nested, sequence, union, star}
+use Rattle.meaning.specs.Query.{Expr, stay, step, anyStep, atIri, nested, sequence, union, star}
 use Rattle.grammar.specs.Grammar.{IsQuery}
 
 pub record Case : Type 0 where

@@ -2,7 +2,7 @@
 use lib.Dec.{eqb, leb}
 use lib.ListN.{length, replicate}
 use mathlib.Core.Bool.{Bool, true, not, _&&_}
-use mathlib.Core.List.{List, [], _∷_, _++_}
+use mathlib.Core.List.{[], _∷_, _++_}
 use mathlib.Core.Path.{_≡_}
 use Prim.Native.Nat.{ℕ, zero, suc, _≤_}
 use Rattle.meaning.specs.Limits.{maxNameBytes, maxOpenBrackets, maxQueryBytes}

@@ -2,23 +2,26 @@
 -- grammar. Assumes nothing.
 use lib.Dec.{eqb, leb}
 use lib.ListN.{length, take, drop, getD}
-use mathlib.Core.Bool.{Bool, true, false, cond, _&&_}
-use mathlib.Core.List.{List, [], _∷_}
+use mathlib.Core.Bool.{Bool, cond, _&&_}
+use mathlib.Core.List.{[], _∷_}
 use mathlib.Core.Option.{Option, none, some}
 use Prim.Native.Nat.{ℕ, zero, suc}
+use Rattle.grammar.specs.Grammar.{Level, aUnion, aSequence, aStep, anAtom, bar, slash, asterisk, underscore, roundOpen, roundClose, squareOpen, squareClose, angleOpen, angleClose, quote, letter, other, stars}
 use Rattle.meaning.specs.Limits.{maxNameBytes, maxOpenBrackets, maxQueryBytes}
 use Rattle.meaning.specs.Pack.{Text}
 use Rattle.meaning.specs.Query.{Expr, stay, step, anyStep, atIri, atLiteral, nested, sequence, union}
-use Rattle.grammar.specs.Grammar.{Level, aUnion, aSequence, aStep, anAtom, bar, slash, asterisk, underscore, roundOpen, roundClose, squareOpen, squareClose, angleOpen, angleClose, quote, letter, other, stars}
 
 -- An expression and the bytes after it, or a refusal.
 pub data Out : Type 0 where
   bad : Out
   ok : Expr → Text → Out
 
--- The next byte, 256 at the end.
+abbrev pub noByte : ℕ  -- stands after the end of a text
+noByte = 256
+
+-- The next byte, or none at the end.
 abbrev pub first : Text → ℕ
-first s = getD s 0 256
+first s = getD s 0 noByte
 
 -- How many bytes at the start pass the test.
 unfoldable pub run : (ℕ → Bool) → Text → ℕ

@@ -7,8 +7,8 @@ use Rattle.calls.specs.Call.{_becomes_}
 use Rattle.graph.proofs.Fronts.{node-length, triple-length}
 use Rattle.graph.specs.Build.{GraphWritten}
 use Rattle.graph.specs.Fronts.{GraphFronts}
-use Rattle.graph.specs.NodeList.{NodesListed}
-use Rattle.graph.specs.Triples.{TriplesListed}
+use Rattle.node_list.specs.NodeList.{NodesListed}
+use Rattle.triple_list.specs.Triples.{TriplesListed}
 use Rattle.meaning.specs.NoGraph.{MixedKinds, TwoObjects}
 use Rattle.meaning.specs.Pack.{Pack}
 

@@ -10,6 +10,7 @@ use Rattle.calls.specs.Call.{Contents, Written, _becomes_}
 use Rattle.graph.specs.Fronts.{GraphFronts, frontsOf, graphLists}
 use Rattle.meaning.specs.Built.{BuiltNode, core, invented}
 use Rattle.meaning.specs.Core.{iriNode, literalNode}
+use Rattle.meaning.specs.Limits.{nodeWidth}
 use Rattle.meaning.specs.Listing.{NodeRecord, TripleRecord, arguments}
 use Rattle.meaning.specs.Member.{_∈_, here, there}
 use Rattle.meaning.specs.Pack.{Pack}
@@ -27,7 +28,7 @@ record-length (core (iriNode c (a ∷ b ∷ d ∷ e ∷ vs))) = refl
 record-length (core (literalNode v)) = refl
 record-length (invented X) = refl
 
-node-flat : {P : Pack} (bs : List BuiltNode) (rs : List (List ℕ)) → Forall₂ (NodeRecord P) bs rs → length (flatten rs) ≡ length rs * 7
+node-flat : {P : Pack} (bs : List BuiltNode) (rs : List (List ℕ)) → Forall₂ (NodeRecord P) bs rs → length (flatten rs) ≡ length rs * nodeWidth
 unfolding flatten
 node-flat [] [] Forall₂·nil = refl
 node-flat (b ∷ bs) (r ∷ rs) (Forall₂·cons h t) = let l = length-append r (flatten rs) in let m = node-flat bs rs t in omega (arith, ap length (h .are), record-length b)
@@ -49,7 +50,7 @@ second (x ∷ xs) = first xs
 
 module _ {P : Pack} {n t : ℕ} {fronts : List (List ℕ)} (G : GraphFronts P n t fronts) where
   -- a front is as long as the count says
-  pub node-length : length (flatten (G .node-records)) ≡ n * 7
+  pub node-length : length (flatten (G .node-records)) ≡ n * nodeWidth
   node-length = omega (arith, node-flat _ _ (G .lists .records), G .node-count)
 
   pub triple-length : length (flatten (G .triple-records)) ≡ t * 3
@@ -66,16 +67,16 @@ module _ {P : Pack} {n t : ℕ} {fronts : List (List ℕ)} (G : GraphFronts P n 
       at-front front rest {k} l e = sym (ap (take k) e ∙ take-at front rest k l)
 
 module _ {P : Pack} {n t : ℕ} (nodes triples : List ℕ) (G : GraphFronts P n t (frontsOf n nodes t triples)) where
-  pub nodes-are : take (n * 7) nodes ≡ flatten (G .node-records)
+  pub nodes-are : take (n * nodeWidth) nodes ≡ flatten (G .node-records)
   nodes-are = ap first (G .fronts-are)
 
   pub triples-are : take (t * 3) triples ≡ flatten (G .triple-records)
   triples-are = ap second (G .fronts-are)
 
   -- the graph in two lists, copied to the front of two others
-  pub copied : (to links : List ℕ) {to′ links′ : List ℕ} → to′ ≡ overlaid (n * 7) nodes to → links′ ≡ overlaid (t * 3) triples links
+  pub copied : (to links : List ℕ) {to′ links′ : List ℕ} → to′ ≡ overlaid (n * nodeWidth) nodes to → links′ ≡ overlaid (t * 3) triples links
       → Written (frontsOf n nodes t triples) (graphLists (to becomes to′) (links becomes links′))
   copied to links a b = (
-    a ∙ ap (λ k. take (n * 7) nodes ++ drop k to) (sym (ap length nodes-are ∙ node-length G)),
+    a ∙ ap (λ k. take (n * nodeWidth) nodes ++ drop k to) (sym (ap length nodes-are ∙ node-length G)),
     (b ∙ ap (λ k. take (t * 3) triples ++ drop k links) (sym (ap length triples-are ∙ triple-length G)), tt),
   )

@@ -3,12 +3,12 @@ use mathlib.Core.List.{List}
 use mathlib.Core.Path.{_≡_}
 use Prim.Native.Nat.{ℕ}
 use Rattle.calls.specs.Call.{Contents, Written, _becomes_}
-use Rattle.graph.specs.Clash.{ClashAt}
+use Rattle.clash.specs.Clash.{ClashAt}
 use Rattle.graph.specs.Fronts.{GraphFronts, graphLists}
-use Rattle.graph.specs.Input.{Input}
-use Rattle.graph.specs.Records.{Arities}
-use Rattle.graph.specs.declared.build.Built.{Built}
-use Rattle.graph.specs.declared.build.Built.the-variants.{Graph, Clash, Mixed}
+use Rattle.core_lists.specs.Input.{Input}
+use Rattle.node_list.specs.Records.{Arities}
+use Rattle.graph.specs.declared.Built.{Built}
+use Rattle.graph.specs.declared.Built.the-variants.{Graph, Clash, Mixed}
 use Rattle.meaning.specs.NoGraph.{MixedKinds, TwoObjects}
 use Rattle.meaning.specs.Pack.{Pack}
 

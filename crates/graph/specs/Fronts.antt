@@ -4,9 +4,7 @@ use mathlib.Core.List.{List, [], _∷_, flatten}
 use mathlib.Core.Path.{_≡_}
 use Prim.Native.Nat.{ℕ, _*_, _≤_}
 use Rattle.calls.specs.Call.{Contents, Lent, _at-least_}
-use Rattle.graph.specs.NodeList.{maxNodes}
-use Rattle.graph.specs.Triples.{maxTriples}
-use Rattle.meaning.specs.Limits.{nodeListLength, nodeNumbers, tripleListLength, tripleNumbers}
+use Rattle.meaning.specs.Limits.{maxNodes, maxTriples, nodeListLength, nodeWidth, tripleListLength, tripleWidth}
 use Rattle.meaning.specs.Listing.{GraphLists}
 use Rattle.meaning.specs.Pack.{Pack}
 
@@ -16,7 +14,7 @@ graphLists nodes triples = nodes at-least nodeListLength ∷ triples at-least tr
 
 -- the first n nodes and the first t triples of two lists
 abbrev pub frontsOf : ℕ → List ℕ → ℕ → List ℕ → List (List ℕ)
-frontsOf n nodes t triples = take (n * nodeNumbers) nodes ∷ take (t * tripleNumbers) triples ∷ []
+frontsOf n nodes t triples = take (n * nodeWidth) nodes ∷ take (t * tripleWidth) triples ∷ []
 
 -- These are the n nodes and the t triples of the pack's graph, record after record, in the defined order.
 pub record GraphFronts (P : Pack) (n t : ℕ) (fronts : List (List ℕ)) : Type 0 where

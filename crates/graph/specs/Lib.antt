@@ -1,9 +1,2 @@
-pub mod Build
 pub mod Fronts
-pub mod Clash
-pub mod Input
-pub mod Invent
-pub mod Mixed
-pub mod NodeList
-pub mod Records
-pub mod Triples
+pub mod Build

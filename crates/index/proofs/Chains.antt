@@ -9,14 +9,11 @@ use native.Mathlib.Omega.{arith}
 use Prim.Native.Nat.{suc, zero, ℕ, _+_, _-_, _<_, _≤_}
 use Rattle.index.specs.Index.{ByObject, ChainReady, Met, first, later}
 use Rattle.index.specs.Triples.{objectOf}
+use Rattle.meaning.specs.Limits.{maxNodes}
 
 -- Numbers fall along a chain.
 abbrev pub Falls : List ℕ → ℕ → Type 0
 Falls earlier edges = (k : ℕ) → k < edges → getD earlier k 0 ≤ k
-
-pub met-below : {earlier : List ℕ} {x k edges : ℕ} → Falls earlier edges → x ≤ edges → Met earlier x k → k < x
-met-below f l first = omega arith
-met-below f l (later {x = x} m) = let g = f x (omega arith) in let h = met-below f (omega arith) m in omega arith
 
 -- The chain from x on depends only on the links before x.
 pub met-kept : {e e′ : List ℕ} {x k edges : ℕ} → Falls e edges → x ≤ edges → ((j : ℕ) → j < edges → getD e′ j 0 ≡ getD e j 0) → Met e x k → Met e′ x k
@@ -44,9 +41,9 @@ met-later zero l m = absurd (omega arith)
 
 -- The first k triples are chained.
 pub record Chained (triples last earlier : List ℕ) (k : ℕ) : Type 0 where
-  pub begins : (o : ℕ) → o < 1024 → getD last o 0 ≤ k
+  pub begins : (o : ℕ) → o < maxNodes → getD last o 0 ≤ k
   pub falls : Falls earlier k
-  pub exactly : (o j : ℕ) → o < 1024 → Met earlier (getD last o 0) j ↔ ((j < k) × (objectOf triples j ≡ o))
+  pub exactly : (o j : ℕ) → o < maxNodes → Met earlier (getD last o 0) j ↔ ((j < k) × (objectOf triples j ≡ o))
 
 pub chain-start : {triples last earlier : List ℕ} {edges : ℕ} → ChainReady edges last earlier → Chained triples last earlier 0
 chain-start {triples} {last} {earlier} r = record {
@@ -55,7 +52,7 @@ chain-start {triples} {last} {earlier} r = record {
   exactly = λ o j l. ((λ m. absurd (met-none (r .none o l) m)), (λ (h, e). absurd (omega arith)));
 }
 
-module _ {triples last earlier : List ℕ} {k : ℕ} (c : Chained triples last earlier k) (room : k < length earlier) (heads : 1024 ≤ length last) (small : objectOf triples k < 1024) where
+module _ {triples last earlier : List ℕ} {k : ℕ} (c : Chained triples last earlier k) (room : k < length earlier) (heads : maxNodes ≤ length last) (small : objectOf triples k < maxNodes) where
   object : ℕ
   object = objectOf triples k
 
@@ -91,7 +88,7 @@ module _ {triples last earlier : List ℕ} {k : ℕ} (c : Chained triples last e
   unfolding last′
   at-other o n = getD-set-other last (objectOf triples k) o (k + 1) 0 n
 
-  begins′ : (o : ℕ) → o < 1024 → getD last′ o 0 ≤ k + 1
+  begins′ : (o : ℕ) → o < maxNodes → getD last′ o 0 ≤ k + 1
   begins′ o l = go (ℕ-discrete o (objectOf triples k))
     where
       go : Dec (o ≡ objectOf triples k) → getD last′ o 0 ≤ k + 1
@@ -99,13 +96,13 @@ module _ {triples last earlier : List ℕ} {k : ℕ} (c : Chained triples last e
       go (no p) = let z = at-other o p in let b = c .begins o l in omega arith
 
   -- the old chains, read through the new links
-  forth : (o j : ℕ) → o < 1024 → Met earlier (getD last o 0) j → Met earlier′ (getD last o 0) j
+  forth : (o j : ℕ) → o < maxNodes → Met earlier (getD last o 0) j → Met earlier′ (getD last o 0) j
   forth o j l m = met-kept (c .falls) (c .begins o l) same m
 
-  back : (o j : ℕ) → o < 1024 → Met earlier′ (getD last o 0) j → Met earlier (getD last o 0) j
+  back : (o j : ℕ) → o < maxNodes → Met earlier′ (getD last o 0) j → Met earlier (getD last o 0) j
   back o j l m = met-kept (λ i h. let z = falls′ i (omega arith) in z) (c .begins o l) (λ i h. sym (same i h)) m
 
-  exactly′ : (o j : ℕ) → o < 1024 → Met earlier′ (getD last′ o 0) j ↔ ((j < k + 1) × (objectOf triples j ≡ o))
+  exactly′ : (o j : ℕ) → o < maxNodes → Met earlier′ (getD last′ o 0) j ↔ ((j < k + 1) × (objectOf triples j ≡ o))
   exactly′ o j l = go (ℕ-discrete o (objectOf triples k))
     where
       from-split : o ≡ objectOf triples k → (j ≡ suc k - 1) ⊎ Met earlier′ (getD earlier′ (suc k - 1) 0) j → (j < k + 1) × (objectOf triples j ≡ o)
@@ -137,7 +134,7 @@ module _ {triples last earlier : List ℕ} {k : ℕ} (c : Chained triples last e
   unfolding earlier′ last′
   chain-again = record { begins = begins′; falls = falls′; exactly = exactly′ }
 
-pub chain-done : {triples last earlier : List ℕ} {edges k : ℕ} → Chained triples last earlier k → edges ≡ k → 1024 ≤ length last → edges ≤ length earlier → ByObject triples edges last earlier
+pub chain-done : {triples last earlier : List ℕ} {edges k : ℕ} → Chained triples last earlier k → edges ≡ k → maxNodes ≤ length last → edges ≤ length earlier → ByObject triples edges last earlier
 chain-done {triples} {last} {earlier} {edges} {k} c e h l = subst (λ n. n ≤ length earlier → ByObject triples n last earlier) (sym e) (λ g. record {
   heads = h;
   links = g;

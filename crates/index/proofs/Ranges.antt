@@ -8,6 +8,7 @@ use native.Mathlib.Omega.{arith}
 use Prim.Native.Nat.{suc, zero, ℕ, _+_, _-_, _<_, _≤_}
 use Rattle.index.specs.Index.{BySubject, SkippedTo, SubjectRange, SubjectsBelow}
 use Rattle.index.specs.Triples.{SubjectsRise, subjectOf}
+use Rattle.meaning.specs.Limits.{maxNodes}
 
 -- ---- one number
 
@@ -77,12 +78,12 @@ count-again {triples} {first} {edges} {k} {n} {r} up room c s = record {
     go m l (yes p) = subst (λ x. SubjectsBelow triples edges x (getD (set first n r) x 0)) (sym p) (subst (SubjectsBelow triples edges n) (sym (getD-set-same first n r 0 room)) (record { inside = s .inside; below = low′; above = high }))
     go m l (no p) = subst (SubjectsBelow triples edges m) (sym (getD-set-other first n m r 0 p)) (c .counts m (omega arith))
 
-pub count-done : {triples first : List ℕ} {edges k n : ℕ} → 1024 < n → 1025 ≤ length first → Counting triples edges first k n → BySubject triples edges first
+pub count-done : {triples first : List ℕ} {edges k n : ℕ} → maxNodes < n → maxNodes + 1 ≤ length first → Counting triples edges first k n → BySubject triples edges first
 count-done l h c = record { long = h; counts = λ m g. c .counts m (omega arith) }
 
 -- ---- the triples of one subject
 
-pub subject-range : {triples first : List ℕ} {edges : ℕ} (n : ℕ) → n < 1024 → BySubject triples edges first → SubjectRange triples edges n (getD first n 0) (getD first (n + 1) 0)
+pub subject-range : {triples first : List ℕ} {edges : ℕ} (n : ℕ) → n < maxNodes → BySubject triples edges first → SubjectRange triples edges n (getD first n 0) (getD first (n + 1) 0)
 subject-range {triples} {first} {edges} n l b = record {
   ends = hi .inside;
   exactly = λ k. ((λ (g, h). (let a = hi .inside in omega arith, equal k g h)), (λ (h, e). (from k h e (decLt k (getD first n 0)), upto k h e (decLt k (getD first (n + 1) 0)))));
@@ -105,7 +106,7 @@ subject-range {triples} {first} {edges} n l b = record {
     upto k h e (yes g) = g
     upto k h e (no g) = let a = hi .above k (omega arith) h in absurd (omega arith)
 
-pub range-ordered : {triples first : List ℕ} {edges : ℕ} (n : ℕ) → n < 1024 → BySubject triples edges first → getD first n 0 ≤ getD first (n + 1) 0
+pub range-ordered : {triples first : List ℕ} {edges : ℕ} (n : ℕ) → n < maxNodes → BySubject triples edges first → getD first n 0 ≤ getD first (n + 1) 0
 range-ordered {triples} {first} {edges} n l b = go (decLt (getD first (n + 1) 0) (getD first n 0))
   where
     go : Dec (getD first (n + 1) 0 < getD first n 0) → getD first n 0 ≤ getD first (n + 1) 0

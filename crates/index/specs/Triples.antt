@@ -2,7 +2,8 @@
 use lib.ListN.{getD, length}
 use mathlib.Core.List.{List}
 use mathlib.Core.Path.{_≡_}
-use Prim.Native.Nat.{ℕ, _*_, _+_, _-_, _<_, _≤_}
+use Prim.Native.Nat.{ℕ, _*_, _+_, _<_, _≤_}
+use Rattle.meaning.specs.Limits.{maxNodes, maxTriples}
 
 -- ---- "A triple is three 16-bit numbers: subject, predicate, object"
 
@@ -25,10 +26,10 @@ pub record TripleIn (triples : List ℕ) (edges s p o : ℕ) : Type 0 where
 
 -- ---- their bounds
 
--- At most 1,024 nodes and 10,228 triples, which join nodes.
+-- As many nodes and triples as there may be, and the triples join nodes.
 pub record GraphFits (nodes edges : ℕ) (triples : List ℕ) : Type 0 where
-  pub few-nodes : nodes ≤ 1024
-  pub few-edges : edges ≤ 10228
+  pub few-nodes : nodes ≤ maxNodes
+  pub few-edges : edges ≤ maxTriples
   pub whole : edges * 3 ≤ length triples
   pub subjects : (k : ℕ) → k < edges → subjectOf triples k < nodes
   pub objects : (k : ℕ) → k < edges → objectOf triples k < nodes

@@ -4,6 +4,8 @@ ghost use mathlib.Core.Path.{_≡_};
 ghost use Prim.Native.Nat.{_*_, _+_, _<_, _≤_};
 ghost use Rattle.index.specs.Index.{ByObject, BySubject, ChainReady, SkippedTo};
 ghost use Rattle.index.specs.Triples.{GraphFits, SubjectsRise};
+ghost use Rattle.meaning.specs.Limits.{maxNodes};
+use meaning::MAX_NODES;
 
 // The triples from the first up to the second.
 pub struct Range(pub usize, pub usize);
@@ -45,14 +47,14 @@ fn skip(triples: &[u16], edges: usize, k: usize, n: usize) -> usize
     r
 }
 
-// Counts, for each n up to 1,024, the triples with a subject below n.
+// Counts, for each n up to the most nodes, the triples with a subject below n.
 pub fn start_by_subject(triples: &[u16], nodes: usize, edges: usize, first: &mut [u16])
-    requires { ⌜ GraphFits nodes edges (now triples) × (SubjectsRise (now triples) edges × (1025 ≤ length (now first))) ⌝ }
+    requires { ⌜ GraphFits nodes edges (now triples) × (SubjectsRise (now triples) edges × (maxNodes + 1 ≤ length (now first))) ⌝ }
     ensures { λ _. ⌜ BySubject (now (triples .entry)) edges (now (first .exit)) ⌝ }
 {
     let mut k = 0;
     let mut n = 0;
-    while n <= 1024 {
+    while n <= MAX_NODES {
         k = skip(triples, edges, k, n);
         first[n] = k as u16;
         n += 1;
@@ -61,7 +63,7 @@ pub fn start_by_subject(triples: &[u16], nodes: usize, edges: usize, first: &mut
 
 // The triples of a subject.
 pub fn subject_range(first: &[u16], n: usize) -> Range
-    requires { ⌜ (1025 ≤ length (now first)) × (n < 1024) ⌝ }
+    requires { ⌜ (maxNodes + 1 ≤ length (now first)) × (n < maxNodes) ⌝ }
     ensures { λ r. ⌜ (r .0 ≡ getD (now (first .entry)) n 0) × (r .1 ≡ getD (now (first .entry)) (n + 1) 0) ⌝ }
 {
     Range(first[n] as usize, first[n + 1] as usize)

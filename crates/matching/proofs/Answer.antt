@@ -2,13 +2,13 @@
 use borrow.Author.Tests.{eqb-false}
 use lib.Dec.{eqb}
 use lib.ListN.{length, getD, take, length-take}
-use mathlib.Core.List.{List, [], _∷_, map}
+use mathlib.Core.List.{List, _∷_, map}
 use mathlib.Core.Logic.{_↔_, inr, ⊎-elim}
 use mathlib.Core.Path.{_≡_, refl, sym, ap, _∙_, subst}
 use native.Mathlib.Omega.{arith}
 use Prim.Native.Nat.{ℕ, suc, _+_, _*_, _^_, _≤_, _<_, zero-le}
 use Rattle.meaning.specs.Core.{Assignment}
-use Rattle.meaning.specs.Limits.{unused}
+use Rattle.meaning.specs.Limits.{atomsLength, atomWidth, candidatesLength, maxAtoms, maxColumns, maxValues, maxVariables, rowsLength, rowWidth, unused}
 use Rattle.meaning.specs.Member.{_∈_, here, there}
 use Rattle.meaning.specs.Ordered.{empty}
 use Rattle.meaning.specs.Pack.{Row, Atom}
@@ -16,7 +16,7 @@ use Rattle.sets.proofs.Ascending.{∈-at}
 use Rattle.sets.proofs.Cases.{case-on}
 use Rattle.matching.specs.declared.Heads.{Heads}
 use Rattle.matching.specs.declared.Heads.the-variants.{Listed, Over}
-use Rattle.matching.specs.Plan.{masked, variablesAt, candidatesAt, Variables8, AtomsBelow, AtomsBytes, SameVariables, Bindings, Candidate, Prepared, Plan, Solution, Reaches, Grown}
+use Rattle.matching.specs.Plan.{masked, variablesAt, candidatesAt, KeyVariables, AtomsBelow, AtomsBytes, SameVariables, Bindings, Candidate, Prepared, Plan, Solution, Reaches, Grown}
 use Rattle.matching.specs.Rule.{RuleHeld, Answers}
 use Rattle.matching.proofs.Bytes.{stacked-small, ∈-index}
 use Rattle.matching.proofs.Grown.{list-iff, over-sub}
@@ -36,21 +36,21 @@ unmatched-answers {orders} {count} {vars} {cands} {counts} {start} f u keys = (z
     none : (k : ℕ) → Solution orders count vars cands counts 0 start k → ⊥
     none k s = elim (rw (u .2) at (s .fits (u .0) zero-le (u .1))) [ ]
 
--- ---- keys of bytes
+-- ---- keys of value numbers
 
-map-bytes : (σ : Assignment) (vs : List ℕ) → ((v : ℕ) → v ∈ vs → σ v < 256) → (x : ℕ) → x ∈ map σ vs → x < 256
+map-bytes : (σ : Assignment) (vs : List ℕ) → ((v : ℕ) → v ∈ vs → σ v < maxValues) → (x : ℕ) → x ∈ map σ vs → x < maxValues
 map-bytes σ (v ∷ vs) s x (here e) = rw e (s v (here refl))
 map-bytes σ (v ∷ vs) s x (there m) = map-bytes σ vs (λ w n. s w (there n)) x m
 
 module _ {rows : List Row} {atoms : List Atom} {vars rowN atomN : List ℕ} {count : ℕ} {varN : List ℕ} {varCount : ℕ}
-    (h : RuleHeld rows atoms vars rowN atomN count varN varCount) (long : 30 ≤ length atomN) where
-  few : count ≤ 3
+    (h : RuleHeld rows atoms vars rowN atomN count varN varCount) (long : atomsLength ≤ length atomN) where
+  few : count ≤ maxAtoms
   few = omega (arith, h .fewAtoms, h .atomsCounted)
 
-  arity : (j : ℕ) → j < count → getD atomN (j * 10 + 1) 0 ≤ 8
+  arity : (j : ℕ) → j < count → getD atomN (j * atomWidth + 1) 0 ≤ maxColumns
   arity j l = let a = atom-at h j l in let s = h .short (a .0) (a .1) in omega (arith, atom-count (a .2) s, s)
 
-  own : (j : ℕ) → j < count → Variables8 (variablesAt atomN j)
+  own : (j : ℕ) → j < count → KeyVariables (variablesAt atomN j)
   own j l =
       let a = atom-at h j l in
       let s = h .short (a .0) (a .1) in
@@ -59,16 +59,16 @@ module _ {rows : List Row} {atoms : List Atom} {vars rowN atomN : List ℕ} {cou
   pub atoms-below : AtomsBelow atomN count
   atoms-below = record { few = few; long = long; arity = arity; variables = own }
 
-  pub head-variables : Variables8 (take varCount varN)
+  pub head-variables : KeyVariables (take varCount varN)
   head-variables = record { short = omega (arith, length-take varCount varN, h .varsCounted); below = below }
     where
-      below : (v : ℕ) → v ∈ take varCount varN → v < 16
+      below : (v : ℕ) → v ∈ take varCount varN → v < maxVariables
       below v m = let b = h .bound v (subst (λ (l : List ℕ). v ∈ l) (h .varsHeld) m) in h .variables (b .0) (b .1) v (b .2)
 
-  pub few-rows : length rowN ≤ 9216
+  pub few-rows : length rowN ≤ rowsLength
   few-rows = omega (arith, rows-long h, h .fewRows)
 
-  cells : (j : ℕ) → j < count → (r : ℕ) → suc r * 9 ≤ length rowN → getD rowN (r * 9) 0 ≡ getD atomN (j * 10) 0 → (c : ℕ) → c < length (variablesAt atomN j) → getD rowN (r * 9 + 1 + c) 0 < 256
+  cells : (j : ℕ) → j < count → (r : ℕ) → suc r * rowWidth ≤ length rowN → getD rowN (r * rowWidth) 0 ≡ getD atomN (j * atomWidth) 0 → (c : ℕ) → c < length (variablesAt atomN j) → getD rowN (r * rowWidth + 1 + c) 0 < maxValues
   cells j l r w e c u =
       let a = atom-at h j l in
       let s = h .short (a .0) (a .1) in
@@ -81,20 +81,20 @@ module _ {rows : List Row} {atoms : List Atom} {vars rowN atomN : List ℕ} {cou
   atoms-bytes j l = record { small = cells j l }
 
   module _ {orders start cands counts : List ℕ} (below : AtomsBelow orders count) (t : SameVariables atomN orders count) (g : Bindings start)
-      (p : Prepared rowN atomN orders start count cands counts) (room : 3072 ≤ length cands) where
-    small : (j : ℕ) → j < count → (key : ℕ) → key ∈ candidatesAt cands counts j → key < 256 ^ length (variablesAt orders j)
+      (p : Prepared rowN atomN orders start count cands counts) (room : candidatesLength ≤ length cands) where
+    small : (j : ℕ) → j < count → (key : ℕ) → key ∈ candidatesAt cands counts j → key < maxValues ^ length (variablesAt orders j)
     small j l key m =
         let d = p .list j l .members key .0 m in
         rw (d .is, ← (map-long (masked start (d .values)) (variablesAt orders j)))
         (stacked-small (map (masked start (d .values)) (variablesAt orders j)) (map-bytes (masked start (d .values)) (variablesAt orders j) (λ v n. byte (d .values) v (value d v (t .same j l v .0 n)))))
       where
-        byte : (σ : Assignment) (v : ℕ) → σ v < 256 → masked start σ v < 256
+        byte : (σ : Assignment) (v : ℕ) → σ v < maxValues → masked start σ v < maxValues
         byte σ v b = case-on (eqb (getD start v 0) unused) (λ e. rw e b) (λ e. rw e (g .small v (eqb-false (getD start v 0) unused e)))
 
-        value : (d : Candidate rowN (getD atomN (j * 10) 0) (variablesAt atomN j) (variablesAt orders j) start key) (v : ℕ) → v ∈ variablesAt atomN j → d .values v < 256
+        value : (d : Candidate rowN (getD atomN (j * atomWidth) 0) (variablesAt atomN j) (variablesAt orders j) start key) (v : ℕ) → v ∈ variablesAt atomN j → d .values v < maxValues
         value d v n =
             let q = ∈-index n in
-            subst (λ w. d .values w < 256) (q .2) (subst (λ y. y < 256) (d .cells (q .0) (q .1)) (cells j l (d .index) (d .within) (d .relation-is) (q .0) (q .1)))
+            subst (λ w. d .values w < maxValues) (q .2) (subst (λ y. y < maxValues) (d .cells (q .0) (q .1)) (cells j l (d .index) (d .within) (d .relation-is) (q .0) (q .1)))
 
     pub plan : Plan orders count (take varCount varN) cands counts
     plan = record {

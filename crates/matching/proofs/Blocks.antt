@@ -1,11 +1,11 @@
 -- Numbers that hold records of one width, one after another. Assumes nothing.
-use lib.ListN.{length, getD, take, drop, length-take, length-append}
+use lib.ListN.{length, take, drop, length-append}
 use lib.Seq.{take-at, drop-at, take-take, take-add, drop-drop, take-length}
 use mathlib.Core.List.{List, [], _∷_, _++_, flatMap}
 use mathlib.Core.Path.{_≡_, refl, sym, ap, _∙_, subst}
 use native.Mathlib.Nat.{suc-mul, zero-mul, not-suc-le-zero, le-of-suc-le-suc}
 use native.Mathlib.Omega.{arith}
-use Prim.Native.Nat.{ℕ, zero, suc, _+_, _*_, _≤_, _<_, zero-le, suc-le-suc}
+use Prim.Native.Nat.{ℕ, zero, suc, _+_, _*_, _<_, zero-le, suc-le-suc}
 use Rattle.meaning.specs.Member.{_∈_, here, there}
 
 module _ {A : Type 0} (width : ℕ) (f : A → List ℕ) (wide : (x : A) → length (f x) ≡ width) where

@@ -1,29 +1,27 @@
 -- Laws of the candidates that bindings leave: their keys lie between two bounds. Assumes nothing.
 use lib.ListN.{length, getD, drop, drop-of-length-le}
 use mathlib.Core.List.{List, [], _∷_, map}
-use mathlib.Core.Logic.{_≢_}
-use mathlib.Core.Path.{_≡_, refl, sym, ap, _∙_, subst}
+use mathlib.Core.Path.{_≡_, ap, subst}
 use native.Mathlib.Decide.{decLt}
 use native.Mathlib.Nat.{le-refl, not-suc-le-zero, le-of-suc-le-suc}
 use native.Mathlib.Omega.{arith}
 use Prim.Native.Nat.{ℕ, zero, suc, _+_, _*_, _-_, _^_, _≤_, _<_, zero-le}
 use Rattle.meaning.specs.Core.{Assignment}
-use Rattle.meaning.specs.Limits.{unused}
+use Rattle.meaning.specs.Limits.{keyRoom, maxValues, maxVariables, unused}
 use Rattle.meaning.specs.Member.{_∈_}
 use Rattle.meaning.specs.Ordered.{InOrder, before}
 use Rattle.sets.proofs.Ascending.{∈-at}
 use Rattle.sets.proofs.Rank.{rank-le, rank-above, rank-below}
 use Rattle.sets.specs.Ordered.{rankOf}
-use Rattle.matching.specs.declared.spans.Span.{Span}
-use Rattle.matching.specs.Plan.{stacked, Variables8, Bound, Bindings, Extends, SpanOf}
-use Rattle.matching.proofs.Bytes.{pow-next, seven, stacked-drop}
+use Rattle.matching.specs.Plan.{stacked, KeyVariables, Bindings, Extends, SpanOf}
+use Rattle.matching.proofs.Bytes.{pow-next, below-room, stacked-drop}
 use Rattle.matching.proofs.Columns.{Small}
 
 -- the columns from c on have a number between these
 pub record Bounds (vs env : List ℕ) (c low high : ℕ) : Type 0 where
   pub within : c ≤ length vs
-  pub low-small : low < 256 ^ (length vs - c)
-  pub high-small : high < 256 ^ (length vs - c)
+  pub low-small : low < maxValues ^ (length vs - c)
+  pub high-small : high < maxValues ^ (length vs - c)
   pub above : (σ : Assignment) → Small σ → Extends env σ → low ≤ stacked (map σ (drop c vs))
   pub below : (σ : Assignment) → Small σ → Extends env σ → stacked (map σ (drop c vs)) ≤ high
 
@@ -40,26 +38,26 @@ bounds-start vs env =
     }
 
 module _ {vs env : List ℕ} {c low high : ℕ} (b : Bounds vs env c low high) (h : 0 < c) where
-  next : (σ : Assignment) → stacked (map σ (drop (c - 1) vs)) ≡ stacked (map σ (drop c vs)) * 256 + σ (getD vs (c - 1) 0)
+  next : (σ : Assignment) → stacked (map σ (drop (c - 1) vs)) ≡ stacked (map σ (drop c vs)) * maxValues + σ (getD vs (c - 1) 0)
   next σ =
       let e : suc (c - 1) ≡ c = omega arith in
-      subst (λ n. stacked (map σ (drop (c - 1) vs)) ≡ stacked (map σ (drop n vs)) * 256 + σ (getD vs (c - 1) 0)) e
+      subst (λ n. stacked (map σ (drop (c - 1) vs)) ≡ stacked (map σ (drop n vs)) * maxValues + σ (getD vs (c - 1) 0)) e
       (stacked-drop σ vs (c - 1) (omega (arith, b .within)))
 
-  pub bounds-room : Variables8 vs → (low < 72057594037927936) × (high < 72057594037927936)
+  pub bounds-room : KeyVariables vs → (low < keyRoom) × (high < keyRoom)
   bounds-room v = (
-    seven (length vs - c) low (b .low-small) (omega (arith, v .short, b .within)),
-    seven (length vs - c) high (b .high-small) (omega (arith, v .short, b .within)),
+    below-room (length vs - c) low (b .low-small) (omega (arith, v .short, b .within)),
+    below-room (length vs - c) high (b .high-small) (omega (arith, v .short, b .within)),
   )
 
-  pub bounds-variable : Variables8 vs → getD vs (c - 1) 0 < 16
+  pub bounds-variable : KeyVariables vs → getD vs (c - 1) 0 < maxVariables
   bounds-variable v = v .below (getD vs (c - 1) 0) (∈-at vs (c - 1) (omega (arith, b .within)))
 
-  pow-is : 256 ^ (length vs - (c - 1)) ≡ 256 ^ (length vs - c) * 256
+  pow-is : maxValues ^ (length vs - (c - 1)) ≡ maxValues ^ (length vs - c) * maxValues
   pow-is = let e : length vs - (c - 1) ≡ length vs - c + 1 = omega (arith, b .within) in rw e (pow-next (length vs - c))
 
   -- the column's variable is not bound
-  pub bounds-open : Bounds vs env (c - 1) (low * 256) (high * 256 + 255)
+  pub bounds-open : Bounds vs env (c - 1) (low * maxValues) (high * maxValues + (maxValues - 1))
   bounds-open = record {
     within = omega (arith, b .within);
     low-small = omega (arith, b .low-small, pow-is);
@@ -70,7 +68,7 @@ module _ {vs env : List ℕ} {c low high : ℕ} (b : Bounds vs env c low high) (
 
   -- it is bound
   pub bounds-bound : Bindings env → (getD env (getD vs (c - 1) 0) 0 ≡ unused → ⊥)
-      → Bounds vs env (c - 1) (low * 256 + getD env (getD vs (c - 1) 0) 0) (high * 256 + getD env (getD vs (c - 1) 0) 0)
+      → Bounds vs env (c - 1) (low * maxValues + getD env (getD vs (c - 1) 0) 0) (high * maxValues + getD env (getD vs (c - 1) 0) 0)
   bounds-bound g n = record {
     within = omega (arith, b .within);
     low-small = omega (arith, b .low-small, pow-is, g .small (getD vs (c - 1) 0) n);

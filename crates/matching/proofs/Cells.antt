@@ -8,8 +8,9 @@ use Prim.Native.Nat.{ℕ, _+_, _*_, _/_, _≤_, _<_}
 use Rattle.meaning.specs.Core.{Assignment}
 use Rattle.meaning.specs.Member.{_∈_}
 use Rattle.sets.proofs.Ascending.{∈-at}
-use Rattle.matching.specs.Plan.{Among, CellsAre, columnOf, FirstColumns, ColumnsBytes, ColumnsAre, RowsBytes, Variables8}
+use Rattle.matching.specs.Plan.{Among, CellsAre, columnOf, FirstColumns, ColumnsBytes, ColumnsAre, RowsBytes, KeyVariables}
 use Rattle.matching.proofs.FirstColumn.{column-has}
+use Rattle.meaning.specs.Limits.{rowWidth}
 
 -- each variable has the cell of its first column
 abbrev pub cellOf : List ℕ → ℕ → List ℕ → Assignment
@@ -56,8 +57,8 @@ module _ {own order cols : List ℕ} (f : FirstColumns own order cols) where
     pub column-below : {i : ℕ} → i < length order → getD cols i 0 < length own
     column-below {i} h = rw (f .are i h) (column-has (among _ (∈-at order i h)) .0)
 
-    pub columns-bytes : Variables8 own → {rows : List ℕ} {relation : ℕ} → RowsBytes rows relation (length own)
-        → {r : ℕ} → r < length rows / 9 → getD rows (r * 9) 0 ≡ relation → ColumnsBytes rows (r * 9 + 1) cols (length order)
+    pub columns-bytes : KeyVariables own → {rows : List ℕ} {relation : ℕ} → RowsBytes rows relation (length own)
+        → {r : ℕ} → r < length rows / rowWidth → getD rows (r * rowWidth) 0 ≡ relation → ColumnsBytes rows (r * rowWidth + 1) cols (length order)
     columns-bytes v b {r} h e = record {
       within = λ i k. omega (arith, h, v .short, column-below k);
       small = λ i k. b .small r (omega (arith, h)) e _ (column-below k);

@@ -13,7 +13,7 @@ use Rattle.meaning.specs.Ordered.{InOrder, ListOf, empty}
 use Rattle.sets.proofs.Insertion.{added-list, present-list}
 use Rattle.sets.specs.Ordered.{WasAdded, WasPresent, WasFull}
 use Rattle.meaning.specs.Core.{Assignment}
-use Rattle.meaning.specs.Limits.{unused}
+use Rattle.meaning.specs.Limits.{rowWidth, unused}
 use Rattle.matching.specs.Plan.{stacked, masked, Among, CellsAre, FirstColumns, KeyFrom, Candidate}
 use Rattle.matching.proofs.Bytes.{map-same}
 use Rattle.matching.proofs.Cells.{cellOf, Cells, cells-same, cells-done, columns-are}
@@ -51,7 +51,7 @@ module _ (rows : List ℕ) (relation : ℕ) (own order start : List ℕ) where
 
   -- their set; the last key that was added is in it
   pub record Collected (out₀ : List ℕ) (r n last : ℕ) (out : List ℕ) : Type 0 where
-    pub within : r ≤ length rows / 9
+    pub within : r ≤ length rows / rowWidth
     pub few : n ≤ r
     pub long : length out ≡ length out₀
     pub list : ListOf _<_ (Early r) (take n out)
@@ -66,7 +66,7 @@ module _ (rows : List ℕ) (relation : ℕ) (own order start : List ℕ) where
     recent = λ h. absurd (omega (arith, h));
   }
 
-  module _ {out₀ : List ℕ} {r n last : ℕ} {out : List ℕ} (i : Collected out₀ r n last out) (h : r < length rows / 9) where
+  module _ {out₀ : List ℕ} {r n last : ℕ} {out : List ℕ} (i : Collected out₀ r n last out) (h : r < length rows / rowWidth) where
     later : {k : ℕ} → Early r k → Early (r + 1) k
     later e = record { candidate = e .candidate; before = omega (arith, e .before) }
 
@@ -82,15 +82,15 @@ module _ (rows : List ℕ) (relation : ℕ) (own order start : List ℕ) where
       recent = i .recent;
     }
 
-    pub collect-other : (getD rows (r * 9) 0 ≡ relation → ⊥) → Collected out₀ (r + 1) n last out
-    collect-other d = skip (λ x q. d (subst (λ x. getD rows (x * 9) 0 ≡ relation) q (x .1 .relation-is)))
+    pub collect-other : (getD rows (r * rowWidth) 0 ≡ relation → ⊥) → Collected out₀ (r + 1) n last out
+    collect-other d = skip (λ x q. d (subst (λ x. getD rows (x * rowWidth) 0 ≡ relation) q (x .1 .relation-is)))
 
     -- no assignment makes the atom this row
-    pub collect-differ : {r′ : ℕ} → r′ ≡ r → ((σ : Assignment) → CellsAre rows (r * 9 + 1) own σ → ⊥) → Collected out₀ (r′ + 1) n last out
-    collect-differ e d = rw e (skip (λ x q. d (x .1 .values) (subst (λ y. CellsAre rows (y * 9 + 1) own (x .1 .values)) q (x .1 .cells))))
+    pub collect-differ : {r′ : ℕ} → r′ ≡ r → ((σ : Assignment) → CellsAre rows (r * rowWidth + 1) own σ → ⊥) → Collected out₀ (r′ + 1) n last out
+    collect-differ e d = rw e (skip (λ x q. d (x .1 .values) (subst (λ y. CellsAre rows (y * rowWidth + 1) own (x .1 .values)) q (x .1 .cells))))
 
-    more : Among order own → CellsAre rows (r * 9 + 1) own (cellOf rows (r * 9 + 1) own)
-        → (key : ℕ) → key ≡ stacked (map (masked start (cellOf rows (r * 9 + 1) own)) order) → getD rows (r * 9) 0 ≡ relation
+    more : Among order own → CellsAre rows (r * rowWidth + 1) own (cellOf rows (r * rowWidth + 1) own)
+        → (key : ℕ) → key ≡ stacked (map (masked start (cellOf rows (r * rowWidth + 1) own)) order) → getD rows (r * rowWidth) 0 ≡ relation
         → (m : ℕ) (out′ : List ℕ) → (m ≤ n + 1) × ListOf _<_ (λ k. (k ≡ key) ⊎ (k ∈ take n out)) (take m out′) → length out′ ≡ length out
         → Collected out₀ (r + 1) m key out′
     more among f key e q m out′ w l = record {
@@ -103,13 +103,13 @@ module _ (rows : List ℕ) (relation : ℕ) (own order start : List ℕ) where
       where
         forth : (k : ℕ) → (k ≡ key) ⊎ (k ∈ take n out) → Early (r + 1) k
         forth k (inl x) = record {
-          candidate = record { index = r; within = omega (arith, h); relation-is = q; values = cellOf rows (r * 9 + 1) own; cells = f; is = x ∙ e };
+          candidate = record { index = r; within = omega (arith, h); relation-is = q; values = cellOf rows (r * rowWidth + 1) own; cells = f; is = x ∙ e };
           before = omega arith;
         }
         forth k (inr m) = later (i .list .members k .0 m)
 
-        same : (σ : Assignment) → CellsAre rows (r * 9 + 1) own σ → map (masked start σ) order ≡ map (masked start (cellOf rows (r * 9 + 1) own)) order
-        same σ g = map-same (masked start σ) (masked start (cellOf rows (r * 9 + 1) own)) order (λ v o. ap (λ x. cond (eqb (getD start v 0) unused) x (getD start v 0)) (cells-same rows (r * 9 + 1) own σ g v (among v o)))
+        same : (σ : Assignment) → CellsAre rows (r * rowWidth + 1) own σ → map (masked start σ) order ≡ map (masked start (cellOf rows (r * rowWidth + 1) own)) order
+        same σ g = map-same (masked start σ) (masked start (cellOf rows (r * rowWidth + 1) own)) order (λ v o. ap (λ x. cond (eqb (getD start v 0) unused) x (getD start v 0)) (cells-same rows (r * rowWidth + 1) own σ g v (among v o)))
 
         back : (k : ℕ) → Early (r + 1) k → (k ≡ key) ⊎ (k ∈ take n out)
         back k x = go (ℕ-discrete (x .candidate .index) r)
@@ -117,16 +117,16 @@ module _ (rows : List ℕ) (relation : ℕ) (own order start : List ℕ) where
             go : Dec (x .candidate .index ≡ r) → (k ≡ key) ⊎ (k ∈ take n out)
             go (yes y) =
                 inl (x .candidate .is
-                ∙ ap stacked (same (x .candidate .values) (subst (λ j. CellsAre rows (j * 9 + 1) own (x .candidate .values)) y (x .candidate .cells))) ∙ sym e)
+                ∙ ap stacked (same (x .candidate .values) (subst (λ j. CellsAre rows (j * rowWidth + 1) own (x .candidate .values)) y (x .candidate .cells))) ∙ sym e)
             go (no d) = inr (i .list .members k .1 (sooner x d))
 
-    pub collect-more : {r′ : ℕ} → r′ ≡ r → Among order own → {firsts : List ℕ} → FirstColumns own own firsts → {c : ℕ} → Cells rows (r * 9 + 1) firsts c → length own ≤ c
-        → {cols : List ℕ} → FirstColumns own order cols → (key : ℕ) → KeyFrom key rows (r * 9 + 1) order cols start → getD rows (r * 9) 0 ≡ relation
+    pub collect-more : {r′ : ℕ} → r′ ≡ r → Among order own → {firsts : List ℕ} → FirstColumns own own firsts → {c : ℕ} → Cells rows (r * rowWidth + 1) firsts c → length own ≤ c
+        → {cols : List ℕ} → FirstColumns own order cols → (key : ℕ) → KeyFrom key rows (r * rowWidth + 1) order cols start → getD rows (r * rowWidth) 0 ≡ relation
         → (m : ℕ) (out′ : List ℕ) → (m ≤ n + 1) × ListOf _<_ (λ k. (k ≡ key) ⊎ (k ∈ take n out)) (take m out′) → length out′ ≡ length out
         → Collected out₀ (r′ + 1) m key out′
-    collect-more e among f g z f′ key k q m out′ w l = rw e (more among (cells-done f g z) key (k _ (columns-are f′ rows (r * 9 + 1))) q m out′ w l)
+    collect-more e among f g z f′ key k q m out′ w l = rw e (more among (cells-done f g z) key (k _ (columns-are f′ rows (r * rowWidth + 1))) q m out′ w l)
 
-  pub collect-done : {out₀ : List ℕ} {r n last : ℕ} {out : List ℕ} → Collected out₀ r n last out → length rows / 9 ≤ r → length rows ≤ length out₀ * 9
+  pub collect-done : {out₀ : List ℕ} {r n last : ℕ} {out : List ℕ} → Collected out₀ r n last out → length rows / rowWidth ≤ r → length rows ≤ length out₀ * rowWidth
       → (n ≤ length out₀) × ListOf _<_ (Candidate rows relation own order start) (take n out)
   collect-done i h l = (
     omega (arith, i .few, i .within, l),

@@ -12,6 +12,7 @@ use native.Mathlib.Omega.{arith}
 use Prim.Native.Nat.{ℕ, suc, _+_, _≤_, _<_, zero-le, suc-le-suc}
 use Rattle.meaning.specs.Member.{_∈_, here, there}
 use Rattle.matching.specs.Plan.{columnOf, FirstColumns}
+use Rattle.meaning.specs.Limits.{keyWidth}
 
 abbrev Has : List ℕ → ℕ → Type 0
 Has own v = (columnOf own v < length own) × (getD own (columnOf own v) 0 ≡ v)
@@ -59,14 +60,14 @@ module _ {own : List ℕ} {v c : ℕ} (i : Seeking own v c) where
 
 -- the first i have their columns
 pub record Seated (own vars : List ℕ) (i : ℕ) (cols : List ℕ) : Type 0 where
-  pub long : length cols ≡ 8
+  pub long : length cols ≡ keyWidth
   pub are : (k : ℕ) → k < i → getD cols k 0 ≡ columnOf own (getD vars k 0)
 
-pub seat-start : (own vars cols : List ℕ) → length cols ≡ 8 → Seated own vars 0 cols
+pub seat-start : (own vars cols : List ℕ) → length cols ≡ keyWidth → Seated own vars 0 cols
 seat-start own vars cols l = record { long = l; are = λ k h. absurd (omega (arith, h)) }
 
 module _ {own vars : List ℕ} {i : ℕ} {cols : List ℕ} (s : Seated own vars i cols) where
-  pub seat-again : i < length vars → length vars ≤ 8 → (c : ℕ) → c ≡ columnOf own (getD vars i 0) → Seated own vars (i + 1) (set cols i c)
+  pub seat-again : i < length vars → length vars ≤ keyWidth → (c : ℕ) → c ≡ columnOf own (getD vars i 0) → Seated own vars (i + 1) (set cols i c)
   seat-again h l c e = record { long = length-set cols i c ∙ s .long; are = λ k b. go k b (ℕ-discrete k i) }
     where
       go : (k : ℕ) → k < i + 1 → Dec (k ≡ i) → getD (set cols i c) k 0 ≡ columnOf own (getD vars k 0)

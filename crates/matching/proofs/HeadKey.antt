@@ -1,40 +1,38 @@
 -- Laws of a head's key under bindings. Assumes nothing.
 use lib.ListN.{length, getD, drop, drop-of-length-le}
 use lib.Seq.{drop-cons}
-use mathlib.Core.List.{List, [], _∷_, map, foldl}
-use mathlib.Core.Logic.{_≢_, inl, inr}
-use mathlib.Core.Path.{_≡_, refl, sym, ap, _∙_, subst}
-use native.Mathlib.Nat.{mod-eq-of-lt}
+use mathlib.Core.List.{List, map, foldl}
+use mathlib.Core.Path.{_≡_, refl, _∙_, subst}
 use native.Mathlib.Numerals.{add-one}
 use native.Mathlib.Omega.{arith}
-use Prim.Native.Nat.{ℕ, zero, suc, _+_, _*_, _%_, _^_, _≤_, _<_, zero-le}
-use Rattle.meaning.specs.Limits.{unused}
+use Prim.Native.Nat.{ℕ, _+_, _*_, _^_, _≤_, _<_, zero-le}
+use Rattle.meaning.specs.Limits.{keyRoom, maxValues, unused}
 use Rattle.meaning.specs.Member.{_∈_}
 use Rattle.meaning.specs.Tables.{packed}
 use Rattle.sets.proofs.Ascending.{∈-at}
-use Rattle.matching.specs.Plan.{Bound, AllBound, Bindings, bindingOf, Variables8, KeyOf}
+use Rattle.matching.specs.Plan.{Bound, AllBound, Bindings, bindingOf, KeyVariables, KeyOf}
 use Rattle.matching.specs.declared.keys.Head.the-variants.{Key, Open}
-use Rattle.matching.proofs.Bytes.{pow-next, seven, ∈-index}
+use Rattle.matching.proofs.Bytes.{pow-next, below-room, ∈-index}
 
 -- the key of the first i variables is made, and they are bound
 pub record Making (vars env : List ℕ) (i key : ℕ) : Type 0 where
   pub within : i ≤ length vars
-  pub small : key < 256 ^ i
+  pub small : key < maxValues ^ i
   pub bound : (j : ℕ) → j < i → Bound env (getD vars j 0)
-  pub is : foldl (λ k v. k * 256 + v) key (map (bindingOf env) (drop i vars)) ≡ packed (map (bindingOf env) vars)
+  pub is : foldl (λ k v. k * maxValues + v) key (map (bindingOf env) (drop i vars)) ≡ packed (map (bindingOf env) vars)
 
 pub making-start : (vars env : List ℕ) → Making vars env 0 0
 unfolding packed
 making-start vars env = record { within = zero-le; small = omega arith; bound = λ j h. absurd (omega arith); is = refl }
 
 module _ {vars env : List ℕ} {i key : ℕ} (m : Making vars env i key) (h : i < length vars) (b : Bindings env) where
-  pub making-value : Bound env (getD vars i 0) → getD env (getD vars i 0) 0 < 256
+  pub making-value : Bound env (getD vars i 0) → getD env (getD vars i 0) 0 < maxValues
   making-value k = b .small (getD vars i 0) k
 
-  pub making-room : Variables8 vars → key < 72057594037927936
-  making-room v = seven i key (m .small) (omega (arith, v .short))
+  pub making-room : KeyVariables vars → key < keyRoom
+  making-room v = below-room i key (m .small) (omega (arith, v .short))
 
-  pub making-again : Bound env (getD vars i 0) → Making vars env (i + 1) (key * 256 + getD env (getD vars i 0) 0)
+  pub making-again : Bound env (getD vars i 0) → Making vars env (i + 1) (key * maxValues + getD env (getD vars i 0) 0)
   making-again k = record {
     within = omega arith;
     small = omega (arith, pow-next i, m .small, making-value k);

@@ -2,7 +2,7 @@
 use lib.ListN.{length, getD, take, drop, replicate, length-take, length-drop, length-append, length-replicate, List·getD-append}
 use lib.Seq.{getD-take, getD-drop, ext-getD}
 use mathlib.Core.List.{List, [], _∷_, _++_, map}
-use mathlib.Core.Path.{_≡_, refl, sym, ap, _∙_, subst}
+use mathlib.Core.Path.{_≡_, refl, sym, ap, _∙_}
 use native.Mathlib.Nat.{add-zero, not-suc-le-zero, le-of-suc-le-suc}
 use native.Mathlib.Omega.{arith}
 use Prim.Native.Nat.{ℕ, zero, suc, _+_, _*_, _≤_, _<_}
@@ -12,64 +12,65 @@ use Rattle.meaning.specs.Tables.{rowNumbers}
 use Rattle.matching.specs.Plan.{variablesAt}
 use Rattle.matching.specs.Rule.{atomNumbers}
 use Rattle.matching.proofs.Blocks.{BlockAt}
+use Rattle.meaning.specs.Limits.{atomWidth, maxColumns, rowWidth, unused}
 
-pub atom-wide : (a : Atom) → length (atomNumbers a) ≡ 10
-atom-wide a = omega (arith, length-take 8 (a .variables ++ replicate 8 0), length-append (a .variables) (replicate 8 0), length-replicate {A = ℕ} 8 0)
+pub atom-wide : (a : Atom) → length (atomNumbers a) ≡ atomWidth
+atom-wide a = omega (arith, length-take maxColumns (a .variables ++ replicate maxColumns 0), length-append (a .variables) (replicate maxColumns 0), length-replicate {A = ℕ} maxColumns 0)
 
-pub row-wide : (r : Row) → length (rowNumbers r) ≡ 9
-row-wide r = omega (arith, length-take 8 (r .cells ++ replicate 8 65535), length-append (r .cells) (replicate 8 65535), length-replicate {A = ℕ} 8 65535)
+pub row-wide : (r : Row) → length (rowNumbers r) ≡ rowWidth
+row-wide r = omega (arith, length-take maxColumns (r .cells ++ replicate maxColumns unused), length-append (r .cells) (replicate maxColumns unused), length-replicate {A = ℕ} maxColumns unused)
 
 -- number i of a record
 block-get : (width a i : ℕ) (numbers block : List ℕ) → take width (drop a numbers) ≡ block → i < width → getD numbers (a + i) 0 ≡ getD block i 0
 block-get width a i numbers block e h = sym (getD-drop a numbers i 0) ∙ sym (getD-take width (drop a numbers) i 0 h) ∙ ap (λ (l : List ℕ). getD l i 0) e
 
-padded : (xs : List ℕ) (z c : ℕ) → c < length xs → length xs ≤ 8 → getD (take 8 (xs ++ replicate 8 z)) c 0 ≡ getD xs c 0
-padded xs z c h l = getD-take 8 (xs ++ replicate 8 z) c 0 (omega (arith, h, l)) ∙ List·getD-append xs (replicate 8 z) 0 c h
+padded : (xs : List ℕ) (z c : ℕ) → c < length xs → length xs ≤ maxColumns → getD (take maxColumns (xs ++ replicate maxColumns z)) c 0 ≡ getD xs c 0
+padded xs z c h l = getD-take maxColumns (xs ++ replicate maxColumns z) c 0 (omega (arith, h, l)) ∙ List·getD-append xs (replicate maxColumns z) 0 c h
 
-module _ {numbers : List ℕ} {j : ℕ} {a : Atom} (b : BlockAt 10 atomNumbers atom-wide numbers j a) (short : length (a .variables) ≤ 8) where
-  pub atom-relation : getD numbers (j * 10) 0 ≡ a .relation
-  atom-relation = rw add-zero at (block-get 10 (j * 10) 0 numbers (atomNumbers a) (b .is) (omega arith))
+module _ {numbers : List ℕ} {j : ℕ} {a : Atom} (b : BlockAt atomWidth atomNumbers atom-wide numbers j a) (short : length (a .variables) ≤ maxColumns) where
+  pub atom-relation : getD numbers (j * atomWidth) 0 ≡ a .relation
+  atom-relation = rw add-zero at (block-get atomWidth (j * atomWidth) 0 numbers (atomNumbers a) (b .is) (omega arith))
 
-  pub atom-count : getD numbers (j * 10 + 1) 0 ≡ length (a .variables)
-  atom-count = block-get 10 (j * 10) 1 numbers (atomNumbers a) (b .is) (omega arith)
+  pub atom-count : getD numbers (j * atomWidth + 1) 0 ≡ length (a .variables)
+  atom-count = block-get atomWidth (j * atomWidth) 1 numbers (atomNumbers a) (b .is) (omega arith)
 
   pub atom-variables : variablesAt numbers j ≡ a .variables
-  atom-variables = rw atom-count (ext-getD 0 (take (length (a .variables)) (drop (j * 10 + 2) numbers)) (a .variables) long same)
+  atom-variables = rw atom-count (ext-getD 0 (take (length (a .variables)) (drop (j * atomWidth + 2) numbers)) (a .variables) long same)
     where
-      long : length (take (length (a .variables)) (drop (j * 10 + 2) numbers)) ≡ length (a .variables)
+      long : length (take (length (a .variables)) (drop (j * atomWidth + 2) numbers)) ≡ length (a .variables)
       long = omega (
         arith,
         short,
         ap length (b .is),
         atom-wide a,
-        length-take 10 (drop (j * 10) numbers),
-        length-drop (j * 10) numbers,
-        length-take (length (a .variables)) (drop (j * 10 + 2) numbers),
-        length-drop (j * 10 + 2) numbers,
+        length-take atomWidth (drop (j * atomWidth) numbers),
+        length-drop (j * atomWidth) numbers,
+        length-take (length (a .variables)) (drop (j * atomWidth + 2) numbers),
+        length-drop (j * atomWidth + 2) numbers,
       )
 
-      same : (c : ℕ) → c < length (take (length (a .variables)) (drop (j * 10 + 2) numbers)) → getD (take (length (a .variables)) (drop (j * 10 + 2) numbers)) c 0 ≡ getD (a .variables) c 0
+      same : (c : ℕ) → c < length (take (length (a .variables)) (drop (j * atomWidth + 2) numbers)) → getD (take (length (a .variables)) (drop (j * atomWidth + 2) numbers)) c 0 ≡ getD (a .variables) c 0
       same c h =
           let l : c < length (a .variables) = omega (arith, h, long) in
-          let e : j * 10 + 2 + c ≡ j * 10 + suc (suc c) = omega arith in
-          getD-take (length (a .variables)) (drop (j * 10 + 2) numbers) c 0 l ∙ getD-drop (j * 10 + 2) numbers c 0
+          let e : j * atomWidth + 2 + c ≡ j * atomWidth + suc (suc c) = omega arith in
+          getD-take (length (a .variables)) (drop (j * atomWidth + 2) numbers) c 0 l ∙ getD-drop (j * atomWidth + 2) numbers c 0
           ∙ ap (λ n. getD numbers n 0) e
-          ∙ block-get 10 (j * 10) (suc (suc c)) numbers (atomNumbers a) (b .is) (omega (arith, l, short))
+          ∙ block-get atomWidth (j * atomWidth) (suc (suc c)) numbers (atomNumbers a) (b .is) (omega (arith, l, short))
           ∙ padded (a .variables) 0 c l short
 
-module _ {numbers : List ℕ} {j : ℕ} {r : Row} (b : BlockAt 9 rowNumbers row-wide numbers j r) where
-  pub row-relation : getD numbers (j * 9) 0 ≡ r .relation
-  row-relation = rw add-zero at (block-get 9 (j * 9) 0 numbers (rowNumbers r) (b .is) (omega arith))
+module _ {numbers : List ℕ} {j : ℕ} {r : Row} (b : BlockAt rowWidth rowNumbers row-wide numbers j r) where
+  pub row-relation : getD numbers (j * rowWidth) 0 ≡ r .relation
+  row-relation = rw add-zero at (block-get rowWidth (j * rowWidth) 0 numbers (rowNumbers r) (b .is) (omega arith))
 
-  pub row-cell : length (r .cells) ≤ 8 → (c : ℕ) → c < length (r .cells) → getD numbers (j * 9 + 1 + c) 0 ≡ getD (r .cells) c 0
+  pub row-cell : length (r .cells) ≤ maxColumns → (c : ℕ) → c < length (r .cells) → getD numbers (j * rowWidth + 1 + c) 0 ≡ getD (r .cells) c 0
   row-cell short c h =
-      let e : j * 9 + 1 + c ≡ j * 9 + suc c = omega arith in
+      let e : j * rowWidth + 1 + c ≡ j * rowWidth + suc c = omega arith in
       ap (λ n. getD numbers n 0) e
-      ∙ block-get 9 (j * 9) (suc c) numbers (rowNumbers r) (b .is) (omega (arith, h, short))
-      ∙ padded (r .cells) 65535 c h short
+      ∙ block-get rowWidth (j * rowWidth) (suc c) numbers (rowNumbers r) (b .is) (omega (arith, h, short))
+      ∙ padded (r .cells) unused c h short
 
-  pub row-within : suc j * 9 ≤ length numbers
-  row-within = omega (arith, ap length (b .is), row-wide r, length-take 9 (drop (j * 9) numbers), length-drop (j * 9) numbers)
+  pub row-within : suc j * rowWidth ≤ length numbers
+  row-within = omega (arith, ap length (b .is), row-wide r, length-take rowWidth (drop (j * rowWidth) numbers), length-drop (j * rowWidth) numbers)
 
 pub map-at : (σ : Assignment) (vs : List ℕ) (c : ℕ) → c < length vs → getD (map σ vs) c 0 ≡ σ (getD vs c 0)
 map-at σ [] c h = absurd (not-suc-le-zero h)

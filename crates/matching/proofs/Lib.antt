@@ -1,4 +1,5 @@
 pub mod Bytes
+pub mod Parts
 pub mod Grown
 pub mod HeadKey
 pub mod Columns

@@ -6,13 +6,13 @@ use lib.Seq.{drop-cons, getD-set-same, getD-set-other, set-out}
 use mathlib.Core.Bool.{cond}
 use mathlib.Core.List.{List, [], _∷_, _++_, foldl, append-assoc}
 use mathlib.Core.Logic.{_⊎_, inl, inr, ⊎-elim}
-use mathlib.Core.Path.{_≡_, refl, sym, ap, _∙_}
+use mathlib.Core.Path.{_≡_, refl, sym, _∙_}
 use native.Mathlib.Decide.{ℕ-discrete, decLt}
 use native.Mathlib.Nat.{sub-zero}
 use native.Mathlib.Numerals.{add-one}
 use native.Mathlib.Omega.{arith}
-use Prim.Native.Nat.{ℕ, zero, suc, _+_, _*_, _-_, _≤_, _<_, zero-le}
-use Rattle.meaning.specs.Limits.{unused}
+use Prim.Native.Nat.{ℕ, suc, _+_, _*_, _-_, _≤_, _<_, zero-le}
+use Rattle.meaning.specs.Limits.{atomWidth, maxValues, maxVariables, unused}
 use Rattle.sets.proofs.Cases.{case-on}
 use Rattle.matching.specs.Plan.{markOf, marked, variablesAt, variablesFrom}
 
@@ -20,7 +20,7 @@ pub noted-first : (x : ℕ) → x ≡ 0 → 1 ≡ markOf x
 unfolding markOf
 noted-first x e = rw (eq-eqb _ _ e)
 
-pub noted-again : (x : ℕ) → (x ≡ 0 → ⊥) → 65535 ≡ markOf x
+pub noted-again : (x : ℕ) → (x ≡ 0 → ⊥) → unused ≡ markOf x
 unfolding markOf
 noted-again x n = rw (ne-eqb _ _ n)
 
@@ -51,9 +51,9 @@ foldl-append f b (x ∷ xs) ys = foldl-append f (f b x) xs ys
 -- the variables of the first j atoms are marked
 pub record Freshening (atoms : List ℕ) (count : ℕ) (vars : List ℕ) (j : ℕ) (seen : List ℕ) : Type 0 where
   pub within : j ≤ count
-  pub is : foldl marked seen (variablesFrom atoms j (count - j) ++ vars) ≡ foldl marked (replicate 16 0) (variablesFrom atoms 0 count ++ vars)
+  pub is : foldl marked seen (variablesFrom atoms j (count - j) ++ vars) ≡ foldl marked (replicate maxVariables 0) (variablesFrom atoms 0 count ++ vars)
 
-pub fresh-start : (atoms : List ℕ) (count : ℕ) (vars : List ℕ) → Freshening atoms count vars 0 (replicate 16 0)
+pub fresh-start : (atoms : List ℕ) (count : ℕ) (vars : List ℕ) → Freshening atoms count vars 0 (replicate maxVariables 0)
 fresh-start atoms count vars = record { within = zero-le; is = rw sub-zero }
 
 from-next : (atoms : List ℕ) (j n : ℕ) → variablesFrom atoms j (suc n) ≡ variablesAt atoms j ++ variablesFrom atoms (suc j) n
@@ -65,7 +65,7 @@ unfolding variablesFrom
 from-none atoms j = refl
 
 module _ {atoms : List ℕ} {count : ℕ} {vars : List ℕ} {j : ℕ} {seen : List ℕ} (m : Freshening atoms count vars j seen) where
-  pub fresh-again : j < count → (a k : ℕ) → a ≡ j * 10 + 2 → k ≡ getD atoms (j * 10 + 1) 0 → (seen′ : List ℕ) → seen′ ≡ foldl marked seen (take (a + k - a) (drop a atoms))
+  pub fresh-again : j < count → (a k : ℕ) → a ≡ j * atomWidth + 2 → k ≡ getD atoms (j * atomWidth + 1) 0 → (seen′ : List ℕ) → seen′ ≡ foldl marked seen (take (a + k - a) (drop a atoms))
       → Freshening atoms count vars (j + 1) seen′
   fresh-again h a k p q seen′ e =
       let c : a + k - a ≡ k = omega arith in
@@ -77,7 +77,7 @@ module _ {atoms : List ℕ} {count : ℕ} {vars : List ℕ} {j : ℕ} {seen : Li
             (rw (n, add-one) at (m .is));
       }
 
-  pub fresh-done : count ≤ j → (r : List ℕ) → r ≡ foldl marked seen vars → r ≡ foldl marked (replicate 16 0) (variablesFrom atoms 0 count ++ vars)
+  pub fresh-done : count ≤ j → (r : List ℕ) → r ≡ foldl marked seen vars → r ≡ foldl marked (replicate maxVariables 0) (variablesFrom atoms 0 count ++ vars)
   fresh-done h r e = let n : count - j ≡ 0 = omega arith in e ∙ rw (n, from-none) at (m .is)
 
 -- ---- what a mark says
@@ -99,11 +99,11 @@ unfolding markOf
 mark-more x n = rw (ne-eqb _ _ n)
 
 module _ (v : ℕ) where
-  pub marks-small : (seen l : List ℕ) → ((getD seen v 0 ≡ unused → ⊥) → getD seen v 0 < 256) → (getD (foldl marked seen l) v 0 ≡ unused → ⊥) → getD (foldl marked seen l) v 0 < 256
+  pub marks-small : (seen l : List ℕ) → ((getD seen v 0 ≡ unused → ⊥) → getD seen v 0 < maxValues) → (getD (foldl marked seen l) v 0 ≡ unused → ⊥) → getD (foldl marked seen l) v 0 < maxValues
   marks-small seen [] s b = s b
   marks-small seen (x ∷ l) s b = marks-small (marked seen x) l (λ n. go n (ℕ-discrete v x) (decLt x (length seen))) b
     where
-      go : (getD (marked seen x) v 0 ≡ unused → ⊥) → Dec (v ≡ x) → Dec (x < length seen) → getD (marked seen x) v 0 < 256
+      go : (getD (marked seen x) v 0 ≡ unused → ⊥) → Dec (v ≡ x) → Dec (x < length seen) → getD (marked seen x) v 0 < maxValues
       go n (yes e) (yes h) =
           let q : getD (marked seen x) v 0 ≡ markOf (getD seen x 0) = rw e (getD-set-same seen x (markOf (getD seen x 0)) 0 h) in
           ⊎-elim (λ c. omega (arith, q, c)) (λ c. absurd (n (q ∙ c))) (mark-cases (getD seen x 0))

@@ -4,7 +4,7 @@ use borrow.Author.Tests.{eq-eqb, ne-eqb, eqb-false}
 use lib.Dec.{eqb}
 use lib.Seq.{ext-getD}
 use lib.ListN.{length, getD, take, replicate}
-use mathlib.Core.List.{List, [], _∷_, _++_, map, foldl, Memᴰ·map as ∈-map}
+use mathlib.Core.List.{List, _++_, map, foldl, Memᴰ·map as ∈-map}
 use mathlib.Core.Logic.{_↔_}
 use mathlib.Core.Path.{_≡_, refl, sym, ap, _∙_, subst}
 use native.Mathlib.Decide.{ℕ-discrete}
@@ -12,7 +12,7 @@ use native.Mathlib.Nat.{mod-eq-of-lt}
 use native.Mathlib.Omega.{arith}
 use Prim.Native.Nat.{ℕ, zero, suc, _+_, _*_, _%_, _≤_, _<_, zero-le}
 use Rattle.meaning.specs.Core.{Assignment, Matches, rowOf}
-use Rattle.meaning.specs.Limits.{unused}
+use Rattle.meaning.specs.Limits.{atomWidth, maxValues, maxVariables, rowWidth, unused}
 use Rattle.meaning.specs.Member.{_∈_}
 use Rattle.meaning.specs.Pack.{Row, Atom}
 use Rattle.meaning.specs.Tables.{packed, rowNumbers}
@@ -50,44 +50,44 @@ pick-second (no n) x y f = refl
 module _ {rows : List Row} {atoms : List Atom} {vars rowN atomN : List ℕ} {count : ℕ} {varN : List ℕ} {varCount : ℕ}
     (h : RuleHeld rows atoms vars rowN atomN count varN varCount) where
   -- atom j, and the place of an atom
-  pub atom-at : (j : ℕ) → j < count → (a : Atom) × (a ∈ atoms) × BlockAt 10 atomNumbers atom-wide atomN j a
-  atom-at j l = block-at 10 atomNumbers atom-wide atoms atomN (h .atomsHeld .are) j (rw (h .atomsCounted) at l)
+  pub atom-at : (j : ℕ) → j < count → (a : Atom) × (a ∈ atoms) × BlockAt atomWidth atomNumbers atom-wide atomN j a
+  atom-at j l = block-at atomWidth atomNumbers atom-wide atoms atomN (h .atomsHeld .are) j (rw (h .atomsCounted) at l)
 
-  pub atom-of : (a : Atom) → a ∈ atoms → (j : ℕ) × (j < count) × BlockAt 10 atomNumbers atom-wide atomN j a
-  atom-of a m = let r = block-of 10 atomNumbers atom-wide atoms atomN (h .atomsHeld .are) a m in (r .0, rw (h .atomsCounted) (r .1), r .2)
+  pub atom-of : (a : Atom) → a ∈ atoms → (j : ℕ) × (j < count) × BlockAt atomWidth atomNumbers atom-wide atomN j a
+  atom-of a m = let r = block-of atomWidth atomNumbers atom-wide atoms atomN (h .atomsHeld .are) a m in (r .0, rw (h .atomsCounted) (r .1), r .2)
 
-  pub rows-long : length rowN ≡ length rows * 9
-  rows-long = ap length (h .rowsHeld .are) ∙ flat-length 9 rowNumbers row-wide rows
+  pub rows-long : length rowN ≡ length rows * rowWidth
+  rows-long = ap length (h .rowsHeld .are) ∙ flat-length rowWidth rowNumbers row-wide rows
 
-  pub row-at : (r : ℕ) → suc r * 9 ≤ length rowN → (x : Row) × (x ∈ rows) × BlockAt 9 rowNumbers row-wide rowN r x
-  row-at r l = block-at 9 rowNumbers row-wide rows rowN (whole 9 rowNumbers row-wide rows rowN (h .rowsHeld .are)) r (omega (arith, l, rows-long))
+  pub row-at : (r : ℕ) → suc r * rowWidth ≤ length rowN → (x : Row) × (x ∈ rows) × BlockAt rowWidth rowNumbers row-wide rowN r x
+  row-at r l = block-at rowWidth rowNumbers row-wide rows rowN (whole rowWidth rowNumbers row-wide rows rowN (h .rowsHeld .are)) r (omega (arith, l, rows-long))
 
-  pub row-of : (x : Row) → x ∈ rows → (r : ℕ) × (r < length rows) × BlockAt 9 rowNumbers row-wide rowN r x
-  row-of x m = block-of 9 rowNumbers row-wide rows rowN (whole 9 rowNumbers row-wide rows rowN (h .rowsHeld .are)) x m
+  pub row-of : (x : Row) → x ∈ rows → (r : ℕ) × (r < length rows) × BlockAt rowWidth rowNumbers row-wide rowN r x
+  row-of x m = block-of rowWidth rowNumbers row-wide rows rowN (whole rowWidth rowNumbers row-wide rows rowN (h .rowsHeld .are)) x m
 
-  module _ (orders : List ℕ) {start : List ℕ} (s : start ≡ foldl marked (replicate 16 0) (variablesFrom orders 0 count ++ take varCount varN)) where
+  module _ (orders : List ℕ) {start : List ℕ} (s : start ≡ foldl marked (replicate maxVariables 0) (variablesFrom orders 0 count ++ take varCount varN)) where
     pub start-bindings : Bindings start
     start-bindings = record {
-      long = ap length s ∙ marks-long (replicate 16 0) (variablesFrom orders 0 count ++ take varCount varN);
-      small = λ v b. rw s (marks-small v (replicate 16 0) (variablesFrom orders 0 count ++ take varCount varN) (λ n. omega (arith, zeros 16 v)) (rw s at b));
+      long = ap length s ∙ marks-long (replicate maxVariables 0) (variablesFrom orders 0 count ++ take varCount varN);
+      small = λ v b. rw s (marks-small v (replicate maxVariables 0) (variablesFrom orders 0 count ++ take varCount varN) (λ n. omega (arith, zeros maxVariables v)) (rw s at b));
     }
 
-  module _ {orders start cands counts : List ℕ} (t : SameVariables atomN orders count) (s : start ≡ foldl marked (replicate 16 0) (variablesFrom orders 0 count ++ take varCount varN))
+  module _ {orders start cands counts : List ℕ} (t : SameVariables atomN orders count) (s : start ≡ foldl marked (replicate maxVariables 0) (variablesFrom orders 0 count ++ take varCount varN))
       (p : Prepared rowN atomN orders start count cands counts) where
-    once : (v : ℕ) → v < 16 → Bound start v → times v (variablesFrom orders 0 count) + times v (take varCount varN) ≤ 1
+    once : (v : ℕ) → v < maxVariables → Bound start v → times v (variablesFrom orders 0 count) + times v (take varCount varN) ≤ 1
     once v l b =
-        let o = marks-once v (replicate 16 0) (variablesFrom orders 0 count ++ take varCount varN) l (rw s at b) in
+        let o = marks-once v (replicate maxVariables 0) (variablesFrom orders 0 count ++ take varCount varN) l (rw s at b) in
         omega (arith, o .once, times-append v (variablesFrom orders 0 count) (take varCount varN))
 
     -- an atom's variables, as the numbers hold them
     own-is : (j : ℕ) (l : j < count) → variablesAt atomN j ≡ atom-at j l .0 .variables
     own-is j l = let a = atom-at j l in atom-variables (a .2) (h .short (a .0) (a .1))
 
-    own-below : (j : ℕ) → j < count → (v : ℕ) → v ∈ variablesAt atomN j → v < 16
+    own-below : (j : ℕ) → j < count → (v : ℕ) → v ∈ variablesAt atomN j → v < maxVariables
     own-below j l v m = let a = atom-at j l in h .variables (a .0) (a .1) v (subst (λ (l : List ℕ). v ∈ l) (own-is j l) m)
 
     -- a variable that occurs twice matters
-    often-open : (v : ℕ) → v < 16 → 2 ≤ times v (variablesFrom orders 0 count) + times v (take varCount varN) → getD start v 0 ≡ unused
+    often-open : (v : ℕ) → v < maxVariables → 2 ≤ times v (variablesFrom orders 0 count) + times v (take varCount varN) → getD start v 0 ≡ unused
     often-open v l o = go (ℕ-discrete (getD start v 0) unused)
       where
         go : Dec (getD start v 0 ≡ unused) → getD start v 0 ≡ unused
@@ -115,16 +115,16 @@ module _ {rows : List Row} {atoms : List Atom} {vars rowN atomN : List ℕ} {cou
 
     module _ {k : ℕ} (g : HeadKey rows atoms vars k) where
       abbrev σ : Assignment
-      σ v = g .values v % 256
+      σ v = g .values v % maxValues
 
       matched : (a : Atom) → a ∈ atoms → rowOf (g .values) a ∈ rows
       unfolding Matches
       matched a m = g .matches a m
 
-      byte : (a : Atom) → a ∈ atoms → (v : ℕ) → v ∈ a .variables → g .values v < 256
+      byte : (a : Atom) → a ∈ atoms → (v : ℕ) → v ∈ a .variables → g .values v < maxValues
       byte a m v i = h .values (rowOf (g .values) a) (matched a m) (g .values v) (∈-map (g .values) i)
 
-      found-small : (v : ℕ) → masked start σ v < 256
+      found-small : (v : ℕ) → masked start σ v < maxValues
       found-small v = case-on (eqb (getD start v 0) unused) (λ e. rw e (omega arith)) (λ e. rw e (start-bindings orders s .small v (eqb-false (getD start v 0) unused e)))
 
       found-fits : (j : ℕ) → j < count → stacked (map (masked start σ) (variablesAt orders j)) ∈ candidatesAt cands counts j
@@ -133,7 +133,7 @@ module _ {rows : List Row} {atoms : List Atom} {vars rowN atomN : List ℕ} {cou
           let x = row-of (rowOf (g .values) (a .0)) (matched (a .0) (a .1)) in
           let short = h .short (a .0) (a .1) in
           let long : length (map (g .values) (a .0 .variables)) ≡ length (a .0 .variables) = map-long (g .values) (a .0 .variables) in
-          let cell : (c : ℕ) → c < length (a .0 .variables) → getD rowN (x .0 * 9 + 1 + c) 0 ≡ σ (getD (a .0 .variables) c 0) =
+          let cell : (c : ℕ) → c < length (a .0 .variables) → getD rowN (x .0 * rowWidth + 1 + c) 0 ≡ σ (getD (a .0 .variables) c 0) =
           λ c u. row-cell (x .2) (omega (arith, long, short)) c (omega (arith, long, u)) ∙ map-at (g .values) (a .0 .variables) c u
           ∙ sym (mod-eq-of-lt (byte (a .0) (a .1) _ (∈-at (a .0 .variables) c u))) in
           p .list j l .members _ .1 (record {
@@ -166,7 +166,7 @@ module _ {rows : List Row} {atoms : List Atom} {vars rowN atomN : List ℕ} {cou
       record RowThere (j : ℕ) (τ : Assignment) : Type 0 where
         row : Row
         member : row ∈ rows
-        relation-is : row .relation ≡ getD atomN (j * 10) 0
+        relation-is : row .relation ≡ getD atomN (j * atomWidth) 0
         cells : row .cells ≡ map τ (variablesAt atomN j)
         agree : (v : ℕ) → v ∈ variablesAt atomN j → getD start v 0 ≡ unused → τ v ≡ g .values v
 
@@ -187,14 +187,14 @@ module _ {rows : List Row} {atoms : List Atom} {vars rowN atomN : List ℕ} {cou
           let x = row-at (d .index) (d .within) in
           let own = own-is j l in
           let short = h .short (a .0) (a .1) in
-          let rel : x .0 .relation ≡ getD atomN (j * 10) 0 = sym (row-relation (x .2)) ∙ d .relation-is in
+          let rel : x .0 .relation ≡ getD atomN (j * atomWidth) 0 = sym (row-relation (x .2)) ∙ d .relation-is in
           let long : length (x .0 .cells) ≡ length (a .0 .variables) = h .arities (x .0) (x .1) (a .0) (a .1) (rel ∙ atom-relation (a .2) short) in
           let size : length (variablesAt atomN j) ≡ length (a .0 .variables) = ap length own in
           let cell : (c : ℕ) → c < length (variablesAt atomN j) → getD (x .0 .cells) c 0 ≡ d .values (getD (variablesAt atomN j) c 0) =
           λ c u. sym (row-cell (x .2) (omega (arith, long, short)) c (omega (arith, u, size, long))) ∙ d .cells c u in
-          let small : (v : ℕ) → v ∈ variablesAt atomN j → d .values v < 256 =
+          let small : (v : ℕ) → v ∈ variablesAt atomN j → d .values v < maxValues =
           λ v m. let q = ∈-index m in
-          subst (λ w. d .values w < 256) (q .2) (subst (λ y. y < 256) (cell (q .0) (q .1)) (h .values (x .0) (x .1) _ (∈-at (x .0 .cells) (q .0) (omega (arith, q .1, size, long))))) in (
+          subst (λ w. d .values w < maxValues) (q .2) (subst (λ y. y < maxValues) (cell (q .0) (q .1)) (h .values (x .0) (x .1) _ (∈-at (x .0 .cells) (q .0) (omega (arith, q .1, size, long))))) in (
             d .values,
             record {
               row = x .0;
@@ -207,7 +207,7 @@ module _ {rows : List Row} {atoms : List Atom} {vars rowN atomN : List ℕ} {cou
             },
           )
         where
-          masked-small : (ρ : Assignment) (v : ℕ) → ρ v < 256 → masked start ρ v < 256
+          masked-small : (ρ : Assignment) (v : ℕ) → ρ v < maxValues → masked start ρ v < maxValues
           masked-small ρ v b = case-on (eqb (getD start v 0) unused) (λ e. rw e b) (λ e. rw e (start-bindings orders s .small v (eqb-false (getD start v 0) unused e)))
 
       -- one assignment for the atoms from i on

@@ -1,13 +1,13 @@
 -- Laws of trying an atom's candidate rows one after the other. Assumes nothing.
 use lib.ListN.{length, getD, take, drop, length-take, length-drop}
 use lib.Seq.{getD-take, getD-drop}
-use mathlib.Core.List.{List, [], _∷_, map}
+use mathlib.Core.List.{List, map}
 use mathlib.Core.Logic.{_⊎_, _↔_, inl, inr, ⊎-elim}
 use mathlib.Core.Path.{_≡_, refl, sym, ap, _∙_, subst}
 use native.Mathlib.Decide.{ℕ-discrete}
 use native.Mathlib.Nat.{mod-eq-of-lt}
 use native.Mathlib.Omega.{arith}
-use Prim.Native.Nat.{ℕ, suc, _+_, _*_, _-_, _%_, _^_, _≤_, _<_}
+use Prim.Native.Nat.{ℕ, _+_, _*_, _-_, _%_, _^_, _≤_, _<_}
 use Rattle.meaning.specs.Core.{Assignment}
 use Rattle.meaning.specs.Member.{_∈_}
 use Rattle.meaning.specs.Ordered.{InOrder}
@@ -18,27 +18,28 @@ use Rattle.matching.specs.declared.spans.Span.{Span}
 use Rattle.matching.proofs.Bytes.{∈-index, map-same}
 use Rattle.matching.proofs.Columns.{Small, Columns, columns-forth, columns-back}
 use Rattle.matching.proofs.Grown.{grown-same, grown-iff, over-iff, grown-more, over-more}
+use Rattle.meaning.specs.Limits.{atomWidth, maxRows, maxValues, maxVariables}
 
 module _ {atoms : List ℕ} {count : ℕ} {vars cands counts : List ℕ} (p : Plan atoms count vars cands counts) {at : ℕ} (l : at < count) where
-  pub own-length : length (variablesAt atoms at) ≡ getD atoms (at * 10 + 1) 0
-  own-length = omega (arith, p .few, p .long, p .arity at l, length-take (getD atoms (at * 10 + 1) 0) (drop (at * 10 + 2) atoms), length-drop (at * 10 + 2) atoms)
+  pub own-length : length (variablesAt atoms at) ≡ getD atoms (at * atomWidth + 1) 0
+  own-length = omega (arith, p .few, p .long, p .arity at l, length-take (getD atoms (at * atomWidth + 1) 0) (drop (at * atomWidth + 2) atoms), length-drop (at * atomWidth + 2) atoms)
 
-  pub own-at : (c : ℕ) → c < getD atoms (at * 10 + 1) 0 → getD (variablesAt atoms at) c 0 ≡ getD atoms (at * 10 + 2 + c) 0
-  own-at c h = getD-take (getD atoms (at * 10 + 1) 0) (drop (at * 10 + 2) atoms) c 0 h ∙ getD-drop (at * 10 + 2) atoms c 0
+  pub own-at : (c : ℕ) → c < getD atoms (at * atomWidth + 1) 0 → getD (variablesAt atoms at) c 0 ≡ getD atoms (at * atomWidth + 2 + c) 0
+  own-at c h = getD-take (getD atoms (at * atomWidth + 1) 0) (drop (at * atomWidth + 2) atoms) c 0 h ∙ getD-drop (at * atomWidth + 2) atoms c 0
 
-  pub own-small : (c : ℕ) → c < getD atoms (at * 10 + 1) 0 → getD atoms (at * 10 + 2 + c) 0 < 16
+  pub own-small : (c : ℕ) → c < getD atoms (at * atomWidth + 1) 0 → getD atoms (at * atomWidth + 2 + c) 0 < maxVariables
   own-small c h = rw (← (own-at c h)) (p .variables at l .below _ (∈-at (variablesAt atoms at) c (omega (arith, own-length))))
 
   pub rows-length : length (candidatesAt cands counts at) ≡ getD counts at 0
-  rows-length = omega (arith, p .few, p .room, p .counted at l, length-take (getD counts at 0) (drop (at * 1024) cands), length-drop (at * 1024) cands)
+  rows-length = omega (arith, p .few, p .room, p .counted at l, length-take (getD counts at 0) (drop (at * maxRows) cands), length-drop (at * maxRows) cands)
 
-  pub row-at : (r : ℕ) → r < getD counts at 0 → getD (candidatesAt cands counts at) r 0 ≡ getD cands (at * 1024 + r) 0
-  row-at r h = getD-take (getD counts at 0) (drop (at * 1024) cands) r 0 h ∙ getD-drop (at * 1024) cands r 0
+  pub row-at : (r : ℕ) → r < getD counts at 0 → getD (candidatesAt cands counts at) r 0 ≡ getD cands (at * maxRows + r) 0
+  row-at r h = getD-take (getD counts at 0) (drop (at * maxRows) cands) r 0 h ∙ getD-drop (at * maxRows) cands r 0
 
-  pub row-in : (r : ℕ) → r < getD counts at 0 → getD cands (at * 1024 + r) 0 ∈ candidatesAt cands counts at
+  pub row-in : (r : ℕ) → r < getD counts at 0 → getD cands (at * maxRows + r) 0 ∈ candidatesAt cands counts at
   row-in r h = subst (λ x. x ∈ candidatesAt cands counts at) (row-at r h) (∈-at (candidatesAt cands counts at) r (omega (arith, rows-length)))
 
-  pub row-small : (r : ℕ) → r < getD counts at 0 → getD cands (at * 1024 + r) 0 < 256 ^ length (variablesAt atoms at)
+  pub row-small : (r : ℕ) → r < getD counts at 0 → getD cands (at * maxRows + r) 0 < maxValues ^ length (variablesAt atoms at)
   row-small r h = p .small at l _ (row-in r h)
 
   pub span-counted : {s : Span} {env : List ℕ} → SpanOf s (variablesAt atoms at) env (candidatesAt cands counts at) → {r : ℕ} → r < s .to → r < getD counts at 0
@@ -55,11 +56,11 @@ module _ (atoms : List ℕ) (count : ℕ) (vars cands counts : List ℕ) (at : �
 
   one : Bindings env → AllBound vars env → at ≡ count → (k : ℕ) → k ≡ packed (map (bindingOf env) vars) → Solution atoms count vars cands counts at env k
   one g b e k q = record {
-    values = λ v. getD env v 0 % 256;
+    values = λ v. getD env v 0 % maxValues;
     small = λ v. omega arith;
     extends = record { at = λ v h. mod-eq-of-lt (g .small v h) };
     fits = λ j h i. absurd (omega arith);
-    is = q ∙ ap packed (map-same (bindingOf env) (λ v. getD env v 0 % 256) vars (λ v m. sym (mod-eq-of-lt (g .small v (b v m)))));
+    is = q ∙ ap packed (map-same (bindingOf env) (λ v. getD env v 0 % maxValues) vars (λ v m. sym (mod-eq-of-lt (g .small v (b v m)))));
   }
 
   pub leaf-iff : Bindings env → Reaches atoms count vars cands counts at env → at ≡ count → (k : ℕ)
@@ -80,7 +81,7 @@ module _ (atoms : List ℕ) (count : ℕ) (vars cands counts : List ℕ) (at : �
     pub index : ℕ
     pub before : index < r
     pub counted : index < getD counts at 0
-    pub is : getD cands (at * 1024 + index) 0 ≡ stacked (map (solution .values) (variablesAt atoms at))
+    pub is : getD cands (at * maxRows + index) 0 ≡ stacked (map (solution .values) (variablesAt atoms at))
 
   -- the first r candidates are tried: the set in the first m keys has their heads
   pub record Trying (keys₀ : List ℕ) (n r m : ℕ) (keys : List ℕ) : Type 0 where
@@ -106,12 +107,12 @@ module _ {atoms : List ℕ} {count : ℕ} {vars cands counts : List ℕ} (p : Pl
         back k q =
             let f = ∈-index (q .fits at (omega arith) l) in
             let b : f .0 < getD counts at 0 = omega (arith, f .1, rows-length p l) in
-            let e : getD cands (at * 1024 + f .0) 0 ≡ stacked (map (q .values) (variablesAt atoms at)) = sym (row-at p l (f .0) b) ∙ f .2 in
+            let e : getD cands (at * maxRows + f .0) 0 ≡ stacked (map (q .values) (variablesAt atoms at)) = sym (row-at p l (f .0) b) ∙ f .2 in
             let w = s .holds (q .values) (q .small) (q .extends) (f .0) (f .1) (f .2) in
             record { solution = q; index = f .0; before = omega (arith, w .1, h); counted = b; is = e }
 
     -- no assignment that keeps the bindings makes the atom this row
-    pub trying-skip : ((σ : Assignment) → Small σ → Extends env σ → getD cands (at * 1024 + r) 0 ≡ stacked (map σ (variablesAt atoms at)) → ⊥)
+    pub trying-skip : ((σ : Assignment) → Small σ → Extends env σ → getD cands (at * maxRows + r) 0 ≡ stacked (map σ (variablesAt atoms at)) → ⊥)
         → Trying atoms count vars cands counts at env keys₀ n (r + 1) m keys
     trying-skip no-row = record { long = i .long; grown = grown-iff (λ k. (forth k, back k)) (i .grown) }
       where
@@ -122,10 +123,10 @@ module _ {atoms : List ℕ} {count : ℕ} {vars cands counts : List ℕ} (p : Pl
         back k t = go (ℕ-discrete (t .index) r)
           where
             go : Dec (t .index ≡ r) → Tried atoms count vars cands counts at env r k
-            go (yes e) = absurd (no-row (t .solution .values) (t .solution .small) (t .solution .extends) (subst (λ x. getD cands (at * 1024 + x) 0 ≡ stacked (map (t .solution .values) (variablesAt atoms at))) e (t .is)))
+            go (yes e) = absurd (no-row (t .solution .values) (t .solution .small) (t .solution .extends) (subst (λ x. getD cands (at * maxRows + x) 0 ≡ stacked (map (t .solution .values) (variablesAt atoms at))) e (t .is)))
             go (no x) = record { solution = t .solution; index = t .index; before = omega (arith, t .before, x); counted = t .counted; is = t .is }
 
-    module _ (h : r < getD counts at 0) {c rest : ℕ} {next : List ℕ} (w : Columns (variablesAt atoms at) env (getD cands (at * 1024 + r) 0) c rest next) (z : length (variablesAt atoms at) ≤ c) where
+    module _ (h : r < getD counts at 0) {c rest : ℕ} {next : List ℕ} (w : Columns (variablesAt atoms at) env (getD cands (at * maxRows + r) 0) c rest next) (z : length (variablesAt atoms at) ≤ c) where
       deeper : (k : ℕ) → Solution atoms count vars cands counts (at + 1) next k → Tried atoms count vars cands counts at env (r + 1) k
       deeper k s =
           let b = columns-back w z (s .values) (s .extends) in
@@ -160,7 +161,7 @@ module _ {atoms : List ℕ} {count : ℕ} {vars cands counts : List ℕ} (p : Pl
                   inr (record {
                     values = s .values;
                     small = s .small;
-                    extends = columns-forth w z (s .values) (s .small) (s .extends) (subst (λ x. getD cands (at * 1024 + x) 0 ≡ stacked (map (s .values) (variablesAt atoms at))) e (t .is));
+                    extends = columns-forth w z (s .values) (s .small) (s .extends) (subst (λ x. getD cands (at * maxRows + x) 0 ≡ stacked (map (s .values) (variablesAt atoms at))) e (t .is));
                     fits = λ j g u. s .fits j (omega (arith, g)) u;
                     is = s .is;
                   })

@@ -3,12 +3,12 @@
 use lib.Dec.{eqb}
 use lib.ListN.{length, getD, set, take, drop}
 use mathlib.Core.Bool.{Bool, true, false, cond}
-use mathlib.Core.List.{List, [], _∷_, _++_, map, foldl}
+use mathlib.Core.List.{List, [], _∷_, _++_, map}
 use mathlib.Core.Logic.{_≢_, _⊎_, _↔_}
 use mathlib.Core.Path.{_≡_}
 use Prim.Native.Nat.{ℕ, zero, suc, _+_, _*_, _%_, _^_, _≤_, _<_}
 use Rattle.meaning.specs.Core.{Assignment}
-use Rattle.meaning.specs.Limits.{maxRows, unused}
+use Rattle.meaning.specs.Limits.{atomsLength, atomWidth, candidatesLength, keyWidth, maxAtoms, maxColumns, maxRows, maxValues, maxVariables, rowWidth, unused}
 use Rattle.meaning.specs.Member.{_∈_}
 use Rattle.meaning.specs.Ordered.{InOrder, ListOf, Over as OverSet}
 use Rattle.meaning.specs.Tables.{packed}
@@ -18,31 +18,31 @@ use Rattle.matching.specs.declared.spans.Span.{Span}
 use Rattle.matching.specs.declared.keys.Head.{Head}
 use Rattle.matching.specs.declared.keys.Head.the-variants.{Key, Open}
 
--- byte numbers as one number, the first of the lowest weight
+-- value numbers as one number, the first of the lowest weight
 unfoldable pub stacked : List ℕ → ℕ
 stacked [] = 0
-stacked (x ∷ xs) = stacked xs * 256 + x
+stacked (x ∷ xs) = stacked xs * maxValues + x
 
 -- the variables of atom j
 abbrev pub variablesAt : List ℕ → ℕ → List ℕ
-variablesAt atoms j = take (getD atoms (j * 10 + 1) 0) (drop (j * 10 + 2) atoms)
+variablesAt atoms j = take (getD atoms (j * atomWidth + 1) 0) (drop (j * atomWidth + 2) atoms)
 
--- at most eight variables, of the 16
-pub record Variables8 (vars : List ℕ) : Type 0 where
-  pub short : length vars ≤ 8
-  pub below : (v : ℕ) → v ∈ vars → v < 16
+-- variables, as many as a key has room for
+pub record KeyVariables (vars : List ℕ) : Type 0 where
+  pub short : length vars ≤ keyWidth
+  pub below : (v : ℕ) → v ∈ vars → v < maxVariables
 
-abbrev pub Below16 : List ℕ → Type 0
-Below16 vars = (v : ℕ) → v ∈ vars → v < 16
+abbrev pub AreVariables : List ℕ → Type 0
+AreVariables vars = (v : ℕ) → v ∈ vars → v < maxVariables
 
--- ---- bindings of the 16 variables; 65,535 where there is none
+-- ---- bindings of the variables; unused where there is none
 
 abbrev pub Bound : List ℕ → ℕ → Type 0
 Bound env v = getD env v 0 ≢ unused
 
 pub record Bindings (env : List ℕ) : Type 0 where
-  pub long : length env ≡ 16
-  pub small : (v : ℕ) → Bound env v → getD env v 0 < 256
+  pub long : length env ≡ maxVariables
+  pub small : (v : ℕ) → Bound env v → getD env v 0 < maxValues
 
 -- the assignment gives each bound variable its value
 pub record Extends (env : List ℕ) (σ : Assignment) : Type 0 where
@@ -74,7 +74,7 @@ masked start σ v = cond (eqb (getD start v 0) unused) (σ v) (getD start v 0)
 -- ---- the order of an atom's variables: each once, those that earlier atoms have (and have marked) last
 
 unfoldable pub rankBy : ℕ → ℕ → ℕ
-rankBy mark v = cond (eqb mark 0) v (v + 16)
+rankBy mark v = cond (eqb mark 0) v (v + maxVariables)
 
 -- the rank of one of the variables
 pub record Ranked (own seen : List ℕ) (k : ℕ) : Type 0 where
@@ -84,9 +84,9 @@ pub record Ranked (own seen : List ℕ) (k : ℕ) : Type 0 where
 
 -- the variables of these ranks are written for atom j, and those of earlier atoms stay
 pub record Written (orders : List ℕ) (j : ℕ) (ranks orders′ : List ℕ) : Type 0 where
-  pub count : getD orders′ (j * 10 + 1) 0 ≡ length ranks
-  pub variables : (i : ℕ) → i < length ranks → getD orders′ (j * 10 + 2 + i) 0 ≡ getD ranks i 0 % 16
-  pub earlier : (i : ℕ) → i < j * 10 → getD orders′ i 0 ≡ getD orders i 0
+  pub count : getD orders′ (j * atomWidth + 1) 0 ≡ length ranks
+  pub variables : (i : ℕ) → i < length ranks → getD orders′ (j * atomWidth + 2 + i) 0 ≡ getD ranks i 0 % maxVariables
+  pub earlier : (i : ℕ) → i < j * atomWidth → getD orders′ i 0 ≡ getD orders i 0
 
 -- each atom has the same variables in both
 pub record SameVariables (atoms orders : List ℕ) (count : ℕ) : Type 0 where
@@ -110,10 +110,10 @@ columnOf (w ∷ own) v = cond (eqb w v) 0 (suc (columnOf own v))
 pub record FirstColumns (own vars cols : List ℕ) : Type 0 where
   pub are : (i : ℕ) → i < length vars → getD cols i 0 ≡ columnOf own (getD vars i 0)
 
--- the first n columns have bytes, from a place on
+-- the first n columns have values' numbers, from a place on
 pub record ColumnsBytes (rows : List ℕ) (place : ℕ) (cols : List ℕ) (n : ℕ) : Type 0 where
   pub within : (i : ℕ) → i < n → place + getD cols i 0 < length rows
-  pub small : (i : ℕ) → i < n → getD rows (place + getD cols i 0) 0 < 256
+  pub small : (i : ℕ) → i < n → getD rows (place + getD cols i 0) 0 < maxValues
 
 -- the variables' columns, from a place on, have their values under the assignment
 abbrev pub ColumnsAre : List ℕ → ℕ → List ℕ → List ℕ → Assignment → Type 0
@@ -126,34 +126,34 @@ KeyFrom key rows place order cols start = (σ : Assignment) → ColumnsAre rows 
 -- a row of the relation that is the atom's under an assignment, by the key of its values
 pub record Candidate (rows : List ℕ) (relation : ℕ) (own order start : List ℕ) (key : ℕ) : Type 0 where
   pub index : ℕ
-  pub within : suc index * 9 ≤ length rows
-  pub relation-is : getD rows (index * 9) 0 ≡ relation
+  pub within : suc index * rowWidth ≤ length rows
+  pub relation-is : getD rows (index * rowWidth) 0 ≡ relation
   pub values : Assignment
-  pub cells : CellsAre rows (index * 9 + 1) own values
+  pub cells : CellsAre rows (index * rowWidth + 1) own values
   pub is : key ≡ stacked (map (masked start values) order)
 
--- each row of the relation has a byte in each of the atom's columns
+-- each row of the relation has a value's number in each of the atom's columns
 pub record RowsBytes (rows : List ℕ) (relation arity : ℕ) : Type 0 where
-  pub small : (r : ℕ) → suc r * 9 ≤ length rows → getD rows (r * 9) 0 ≡ relation → (c : ℕ) → c < arity → getD rows (r * 9 + 1 + c) 0 < 256
+  pub small : (r : ℕ) → suc r * rowWidth ≤ length rows → getD rows (r * rowWidth) 0 ≡ relation → (c : ℕ) → c < arity → getD rows (r * rowWidth + 1 + c) 0 < maxValues
 
 -- the keys of atom j's candidates
 abbrev pub candidatesAt : List ℕ → List ℕ → ℕ → List ℕ
 candidatesAt cands counts j = take (getD counts j 0) (drop (j * maxRows) cands)
 
--- the atoms' variables are of the 16
+-- the atoms' variables are in bounds
 pub record AtomsBelow (atoms : List ℕ) (count : ℕ) : Type 0 where
-  pub few : count ≤ 3
-  pub long : 30 ≤ length atoms
-  pub arity : (j : ℕ) → j < count → getD atoms (j * 10 + 1) 0 ≤ 8
-  pub variables : (j : ℕ) → j < count → Variables8 (variablesAt atoms j)
+  pub few : count ≤ maxAtoms
+  pub long : atomsLength ≤ length atoms
+  pub arity : (j : ℕ) → j < count → getD atoms (j * atomWidth + 1) 0 ≤ maxColumns
+  pub variables : (j : ℕ) → j < count → KeyVariables (variablesAt atoms j)
 
 abbrev pub AtomsBytes : List ℕ → List ℕ → ℕ → Type 0
-AtomsBytes rows atoms count = (j : ℕ) → j < count → RowsBytes rows (getD atoms (j * 10) 0) (length (variablesAt atoms j))
+AtomsBytes rows atoms count = (j : ℕ) → j < count → RowsBytes rows (getD atoms (j * atomWidth) 0) (length (variablesAt atoms j))
 
 -- each atom's candidates are listed
 pub record Prepared (rows atoms orders start : List ℕ) (count : ℕ) (cands counts : List ℕ) : Type 0 where
   pub counted : (j : ℕ) → j < count → getD counts j 0 ≤ maxRows
-  pub list : (j : ℕ) → j < count → ListOf _<_ (Candidate rows (getD atoms (j * 10) 0) (variablesAt atoms j) (variablesAt orders j) start) (candidatesAt cands counts j)
+  pub list : (j : ℕ) → j < count → ListOf _<_ (Candidate rows (getD atoms (j * atomWidth) 0) (variablesAt atoms j) (variablesAt orders j) start) (candidatesAt cands counts j)
 
 -- an atom of these has no candidate; else nothing is said
 abbrev pub Unmatched : Bool → List ℕ → ℕ → Type 0
@@ -165,20 +165,20 @@ Unmatched false counts count = Unit {0}
 module _ (atoms : List ℕ) (atomCount : ℕ) (vars cands counts : List ℕ) where
   -- what the search supposes
   pub record Plan : Type 0 where
-    pub few : atomCount ≤ 3
-    pub long : 30 ≤ length atoms
-    pub arity : (j : ℕ) → j < atomCount → getD atoms (j * 10 + 1) 0 ≤ 8
-    pub variables : (j : ℕ) → j < atomCount → Variables8 (variablesAt atoms j)
-    pub room : 3072 ≤ length cands
+    pub few : atomCount ≤ maxAtoms
+    pub long : atomsLength ≤ length atoms
+    pub arity : (j : ℕ) → j < atomCount → getD atoms (j * atomWidth + 1) 0 ≤ maxColumns
+    pub variables : (j : ℕ) → j < atomCount → KeyVariables (variablesAt atoms j)
+    pub room : candidatesLength ≤ length cands
     pub counted : (j : ℕ) → j < atomCount → getD counts j 0 ≤ maxRows
-    pub small : (j : ℕ) → j < atomCount → (key : ℕ) → key ∈ candidatesAt cands counts j → key < 256 ^ length (variablesAt atoms j)
+    pub small : (j : ℕ) → j < atomCount → (key : ℕ) → key ∈ candidatesAt cands counts j → key < maxValues ^ length (variablesAt atoms j)
     pub ascending : (j : ℕ) → j < atomCount → InOrder _<_ (candidatesAt cands counts j)
-    pub heads : Variables8 vars
+    pub heads : KeyVariables vars
 
   -- the key of a head, by an assignment that extends the bindings and makes each atom from `at` on a candidate
   pub record Solution (at : ℕ) (env : List ℕ) (k : ℕ) : Type 0 where
     pub values : Assignment
-    pub small : (v : ℕ) → values v < 256
+    pub small : (v : ℕ) → values v < maxValues
     pub extends : Extends env values
     pub fits : (j : ℕ) → at ≤ j → j < atomCount → stacked (map values (variablesAt atoms j)) ∈ candidatesAt cands counts j
     pub is : k ≡ packed (map values vars)
@@ -218,4 +218,4 @@ Settled false vars env set = Unit {0}
 
 pub record SpanOf (s : Span) (vs env keys : List ℕ) : Type 0 where
   pub within : s .to ≤ length keys
-  pub holds : (σ : Assignment) → ((v : ℕ) → σ v < 256) → Extends env σ → (i : ℕ) → i < length keys → getD keys i 0 ≡ stacked (map σ vs) → (s .from ≤ i) × (i < s .to)
+  pub holds : (σ : Assignment) → ((v : ℕ) → σ v < maxValues) → Extends env σ → (i : ℕ) → i < length keys → getD keys i 0 ≡ stacked (map σ vs) → (s .from ≤ i) × (i < s .to)

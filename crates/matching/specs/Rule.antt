@@ -4,7 +4,7 @@ use mathlib.Core.List.{List, _∷_, _++_, flatMap, map}
 use mathlib.Core.Path.{_≡_}
 use Prim.Native.Nat.{ℕ, _*_, _≤_, _<_}
 use Rattle.meaning.specs.Core.{Assignment, Matches}
-use Rattle.meaning.specs.Limits.{maxValues, maxColumns, maxArguments, maxAtoms, maxVariables, maxRows}
+use Rattle.meaning.specs.Limits.{atomWidth, maxAtoms, maxColumns, maxHeadVariables, maxRows, maxValues, maxVariables}
 use Rattle.meaning.specs.Member.{_∈_}
 use Rattle.meaning.specs.Ordered.{ListOf, Over as OverSet}
 use Rattle.meaning.specs.Pack.{Row, Atom}
@@ -12,14 +12,14 @@ use Rattle.meaning.specs.Tables.{RowsHeld, packed}
 use Rattle.matching.specs.declared.Heads.{Heads}
 use Rattle.matching.specs.declared.Heads.the-variants.{Listed, Over}
 
--- ---- an atom as ten numbers: its relation, how many variables, and eight variables, 0 where unused
+-- ---- an atom as numbers: its relation, how many variables, and these, 0 where there is none
 
 abbrev pub atomNumbers : Atom → List ℕ
 atomNumbers a = a .relation ∷ length (a .variables) ∷ take maxColumns (a .variables ++ replicate maxColumns 0)
 
 -- The first numbers are those of the atoms, one after another.
 pub record AtomsHeld (atoms : List Atom) (numbers : List ℕ) : Type 0 where
-  pub are : take (length atoms * 10) numbers ≡ flatMap atomNumbers atoms
+  pub are : take (length atoms * atomWidth) numbers ≡ flatMap atomNumbers atoms
 
 -- ---- the heads
 
@@ -35,7 +35,7 @@ pub record RuleHeld (rows : List Row) (atoms : List Atom) (vars : List ℕ) (row
   pub atomsHeld : AtomsHeld atoms atomNumbers
   pub atomsCounted : atomCount ≡ length atoms
   pub varsHeld : take varCount varNumbers ≡ vars
-  pub varsCounted : varCount ≤ maxArguments * 2
+  pub varsCounted : varCount ≤ maxHeadVariables
   pub fewRows : length rows ≤ maxRows
   pub fewAtoms : length atoms ≤ maxAtoms
   pub short : (a : Atom) → a ∈ atoms → length (a .variables) ≤ maxColumns

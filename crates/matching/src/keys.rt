@@ -1,16 +1,18 @@
 // A head's key: the values of its variables, in argument order, as one number.
 use crate::Heads;
-use crate::UNBOUND;
+use meaning::MAX_VARIABLES;
+use meaning::UNUSED;
+use meaning::VALUE_ROOM;
 use sets::ordered;
 use sets::ordered::Found;
 use sets::ordered::Inserted;
 ghost use lib.ListN.{length, take};
 ghost use mathlib.Core.List.{map};
 ghost use mathlib.Core.Path.{_≡_};
-ghost use Prim.Native.Nat.{ℕ, _≤_, _<_};
+ghost use Prim.Native.Nat.{_≤_, _<_};
 ghost use Rattle.meaning.specs.Ordered.{InOrder};
 ghost use Rattle.meaning.specs.Tables.{packed};
-ghost use Rattle.matching.specs.Plan.{Bindings, bindingOf, Grown, Variables8, KeyOf, AllBound, Settled};
+ghost use Rattle.matching.specs.Plan.{Bindings, bindingOf, Grown, KeyVariables, KeyOf, AllBound, Settled};
 
 // What is known of a head.
 pub enum Head {
@@ -19,17 +21,17 @@ pub enum Head {
 }
 
 // The head's key, if all its variables are bound.
-fn head_key(vars: &[u8], env: [u16; 16]) -> Head
-    requires { ⌜ Variables8 (now vars) × Bindings env ⌝ }
+fn head_key(vars: &[u8], env: [u16; MAX_VARIABLES]) -> Head
+    requires { ⌜ KeyVariables (now vars) × Bindings env ⌝ }
     ensures { λ r. ⌜ KeyOf r (now (vars .entry)) env ⌝ }
 {
     let mut key: u64 = 0;
     for i in 0..vars.len() {
         let x = env[vars[i] as usize];
-        if x == UNBOUND {
+        if x == UNUSED {
             return Head::Open;
         }
-        key = key * 256 + x as u64;
+        key = key * VALUE_ROOM + x as u64;
     }
     Head::Key(key)
 }
@@ -47,8 +49,8 @@ fn add_key(keys: &mut [u64], n: usize, x: u64) -> Heads
 }
 
 // Adds the head's key, whose variables are all bound.
-pub fn add_head(vars: &[u8], env: [u16; 16], keys: &mut [u64], n: usize) -> Heads
-    requires { ⌜ Variables8 (now vars) × Bindings env × AllBound (now vars) env × (n ≤ length (now keys)) × InOrder _<_ (take n (now keys)) ⌝ }
+pub fn add_head(vars: &[u8], env: [u16; MAX_VARIABLES], keys: &mut [u64], n: usize) -> Heads
+    requires { ⌜ KeyVariables (now vars) × Bindings env × AllBound (now vars) env × (n ≤ length (now keys)) × InOrder _<_ (take n (now keys)) ⌝ }
     ensures { λ r. ⌜ Grown r (now (keys .entry)) n (λ k. k ≡ packed (map (bindingOf env) (now (vars .entry)))) (now (keys .exit)) ⌝ }
 {
     match head_key(vars, env) {
@@ -58,8 +60,8 @@ pub fn add_head(vars: &[u8], env: [u16; 16], keys: &mut [u64], n: usize) -> Head
 }
 
 // Whether the head's key is known, and in the set.
-pub fn settled(vars: &[u8], env: [u16; 16], set: &[u64]) -> bool
-    requires { ⌜ Variables8 (now vars) × Bindings env × InOrder _<_ (now set) ⌝ }
+pub fn settled(vars: &[u8], env: [u16; MAX_VARIABLES], set: &[u64]) -> bool
+    requires { ⌜ KeyVariables (now vars) × Bindings env × InOrder _<_ (now set) ⌝ }
     ensures { λ r. ⌜ Settled r (now (vars .entry)) env (now (set .entry)) ⌝ }
 {
     match head_key(vars, env) {

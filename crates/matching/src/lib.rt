@@ -11,9 +11,12 @@ use crate::candidates::unmatched;
 use crate::marks::fresh;
 use crate::orders::all_orders;
 use crate::search::add_heads;
+use meaning::ATOMS_LENGTH;
+use meaning::MAX_HEAD_VARIABLES;
 ghost use lib.ListN.{length};
 ghost use Prim.Native.Nat.{_≤_};
 ghost use Rattle.matching.specs.Rule.{RuleGiven, RuleHeads};
+ghost use Rattle.meaning.specs.Limits.{candidatesLength};
 
 // The keys of a rule's heads are listed, so many; or they are more than the slice holds.
 pub enum Heads {
@@ -21,20 +24,17 @@ pub enum Heads {
     Over,
 }
 
-// Stands for no value.
-pub const UNBOUND: u16 = 65535;
-
 // The keys of one rule's heads over all matches of its atoms, ascending at the front of keys.
 pub fn rule_heads(
     rows: &[u16],
-    atoms: [u8; 30],
+    atoms: [u8; ATOMS_LENGTH],
     atom_count: usize,
-    vars: [u8; 8],
+    vars: [u8; MAX_HEAD_VARIABLES],
     var_count: usize,
     keys: &mut [u64],
     work: &mut [u64],
 ) -> Heads
-    requires { ⌜ RuleGiven (now rows) atoms «atom_count» vars «var_count» × (3072 ≤ length (now work)) ⌝ }
+    requires { ⌜ RuleGiven (now rows) atoms «atom_count» vars «var_count» × (candidatesLength ≤ length (now work)) ⌝ }
     ensures { λ r. ⌜ RuleHeads r (now (rows .entry)) atoms «atom_count» vars «var_count» (now (keys .exit)) ⌝ }
 {
     let orders = all_orders(&atoms[..], atom_count, work);

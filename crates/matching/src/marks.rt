@@ -1,25 +1,27 @@
 // The variables that matter: one that occurs once, over the atoms' orders and the head, is bound from the start, and its
 // column counts for nothing.
-use crate::UNBOUND;
-ghost use lib.ListN.{length, replicate};
+ghost use lib.ListN.{replicate};
 ghost use mathlib.Core.List.{foldl, _++_};
 ghost use mathlib.Core.Path.{_≡_};
-ghost use Prim.Native.Nat.{_≤_, _<_};
-ghost use Rattle.matching.specs.Plan.{Below16, AtomsBelow, markOf, marked, variablesFrom};
+ghost use Rattle.matching.specs.Plan.{AreVariables, AtomsBelow, markOf, marked, variablesFrom};
+ghost use Rattle.meaning.specs.Limits.{maxVariables};
+use meaning::ATOM_WIDTH;
+use meaning::MAX_VARIABLES;
+use meaning::UNUSED;
 
-// A variable's mark once it occurs: 1 for the first time, UNBOUND from the second on.
+// A variable's mark once it occurs: 1 for the first time, UNUSED from the second on.
 fn noted(x: u16) -> u16
     ensures { λ r. ⌜ r ≡ markOf x ⌝ }
 {
     if x == 0 {
         return 1;
     }
-    UNBOUND
+    UNUSED
 }
 
 // Marks each variable.
-pub fn mark(seen: [u16; 16], own: &[u8]) -> [u16; 16]
-    requires { ⌜ Below16 (now own) ⌝ }
+pub fn mark(seen: [u16; MAX_VARIABLES], own: &[u8]) -> [u16; MAX_VARIABLES]
+    requires { ⌜ AreVariables (now own) ⌝ }
     ensures { λ r. ⌜ r ≡ foldl marked seen (now (own .entry)) ⌝ }
 {
     let mut marks = seen;
@@ -32,14 +34,14 @@ pub fn mark(seen: [u16; 16], own: &[u8]) -> [u16; 16]
 }
 
 // The bindings that a search starts with.
-pub fn fresh(atoms: &[u8], count: usize, vars: &[u8]) -> [u16; 16]
-    requires { ⌜ AtomsBelow (now atoms) count × Below16 (now vars) ⌝ }
-    ensures { λ r. ⌜ r ≡ foldl marked (replicate 16 0) (variablesFrom (now (atoms .entry)) 0 count ++ now (vars .entry)) ⌝ }
+pub fn fresh(atoms: &[u8], count: usize, vars: &[u8]) -> [u16; MAX_VARIABLES]
+    requires { ⌜ AtomsBelow (now atoms) count × AreVariables (now vars) ⌝ }
+    ensures { λ r. ⌜ r ≡ foldl marked (replicate maxVariables 0) (variablesFrom (now (atoms .entry)) 0 count ++ now (vars .entry)) ⌝ }
 {
-    let mut seen = [0u16; 16];
+    let mut seen = [0u16; MAX_VARIABLES];
     for j in 0..count {
-        let own = j * 10 + 2;
-        let arity = atoms[j * 10 + 1] as usize;
+        let own = j * ATOM_WIDTH + 2;
+        let arity = atoms[j * ATOM_WIDTH + 1] as usize;
         let next = mark(seen, &atoms[own..own + arity]);
         seen = next;
     }

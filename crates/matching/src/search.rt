@@ -1,12 +1,16 @@
 // Every way to match the atoms: each atom in turn is tried against its candidate rows.
 use crate::Heads;
-use crate::UNBOUND;
 use crate::keys::add_head;
 use crate::keys::settled;
 use crate::spans::rows_left;
+use meaning::ATOM_WIDTH;
+use meaning::MAX_ATOMS;
+use meaning::MAX_ROWS;
+use meaning::MAX_VARIABLES;
+use meaning::UNUSED;
+use meaning::VALUE_ROOM;
 ghost use lib.ListN.{length, take};
-ghost use mathlib.Core.Path.{_≡_};
-ghost use Prim.Native.Nat.{ℕ, _≤_, _<_};
+ghost use Prim.Native.Nat.{_≤_, _<_};
 ghost use Rattle.meaning.specs.Ordered.{InOrder};
 ghost use Rattle.matching.specs.Plan.{Bindings, Plan, Reaches, Solution, Grown};
 
@@ -16,9 +20,9 @@ pub fn add_heads(
     atom_count: usize,
     vars: &[u8],
     cands: &[u64],
-    counts: [u16; 3],
+    counts: [u16; MAX_ATOMS],
     at: usize,
-    env: [u16; 16],
+    env: [u16; MAX_VARIABLES],
     keys: &mut [u64],
     n: usize,
 ) -> Heads
@@ -31,9 +35,9 @@ pub fn add_heads(
     if settled(vars, env, &keys[..n]) {
         return Heads::Listed(n);
     }
-    let arity = atoms[at * 10 + 1] as usize;
-    let own = at * 10 + 2;
-    let first = at * 1024;
+    let arity = atoms[at * ATOM_WIDTH + 1] as usize;
+    let own = at * ATOM_WIDTH + 2;
+    let first = at * MAX_ROWS;
     let count = counts[at] as usize;
     let tried = rows_left(&atoms[own..own + arity], env, &cands[first..first + count]);
     let from = tried.from;
@@ -44,14 +48,14 @@ pub fn add_heads(
         let mut next = env;
         for c in 0..arity {
             let v = atoms[own + c] as usize;
-            let x = (rest % 256) as u16;
-            if next[v] != UNBOUND {
+            let x = (rest % VALUE_ROOM) as u16;
+            if next[v] != UNUSED {
                 if next[v] != x {
                     continue 'rows;
                 }
             }
             next[v] = x;
-            rest = rest / 256;
+            rest = rest / VALUE_ROOM;
         }
         match add_heads(
             atoms,

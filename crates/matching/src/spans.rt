@@ -1,10 +1,13 @@
 // The candidate rows that bindings leave: those whose keys lie between two bounds.
-use crate::UNBOUND;
+use meaning::MAX_VARIABLES;
+use meaning::UNUSED;
+use meaning::VALUE_ROOM;
 use sets::ordered;
-ghost use lib.ListN.{length};
-ghost use Prim.Native.Nat.{_≤_, _<_};
+ghost use Prim.Native.Nat.{_<_};
 ghost use Rattle.meaning.specs.Ordered.{InOrder};
-ghost use Rattle.matching.specs.Plan.{Bindings, Variables8, SpanOf};
+ghost use Rattle.matching.specs.Plan.{Bindings, KeyVariables, SpanOf};
+
+const LAST_VALUE: u64 = VALUE_ROOM - 1;
 
 // From one index to before another.
 pub struct Span {
@@ -13,8 +16,8 @@ pub struct Span {
 }
 
 // The rows between the lowest and the highest key that the atom's row can have under the bindings: most often none or one.
-pub fn rows_left(own: &[u8], env: [u16; 16], keys: &[u64]) -> Span
-    requires { ⌜ Variables8 (now own) × Bindings env × InOrder _<_ (now keys) ⌝ }
+pub fn rows_left(own: &[u8], env: [u16; MAX_VARIABLES], keys: &[u64]) -> Span
+    requires { ⌜ KeyVariables (now own) × Bindings env × InOrder _<_ (now keys) ⌝ }
     ensures { λ r. ⌜ SpanOf r (now (own .entry)) env (now (keys .entry)) ⌝ }
 {
     let mut low: u64 = 0;
@@ -23,12 +26,12 @@ pub fn rows_left(own: &[u8], env: [u16; 16], keys: &[u64]) -> Span
     while c > 0 {
         c -= 1;
         let x = env[own[c] as usize];
-        if x == UNBOUND {
-            low = low * 256;
-            high = high * 256 + 255;
+        if x == UNUSED {
+            low = low * VALUE_ROOM;
+            high = high * VALUE_ROOM + LAST_VALUE;
         } else {
-            low = low * 256 + x as u64;
-            high = high * 256 + x as u64;
+            low = low * VALUE_ROOM + x as u64;
+            high = high * VALUE_ROOM + x as u64;
         }
     }
     let from = ordered::rank(keys, low);

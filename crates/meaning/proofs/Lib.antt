@@ -1,4 +1,5 @@
 pub mod Computed
+pub mod Limits
 pub mod Lists
 pub mod Model
 pub mod Multiplicities

@@ -1,13 +1,18 @@
--- The limits of document 01, each named once for the definitions; `src/lib.rt` repeats them for code. Assumes nothing.
-use Prim.Native.Nat.{ℕ}
+-- The limits of document 01 and the lengths that follow from them, each named once for the definitions; `src/lib.rt` has
+-- the same names for code. What the document states as a number and follows from others is computed in
+-- proofs/Computed/Limits.antt. Assumes nothing.
+use Prim.Native.Nat.{ℕ, _*_, _+_, _-_, _^_}
 
 -- ---- "The pack": its size, how many records each body holds, and the bounds of their parts
 
 abbrev pub maxPackBytes : ℕ
 maxPackBytes = 65536
 
-abbrev pub contentsBytes : ℕ  -- nine 32-bit lengths
-contentsBytes = 36
+abbrev pub bodies : ℕ
+bodies = 9
+
+abbrev pub contentsBytes : ℕ  -- a 32-bit length for each body
+contentsBytes = bodies * 4
 
 abbrev pub maxValues : ℕ
 maxValues = 256
@@ -73,14 +78,14 @@ maxOpenBrackets = 16
 abbrev pub unused : ℕ  -- stands in places of a record that hold nothing
 unused = 65535
 
-abbrev pub nodeNumbers : ℕ  -- numbers to a node
-nodeNumbers = 7
+abbrev pub nodeWidth : ℕ  -- numbers to a node
+nodeWidth = 7
 
-abbrev pub tripleNumbers : ℕ  -- numbers to a triple
-tripleNumbers = 3
+abbrev pub tripleWidth : ℕ  -- numbers to a triple
+tripleWidth = 3
 
-abbrev pub pairNumbers : ℕ  -- numbers to a pair
-pairNumbers = 2
+abbrev pub pairWidth : ℕ  -- numbers to a pair
+pairWidth = 2
 
 abbrev pub maxIris : ℕ  -- in the core
 maxIris = 512
@@ -91,16 +96,119 @@ maxCoreTriples = 1024
 abbrev pub maxPairs : ℕ
 maxPairs = 4096
 
--- ---- Refusal 1: the least lengths of the lent lists, in numbers, and the most that a working buffer may ask
+abbrev pub clashWidth : ℕ  -- numbers to the clash of 10: a node, a predicate and two nodes
+clashWidth = nodeWidth + 1 + 2 * nodeWidth
+
+abbrev pub reportLength : ℕ  -- numbers to an exported report: two counts, an answer and a clash
+reportLength = 3 + clashWidth
+
+abbrev pub termLength : ℕ  -- numbers to a term read back: its constructor and its arguments
+termLength = 1 + maxArguments
+
+-- ---- The most that a graph holds
+
+abbrev pub typeSets : ℕ  -- sets of types, the empty one included
+typeSets = 2 ^ maxTypes
+
+abbrev pub memberSets : ℕ  -- sets of types and Literal
+memberSets = 2 * typeSets
+
+abbrev pub maxCoreNodes : ℕ  -- IRIs, and a literal for each value
+maxCoreNodes = maxIris + maxValues
+
+abbrev pub maxNodes : ℕ  -- and an invented node for each set of types, the invented literal in the place of the empty one
+maxNodes = maxCoreNodes + typeSets
+
+abbrev pub maxTriples : ℕ  -- those of the core, and one for each IRI or invented node that is no literal, and predicate
+maxTriples = maxCoreTriples + (maxIris + (typeSets - 1)) * maxPredicates
+
+-- ---- The most that a query holds
+
+abbrev pub maxParts : ℕ  -- a part has a byte of its own
+maxParts = maxQueryBytes
+
+abbrev pub maxStates : ℕ  -- a part, or the end, and a node
+maxStates = (maxParts + 1) * maxNodes
+
+-- ---- Refusal 1: the least lengths of the lent lists and buffers, in numbers, and the most that a buffer may ask
 
 abbrev pub nodeListLength : ℕ
-nodeListLength = 7168
+nodeListLength = maxNodes * nodeWidth
 
 abbrev pub tripleListLength : ℕ
-tripleListLength = 30684
+tripleListLength = maxTriples * tripleWidth
 
 abbrev pub pairListLength : ℕ
-pairListLength = 8192
+pairListLength = maxPairs * pairWidth
+
+abbrev pub rowWidth : ℕ  -- numbers to a row: its relation and its cells
+rowWidth = maxColumns + 1
+
+abbrev pub rowsLength : ℕ
+rowsLength = maxRows * rowWidth
+
+abbrev pub maxHeads : ℕ  -- of a rule: as many as the core may have triples
+maxHeads = maxCoreTriples
+
+abbrev pub headsLength : ℕ
+headsLength = maxRules * maxHeads
 
 abbrev pub maxWorkingLength : ℕ
 maxWorkingLength = 1048576
+
+-- ---- Rooms: what each of several numbers that share one number is below
+
+abbrev pub valueRoom : ℕ
+valueRoom = maxValues
+
+abbrev pub termRoom : ℕ  -- a term's arguments
+termRoom = valueRoom ^ maxArguments
+
+abbrev pub firstLiteral : ℕ  -- terms come before: a constructor and its arguments
+firstLiteral = maxConstructors * termRoom
+
+abbrev pub placeRoom : ℕ  -- a node's place in the core
+placeRoom = 1024
+
+abbrev pub predicateRoom : ℕ
+predicateRoom = 16
+
+abbrev pub subjectRoom : ℕ  -- a predicate and an object's place
+subjectRoom = predicateRoom * placeRoom
+
+abbrev pub partRoom : ℕ  -- a part of a query, a place in its text or a length there
+partRoom = maxQueryBytes
+
+abbrev pub multiplicityRoom : ℕ  -- a multiplicity, or 0 for no shape
+multiplicityRoom = 8
+
+-- ---- A set as one number
+
+abbrev pub literalBit : ℕ  -- above those of the types
+literalBit = 15
+
+abbrev pub literalWeight : ℕ
+literalWeight = 2 ^ literalBit
+
+-- ---- Rules as numbers, and matches as keys
+
+abbrev pub headWidth : ℕ  -- numbers to a head: kind, constructors, how many arguments, type or predicate
+headWidth = 6
+
+abbrev pub maxHeadVariables : ℕ  -- the subject's arguments and the object's
+maxHeadVariables = 2 * maxArguments
+
+abbrev pub atomWidth : ℕ  -- numbers to an atom: its relation, how many variables, these
+atomWidth = maxColumns + 2
+
+abbrev pub atomsLength : ℕ
+atomsLength = maxAtoms * atomWidth
+
+abbrev pub keyWidth : ℕ  -- values that a 64-bit number has room for: an atom's, or a head's
+keyWidth = 8
+
+abbrev pub keyRoom : ℕ  -- a key below it has room for one value more
+keyRoom = valueRoom ^ (keyWidth - 1)
+
+abbrev pub candidatesLength : ℕ  -- each atom's candidates, at most one a row
+candidatesLength = maxAtoms * maxRows

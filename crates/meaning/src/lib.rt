@@ -4,7 +4,9 @@ ghost use Rattle.meaning.specs.Pack.{AnswersTest, requires, limits};
 
 pub const MAX_PACK_BYTES: usize = 65536;
 
-pub const CONTENTS_BYTES: usize = 36;
+pub const BODIES: usize = 9;
+
+pub const CONTENTS_BYTES: usize = BODIES * 4;
 
 pub const MAX_VALUES: usize = 256;
 
@@ -46,17 +48,89 @@ pub const MAX_OPEN_BRACKETS: usize = 16;
 
 pub const UNUSED: u16 = 65535;
 
+pub const NODE_WIDTH: usize = 7;
+
+pub const TRIPLE_WIDTH: usize = 3;
+
+pub const PAIR_WIDTH: usize = 2;
+
 pub const MAX_IRIS: usize = 512;
 
 pub const MAX_CORE_TRIPLES: usize = 1024;
 
 pub const MAX_PAIRS: usize = 4096;
 
-pub const NODE_LIST_LENGTH: usize = 7168;
+pub const CLASH_WIDTH: usize = NODE_WIDTH + 1 + 2 * NODE_WIDTH;
 
-pub const TRIPLE_LIST_LENGTH: usize = 30684;
+pub const REPORT_LENGTH: usize = 3 + CLASH_WIDTH;
 
-pub const PAIR_LIST_LENGTH: usize = 8192;
+pub const TERM_LENGTH: usize = 1 + MAX_ARGUMENTS;
+
+pub const TYPE_SETS: usize = 1 << MAX_TYPES;
+
+pub const MEMBER_SETS: usize = 2 * TYPE_SETS;
+
+pub const MAX_CORE_NODES: usize = MAX_IRIS + MAX_VALUES;
+
+pub const MAX_NODES: usize = MAX_CORE_NODES + TYPE_SETS;
+
+pub const MAX_TRIPLES: usize = MAX_CORE_TRIPLES + (MAX_IRIS + (TYPE_SETS - 1)) * MAX_PREDICATES;
+
+pub const MAX_PARTS: usize = MAX_QUERY_BYTES;
+
+pub const MAX_STATES: usize = (MAX_PARTS + 1) * MAX_NODES;
+
+pub const NODE_LIST_LENGTH: usize = MAX_NODES * NODE_WIDTH;
+
+pub const TRIPLE_LIST_LENGTH: usize = MAX_TRIPLES * TRIPLE_WIDTH;
+
+pub const PAIR_LIST_LENGTH: usize = MAX_PAIRS * PAIR_WIDTH;
+
+pub const ROW_WIDTH: usize = MAX_COLUMNS + 1;
+
+pub const ROWS_LENGTH: usize = MAX_ROWS * ROW_WIDTH;
+
+pub const MAX_HEADS: usize = MAX_CORE_TRIPLES;
+
+pub const HEADS_LENGTH: usize = MAX_RULES * MAX_HEADS;
+
+pub const VALUE_ROOM: u64 = MAX_VALUES as u64;
+
+pub const TERM_ROOM: u64 = VALUE_ROOM * VALUE_ROOM * VALUE_ROOM * VALUE_ROOM;
+
+pub const FIRST_LITERAL: u64 = MAX_CONSTRUCTORS as u64 * TERM_ROOM;
+
+pub const PLACE_ROOM: u64 = 1024;
+
+pub const PREDICATE_ROOM: u64 = 16;
+
+pub const SUBJECT_ROOM: u64 = PREDICATE_ROOM * PLACE_ROOM;
+
+pub const PART_ROOM: usize = MAX_QUERY_BYTES;
+
+pub const MULTIPLICITY_ROOM: u16 = 8;
+
+pub const LITERAL_BIT: u16 = 15;
+
+pub const LITERAL_WEIGHT: u16 = 1 << LITERAL_BIT;
+
+pub const HEAD_WIDTH: usize = 6;
+
+pub const MAX_HEAD_VARIABLES: usize = 2 * MAX_ARGUMENTS;
+
+pub const ATOM_WIDTH: usize = MAX_COLUMNS + 2;
+
+pub const ATOMS_LENGTH: usize = MAX_ATOMS * ATOM_WIDTH;
+
+pub const KEY_WIDTH: usize = 8;
+
+pub const CANDIDATES_LENGTH: usize = MAX_ATOMS * MAX_ROWS;
+
+// "Shapes form a table of 8 types by 12 predicates": a cell for each.
+pub type ShapeTable = [[u16; MAX_PREDICATES]; MAX_TYPES];
+
+// The arity of each constructor.
+pub type Arities = [u8; MAX_CONSTRUCTORS];
 
 // A type requires an edge if its multiplicity is 1 or 4.
 pub fn requires_edge(multiplicity: u8) -> bool

@@ -8,6 +8,7 @@ use mathlib.Core.Path.{_≡_, refl, ap, _∙_}
 use native.Mathlib.Nat.{not-suc-le-zero}
 use native.Mathlib.Omega.{arith}
 use Prim.Native.Nat.{ℕ, zero, suc, _+_, _-_, _≤_, _<_}
+use Rattle.meaning.specs.Limits.{maxArguments, maxAtoms, maxPrefixBytes}
 use Rattle.meaning.specs.Tests.{within}
 use Rattle.pack.specs.Kinds.{readerOf, tally}
 use Rattle.pack.specs.Readers.{Read, Reader, give, only, next, _>>=_, byte, byteIn, bytes, sized}
@@ -108,9 +109,9 @@ shrinks-of K.Dependency = bind-shrinks _ byte-shrinks (λ r. bind-keeps _ byte-k
 shrinks-of K.Name = sized-shrinks _ _ _
 shrinks-of K.Shape =
     bind-shrinks _ byte-shrinks (λ t. bind-keeps _ byte-keeps (λ p. bind-keeps _ byte-keeps (λ x. bind-keeps _ (weaker (byteIn-shrinks 1 4)) (λ m. give-keeps _))))
-shrinks-of K.Constructor = bind-shrinks _ (byteIn-shrinks 1 4) (λ k. bind-keeps _ (weaker (sized-shrinks _ 1 32)) (λ p. give-keeps _))
+shrinks-of K.Constructor = bind-shrinks _ (byteIn-shrinks 1 maxArguments) (λ k. bind-keeps _ (weaker (sized-shrinks _ 1 maxPrefixBytes)) (λ p. give-keeps _))
 shrinks-of K.Rule =
-    bind-shrinks _ (byteIn-shrinks 1 3) (λ n. bind-keeps _ (atoms-keeps n) (λ as′. bind-keeps _ (weaker (byteIn-shrinks 0 2)) (λ k. bind-keeps _ (headOf-keeps k) (λ h. give-keeps _))))
+    bind-shrinks _ (byteIn-shrinks 1 maxAtoms) (λ n. bind-keeps _ (atoms-keeps n) (λ as′. bind-keeps _ (weaker (byteIn-shrinks 0 2)) (λ k. bind-keeps _ (headOf-keeps k) (λ h. give-keeps _))))
 shrinks-of K.Row = tuple-shrinks _ _ _
 
 -- ---- the record in front, then the records of the rest

@@ -1,4 +1,4 @@
--- What refusal 4 leaves of a value, a constructor, a row and a rule: lengths, arities and counts in bounds, variables of the 16. Assumes
+-- What refusal 4 leaves of a value, a constructor, a row and a rule: lengths, arities, counts and variables in bounds. Assumes
 -- nothing.
 use borrow.Author.Tests.{leb-true, ltb-true}
 use lib.Dec.{leb}
@@ -9,6 +9,7 @@ use mathlib.Core.Option.{Option, none, some, Option·none-ne-some, Option·some-
 use mathlib.Core.Path.{_≡_, refl, sym, ap, subst, _∙_}
 use native.Mathlib.Omega.{arith}
 use Prim.Native.Nat.{ℕ, zero, suc, _≤_, _<_}
+use Rattle.meaning.specs.Limits.{maxArguments, maxAtoms, maxColumns, maxPrefixBytes, maxValueBytes, maxVariables}
 use Rattle.meaning.specs.Member.{_∈_, here, there}
 use Rattle.meaning.specs.Pack.{Atom, Constructor, Row, Rule, Text}
 use Rattle.meaning.specs.Tests.{within}
@@ -105,15 +106,15 @@ sized-bound ok lo hi s r e =
 
 -- ---- values and constructors
 
-pub value-short : (s : List ℕ) (xs : List Text) → readAll value s ≡ some xs → (x : Text) → x ∈ xs → length x ≤ 64
+pub value-short : (s : List ℕ) (xs : List Text) → readAll value s ≡ some xs → (x : Text) → x ∈ xs → length x ≤ maxValueBytes
 unfolding value
-value-short s xs = read-all value (λ x. length x ≤ 64) (λ t r e. sized-bound _ 0 64 t r e .few) s xs
+value-short s xs = read-all value (λ x. length x ≤ maxValueBytes) (λ t r e. sized-bound _ 0 maxValueBytes t r e .few) s xs
 
 pub record Bounded (k : Constructor) : Type 0 where
   pub some-arguments : 1 ≤ k .arity
-  pub few-arguments : k .arity ≤ 4
+  pub few-arguments : k .arity ≤ maxArguments
   pub some-bytes : 1 ≤ length (k .prefix)
-  pub few-bytes : length (k .prefix) ≤ 32
+  pub few-bytes : length (k .prefix) ≤ maxPrefixBytes
 
 pub constructor-bounded : (s : List ℕ) (ks : List Constructor) → readAll constructor s ≡ some ks → (k : Constructor) → k ∈ ks → Bounded k
 unfolding constructor
@@ -121,34 +122,34 @@ constructor-bounded s ks = read-all constructor Bounded one s ks
   where
     one : (t : List ℕ) (r : Read Constructor) → constructor t ≡ some r → Bounded (r .got)
     one t r e =
-        let a = next-some (byteIn 1 4 t) _ r e in
-        let n = byteIn-bound 1 4 t (a .0) (a .1) in
-        let b = next-some (sized _ 1 32 (a .0 .rest)) _ r (a .2) in
-        let l = sized-bound _ 1 32 (a .0 .rest) (b .0) (b .1) in
+        let a = next-some (byteIn 1 maxArguments t) _ r e in
+        let n = byteIn-bound 1 maxArguments t (a .0) (a .1) in
+        let b = next-some (sized _ 1 maxPrefixBytes (a .0 .rest)) _ r (a .2) in
+        let l = sized-bound _ 1 maxPrefixBytes (a .0 .rest) (b .0) (b .1) in
         subst Bounded (got-is (b .2))
         (record { some-arguments = n .0; few-arguments = n .1; some-bytes = l .some; few-bytes = l .few })
 
 -- ---- atoms
 
 pub record AtomFine (a : Atom) : Type 0 where
-  pub short : length (a .variables) ≤ 8
-  pub below : (v : ℕ) → v ∈ a .variables → v < 16
+  pub short : length (a .variables) ≤ maxColumns
+  pub below : (v : ℕ) → v ∈ a .variables → v < maxVariables
 
 pub atom-fine : (s : List ℕ) (r : Read Atom) → atom s ≡ some r → AtomFine (r .got)
 unfolding atom tuple
 atom-fine s r e =
     let a = next-some (byte s) _ r e in
-    let b = next-some (sized variable 1 8 (a .0 .rest)) _ r (a .2) in
-    let z = sized-bound variable 1 8 (a .0 .rest) (b .0) (b .1) in
-    subst AtomFine (got-is (b .2)) (record { short = z .few; below = λ v m. ltb-true v 16 (z .each v m) })
+    let b = next-some (sized variable 1 maxColumns (a .0 .rest)) _ r (a .2) in
+    let z = sized-bound variable 1 maxColumns (a .0 .rest) (b .0) (b .1) in
+    subst AtomFine (got-is (b .2)) (record { short = z .few; below = λ v m. ltb-true v maxVariables (z .each v m) })
 
-pub row-short : (s : List ℕ) (r : Read Row) → row s ≡ some r → length (r .got .cells) ≤ 8
+pub row-short : (s : List ℕ) (r : Read Row) → row s ≡ some r → length (r .got .cells) ≤ maxColumns
 unfolding row tuple
 row-short s r e =
     let a = next-some (byte s) _ r e in
-    let b = next-some (sized anyByte 1 8 (a .0 .rest)) _ r (a .2) in
-    let z = sized-bound anyByte 1 8 (a .0 .rest) (b .0) (b .1) in
-    subst (λ (x : Row). length (x .cells) ≤ 8) (got-is (b .2)) (z .few)
+    let b = next-some (sized anyByte 1 maxColumns (a .0 .rest)) _ r (a .2) in
+    let z = sized-bound anyByte 1 maxColumns (a .0 .rest) (b .0) (b .1) in
+    subst (λ (x : Row). length (x .cells) ≤ maxColumns) (got-is (b .2)) (z .few)
 
 pub record AtomsFine (n : ℕ) (xs : List Atom) : Type 0 where
   pub many : length xs ≡ n
@@ -170,7 +171,7 @@ atoms-fine (suc n) s r e =
 -- ---- rules
 
 pub record RuleFine (r : Rule) : Type 0 where
-  pub few : length (r .atoms) ≤ 3
+  pub few : length (r .atoms) ≤ maxAtoms
   pub each : (a : Atom) → a ∈ r .atoms → AtomFine a
 
 pub rule-fine : (s : List ℕ) (rs : List Rule) → readAll rule s ≡ some rs → (r : Rule) → r ∈ rs → RuleFine r
@@ -179,8 +180,8 @@ rule-fine s rs = read-all rule RuleFine one s rs
   where
     one : (t : List ℕ) (r : Read Rule) → rule t ≡ some r → RuleFine (r .got)
     one t r e =
-        let a = next-some (byteIn 1 3 t) _ r e in
-        let n = byteIn-bound 1 3 t (a .0) (a .1) in
+        let a = next-some (byteIn 1 maxAtoms t) _ r e in
+        let n = byteIn-bound 1 maxAtoms t (a .0) (a .1) in
         let b = next-some (atoms (a .0 .got) (a .0 .rest)) _ r (a .2) in
         let p = atoms-fine (a .0 .got) (a .0 .rest) (b .0) (b .1) in
         let k = next-some (byteIn 0 2 (b .0 .rest)) _ r (b .2) in

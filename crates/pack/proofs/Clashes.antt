@@ -89,11 +89,11 @@ pub record Listing (key : Key) (s : List ℕ) (c₀ c : Cursor) (starts lens : L
   pub asked : Asked (keyReader key) s c₀ (λ xs. xs) c (λ ys. textsAt s (take n starts) (take n lens) ++ ys)
   pub none : anyTwo (clashes key) (textsAt s (take n starts) (take n lens)) ≡ false
   pub inside : TextsInside s (take n starts) (take n lens)
-  pub few : n ≤ 256
-  pub starts-long : length starts ≡ 256
-  pub lens-long : length lens ≡ 256
+  pub few : n ≤ maxValues
+  pub starts-long : length starts ≡ maxValues
+  pub lens-long : length lens ≡ maxValues
 
-pub listing-start : {key : Key} {s : List ℕ} {c : Cursor} {starts lens : List ℕ} → Placed s c → length starts ≡ 256 → length lens ≡ 256
+pub listing-start : {key : Key} {s : List ℕ} {c : Cursor} {starts lens : List ℕ} → Placed s c → length starts ≡ maxValues → length lens ≡ maxValues
     → Listing key s c c starts lens 0
 unfolding textsAt
 listing-start p g h = record {
@@ -132,7 +132,7 @@ module _ {key : Key} {s : List ℕ} {c₀ c : Cursor} {starts lens : List ℕ} {
         let r = front (keyReader key) (key-shrinks key) (p .asked .placed) (g .got) (q .1) in
         (r .0, ap (λ z. before ++ z) (sym (r .1)) ∙ q .2)
 
-    pub listing-full : {Q : Type 0} → 256 ≤ n → (xs : List Text) → readAll (keyReader key) (left s c₀) ≡ some xs → length xs ≤ 256 → Q
+    pub listing-full : {Q : Type 0} → maxValues ≤ n → (xs : List Text) → readAll (keyReader key) (left s c₀) ≡ some xs → length xs ≤ maxValues → Q
     unfolding before
     listing-full h xs e l =
         let q = next xs e in
@@ -145,7 +145,7 @@ module _ {key : Key} {s : List ℕ} {c₀ c : Cursor} {starts lens : List ℕ} {
         let q = next xs e in
         sym (two-at (clashes key) before (textAt s a m) (q .0) (sym t)) ∙ ap (anyTwo (clashes key)) (q .1)
 
-    module _ (h : n < 256) where
+    module _ (h : n < maxValues) where
       starts-more : take (n + 1) (set starts n a) ≡ take n starts ++ a ∷ []
       starts-more = rw (add-one n) (take-suc-set starts n a (omega (arith, p .starts-long)))
 

@@ -10,6 +10,7 @@ use mathlib.Core.Path.{_≡_, refl, sym, ap, _∙_}
 use native.Mathlib.Nat.{not-suc-le-zero, le-of-suc-le-suc, pow-le-pow-right}
 use native.Mathlib.Omega.{arith}
 use Prim.Native.Nat.{ℕ, zero, suc, _+_, _-_, _^_, _≤_, _<_}
+use Rattle.meaning.specs.Limits.{literalTarget, maxColumns}
 use Rattle.meaning.specs.Pack.{Pack, Constructor}
 use Rattle.meaning.specs.Tests.{within, thereAnd}
 use Rattle.meaning.specs.WellFormed.{hasArity, constructorArities, goodTarget, goodShape}
@@ -65,13 +66,13 @@ entry-map f (x ∷ l) (suc i) = entry-map f l i
 relations-are : (b ks : List ℕ) → readAll relation b ≡ some ks → ks ≡ b
 unfolding relation byteIn byte
 relations-are [] ks e = Option·some-injective _ _ (sym e ∙ readAll-nil relation (shrinks-of Of.Relation))
-relations-are (x ∷ b) ks e = go (within 1 8 x) refl (relations-are b)
+relations-are (x ∷ b) ks e = go (within 1 maxColumns x) refl (relations-are b)
   where
     rest : (o : Option (List ℕ)) → also x o ≡ some ks → ((js : List ℕ) → o ≡ some js → js ≡ b) → ks ≡ x ∷ b
     rest none h f = absurd (let z : _≡_ {A = ℕ} 0 1 = cc in omega arith)
     rest (some js) h f = sym (Option·some-injective _ _ h) ∙ ap (λ (l : List ℕ). x ∷ l) (f js refl)
 
-    go : (v : Bool) → within 1 8 x ≡ v → ((js : List ℕ) → readAll relation b ≡ some js → js ≡ b) → ks ≡ x ∷ b
+    go : (v : Bool) → within 1 maxColumns x ≡ v → ((js : List ℕ) → readAll relation b ≡ some js → js ≡ b) → ks ≡ x ∷ b
     go true h f = rest (readAll relation b) (sym (readAll-on relation (shrinks-of Of.Relation) (x ∷ b) (record { got = x; rest = b }) (rw h)) ∙ e) f
     go false h f =
         let k : readAll relation (x ∷ b) ≡ none = readAll-stop relation (shrinks-of Of.Relation) (x ∷ b) (omega arith) (rw h) in
@@ -125,11 +126,11 @@ any-columns mask k h l =
 
 -- ---- shapes
 
-target-named : (P : Pack) (x types : ℕ) → types ≡ length (P .setting .types) → (eqb x 255 || ltb x types) ≡ goodTarget P (targetOf x)
+target-named : (P : Pack) (x types : ℕ) → types ≡ length (P .setting .types) → (eqb x literalTarget || ltb x types) ≡ goodTarget P (targetOf x)
 unfolding targetOf
-target-named P x types h = go (eqb x 255) refl
+target-named P x types h = go (eqb x literalTarget) refl
   where
-    go : (b : Bool) → eqb x 255 ≡ b → (eqb x 255 || ltb x types) ≡ goodTarget P (targetOf x)
+    go : (b : Bool) → eqb x literalTarget ≡ b → (eqb x literalTarget || ltb x types) ≡ goodTarget P (targetOf x)
     go true e = rw e
     go false e = rw (e, h)
 

@@ -5,6 +5,7 @@ use mathlib.Core.Path.{_≡_, refl, subst}
 use native.Mathlib.Nat.{sub-zero}
 use native.Mathlib.Omega.{arith}
 use Prim.Native.Nat.{ℕ, zero, suc, _+_, _-_, _≤_, _<_, zero-le}
+use Rattle.meaning.specs.Limits.{maxAtoms, maxVariables}
 use Rattle.meaning.specs.Pack.{Atom}
 use Rattle.meaning.specs.Tests.{within}
 use Rattle.pack.specs.Readers.{Reader, byte, byteIn}
@@ -102,15 +103,15 @@ module _ {s : List ℕ} {c : Cursor} (kind : ℕ) where
       unfolding headOf
       head-no-link k n = rw k (then-bad _ (g .got) (then-bad _ b (then-not _ n)))
 
-      pub head-value : {v : ℕ} {f : Cursor} → (kind ≡ 0 → ⊥) → (kind ≡ 1 → ⊥) → Got byte s e v f → v < 16 → HeadGot kind s c t l (record { number = v; start = 0; len = 0 }) f
+      pub head-value : {v : ℕ} {f : Cursor} → (kind ≡ 0 → ⊥) → (kind ≡ 1 → ⊥) → Got byte s e v f → v < maxVariables → HeadGot kind s c t l (record { number = v; start = 0; len = 0 }) f
       unfolding headOf
       head-value {v} {f} = go kind
         where
-          go : (k : ℕ) → (k ≡ 0 → ⊥) → (k ≡ 1 → ⊥) → Got byte s e v f → v < 16 → HeadGot k s c t l (record { number = v; start = 0; len = 0 }) f
+          go : (k : ℕ) → (k ≡ 0 → ⊥) → (k ≡ 1 → ⊥) → Got byte s e v f → v < maxVariables → HeadGot k s c t l (record { number = v; start = 0; len = 0 }) f
           go zero x y r h = absurd (x refl)
           go (suc zero) x y r h = absurd (y refl)
           go (suc (suc k)) x y r h = record {
-            got = then-got _ (g .got) (then-got _ b (then-got _ r (then-got _ (only-got (lt-ltb v 16 h) (r .placed)) (give-got (r .placed)))));
+            got = then-got _ (g .got) (then-got _ b (then-got _ r (then-got _ (only-got (lt-ltb v maxVariables h) (r .placed)) (give-got (r .placed)))));
             subject-inside = g .inside;
             object-inside = zero-le;
           }
@@ -124,14 +125,14 @@ module _ {s : List ℕ} {c : Cursor} (kind : ℕ) where
           go (suc zero) x y n = absurd (y refl)
           go (suc (suc k)) x y n = then-bad _ (g .got) (then-bad _ b (then-not _ n))
 
-      pub head-out : {v : ℕ} {f : Cursor} → (kind ≡ 0 → ⊥) → (kind ≡ 1 → ⊥) → Got byte s e v f → 16 ≤ v → Not (headOf kind) s c
+      pub head-out : {v : ℕ} {f : Cursor} → (kind ≡ 0 → ⊥) → (kind ≡ 1 → ⊥) → Got byte s e v f → maxVariables ≤ v → Not (headOf kind) s c
       unfolding headOf
       head-out {v} {f} = go kind
         where
-          go : (k : ℕ) → (k ≡ 0 → ⊥) → (k ≡ 1 → ⊥) → Got byte s e v f → 16 ≤ v → Not (headOf k) s c
+          go : (k : ℕ) → (k ≡ 0 → ⊥) → (k ≡ 1 → ⊥) → Got byte s e v f → maxVariables ≤ v → Not (headOf k) s c
           go zero x y r h = absurd (x refl)
           go (suc zero) x y r h = absurd (y refl)
-          go (suc (suc k)) x y r h = then-bad _ (g .got) (then-bad _ b (then-bad _ r (then-not _ (only-not v (le-ltb v 16 h)))))
+          go (suc (suc k)) x y r h = then-bad _ (g .got) (then-bad _ b (then-bad _ r (then-not _ (only-not v (le-ltb v maxVariables h)))))
 
 module _ {kind : ℕ} {s : List ℕ} {c : Cursor} {r : HeadRead} where
   pub as-head : {t : Tuple} {l : ℕ} {u : Tuple} {d : Cursor} → r ≡ AHead t l u d → HeadShown kind s c r → HeadGot kind s c t l u d
@@ -143,7 +144,7 @@ no-head kind {s} {c} e h = subst (λ (q : HeadRead). HeadShown kind s c q) e h
 -- ---- the whole rule
 
 module _ {s : List ℕ} {c first past at d : Cursor} {n kind l : ℕ} {t u : Tuple} where
-  pub rule-got : Got (byteIn 1 3) s c n first → Skipped (atoms n) s first past → Got (byteIn 0 2) s past kind at → HeadGot kind s at t l u d
+  pub rule-got : Got (byteIn 1 maxAtoms) s c n first → Skipped (atoms n) s first past → Got (byteIn 0 2) s past kind at → HeadGot kind s at t l u d
       → RuleGot s c n first kind t l u d
   unfolding rule
   rule-got a b k h = record {
@@ -154,24 +155,24 @@ module _ {s : List ℕ} {c first past at d : Cursor} {n kind l : ℕ} {t u : Tup
     subject-inside = h .subject-inside;
     object-inside = h .object-inside;
     first-placed = a .placed;
-    few = byte-in-bound 1 3 a .1;
+    few = byte-in-bound 1 maxAtoms a .1;
     kinds = byte-in-bound 0 2 k .1;
   }
 
 pub rule-headless : {s : List ℕ} {c first past at : Cursor} {n kind : ℕ}
-    → Got (byteIn 1 3) s c n first → Skipped (atoms n) s first past → Got (byteIn 0 2) s past kind at → Not (headOf kind) s at → Not rule s c
+    → Got (byteIn 1 maxAtoms) s c n first → Skipped (atoms n) s first past → Got (byteIn 0 2) s past kind at → Not (headOf kind) s at → Not rule s c
 unfolding rule
 rule-headless a b k h = then-bad _ a (then-bad _ (b .got) (then-bad _ k (then-not _ h)))
 
-pub rule-no-kind : {s : List ℕ} {c first past : Cursor} {n : ℕ} → Got (byteIn 1 3) s c n first → Skipped (atoms n) s first past → Not (byteIn 0 2) s past → Not rule s c
+pub rule-no-kind : {s : List ℕ} {c first past : Cursor} {n : ℕ} → Got (byteIn 1 maxAtoms) s c n first → Skipped (atoms n) s first past → Not (byteIn 0 2) s past → Not rule s c
 unfolding rule
 rule-no-kind a b k = then-bad _ a (then-bad _ (b .got) (then-not _ k))
 
-pub rule-no-atoms : {s : List ℕ} {c first : Cursor} {n : ℕ} → Got (byteIn 1 3) s c n first → Not (atoms n) s first → Not rule s c
+pub rule-no-atoms : {s : List ℕ} {c first : Cursor} {n : ℕ} → Got (byteIn 1 maxAtoms) s c n first → Not (atoms n) s first → Not rule s c
 unfolding rule
 rule-no-atoms a b = then-bad _ a (then-not _ b)
 
-pub rule-not : {s : List ℕ} {c : Cursor} → Not (byteIn 1 3) s c → Not rule s c
+pub rule-not : {s : List ℕ} {c : Cursor} → Not (byteIn 1 maxAtoms) s c → Not rule s c
 unfolding rule
 rule-not a = then-not _ a
 

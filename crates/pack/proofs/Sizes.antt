@@ -11,6 +11,7 @@ use native.Mathlib.Nat.{add-zero, le-refl}
 use native.Mathlib.Numerals.{add-one}
 use native.Mathlib.Omega.{arith}
 use Prim.Native.Nat.{ℕ, zero, suc, _+_, _*_, _-_, _≤_, _<_}
+use Rattle.meaning.specs.Limits.{bodies, contentsBytes, maxPackBytes}
 use Rattle.meaning.specs.Tests.{within}
 use Rattle.pack.specs.Contents.{word, lengthOf, startOf, bodyOf, badSize}
 use Rattle.pack.specs.Readers.{Reader}
@@ -22,9 +23,9 @@ use Rattle.pack.proofs.Reading.{and-both, slice-by}
 -- the lengths before i are added
 pub record Summed (s : List ℕ) (i at : ℕ) : Type 0 where
   pub is : at ≡ startOf s i
-  pub small : at ≤ 36 + i * 4294967296
+  pub small : at ≤ contentsBytes + i * 4294967296
 
-pub summed-start : (s : List ℕ) → Summed s 0 36
+pub summed-start : (s : List ℕ) → Summed s 0 contentsBytes
 unfolding startOf
 summed-start s = record { is = refl; small = omega arith }
 
@@ -40,15 +41,15 @@ summed-done {s} {i} k p h l = p .is ∙ ap (startOf s) (omega arith)
 
 -- what the size says
 pub record Sized (s : List ℕ) : Type 0 where
-  pub long : 36 ≤ length s
-  pub short : length s ≤ 65536
-  pub whole : startOf s 9 ≡ length s
+  pub long : contentsBytes ≤ length s
+  pub short : length s ≤ maxPackBytes
+  pub whole : startOf s bodies ≡ length s
 
 pub size-is : (s : List ℕ) → badSize s ≡ false → Sized s
 unfolding badSize
 size-is s e =
-    let a = and-both (within 36 65536 (length s)) (eqb (startOf s 9) (length s)) (not-false _ e) in
-    let b = and-both (leb 36 (length s)) (leb (length s) 65536) (a .0) in
+    let a = and-both (within contentsBytes maxPackBytes (length s)) (eqb (startOf s bodies) (length s)) (not-false _ e) in
+    let b = and-both (leb contentsBytes (length s)) (leb (length s) maxPackBytes) (a .0) in
     record { long = leb-true _ _ (b .0); short = leb-true _ _ (b .1); whole = eqb-true _ _ (a .1) }
 
 start-up : (s : List ℕ) (k n : ℕ) → startOf s k ≤ startOf s (k + n)
@@ -56,8 +57,8 @@ unfolding startOf
 start-up s k zero = rw add-zero (le-refl _)
 start-up s k (suc n) = let e : k + suc n ≡ suc (k + n) = omega arith in rw e (omega (arith, start-up s k n))
 
-pub start-within : (s : List ℕ) → Sized s → (k : ℕ) → k ≤ 9 → startOf s k ≤ length s
-start-within s z k h = let e : k + (9 - k) ≡ 9 = omega arith in omega (arith, z .whole, rw e at (start-up s k (9 - k)))
+pub start-within : (s : List ℕ) → Sized s → (k : ℕ) → k ≤ bodies → startOf s k ≤ length s
+start-within s z k h = let e : k + (bodies - k) ≡ bodies = omega arith in omega (arith, z .whole, rw e at (start-up s k (bodies - k)))
 
 next-start : (s : List ℕ) (k : ℕ) → startOf s (k + 1) ≡ startOf s k + lengthOf s k
 unfolding startOf
@@ -68,14 +69,14 @@ unfolding bodyOf
 body-is s k = rw (next-start s k) (sym (slice-by (startOf s k) (lengthOf s k) s))
 
 -- the cursor from one start to the next is the body's
-pub body-at : (s : List ℕ) (k : ℕ) → Sized s → k < 9 → BodyAt s k (record { at = startOf s k; end = startOf s (k + 1) })
+pub body-at : (s : List ℕ) (k : ℕ) → Sized s → k < bodies → BodyAt s k (record { at = startOf s k; end = startOf s (k + 1) })
 body-at s k z h = record {
   start = refl;
   placed = record { before = start-up s k 1; inside = start-within s z (k + 1) (omega arith) };
   is = body-is s k;
 }
 
-pub body-from : (s : List ℕ) (k : ℕ) {a e : ℕ} → badSize s ≡ false → k < 9 → a ≡ startOf s k → e ≡ startOf s (k + 1) → BodyAt s k (record { at = a; end = e })
+pub body-from : (s : List ℕ) (k : ℕ) {a e : ℕ} → badSize s ≡ false → k < bodies → a ≡ startOf s k → e ≡ startOf s (k + 1) → BodyAt s k (record { at = a; end = e })
 body-from s k z h p q = rw (p, q) (body-at s k (size-is s z) h)
 
 pub in-body : {A : Type 0} (reader : Reader A) {s : List ℕ} {k : ℕ} {c : Cursor} {xs : List A} → BodyAt s k c → readAll reader (bodyOf s k) ≡ some xs

@@ -52,7 +52,7 @@ module _ {A : Type 0} (reader : Reader A) (limit : ℕ) (s : List ℕ) where
       go none h = absurd (let z : _≡_ {A = ℕ} 0 1 = cc in omega arith)
       go (some ys) h = cut (leb (length ys) limit) ys refl h
 
--- ---- the nine bodies
+-- ---- the bodies
 
 module _ {A B : Type 0} where
   then-is : (o : Option A) (f : A → Option B) (c : Bool) → ((a : A) → isSome (f a) ≡ c) → isSome (o then f) ≡ (isSome o && c)

@@ -5,7 +5,7 @@ use lib.ListN.{length, take, drop, getD}
 use mathlib.Core.Bool.{Bool, not, _&&_}
 use mathlib.Core.List.{List}
 use Prim.Native.Nat.{ℕ, zero, suc, _+_, _*_}
-use Rattle.meaning.specs.Limits.{maxPackBytes, contentsBytes}
+use Rattle.meaning.specs.Limits.{bodies, contentsBytes, maxPackBytes}
 use Rattle.meaning.specs.Tests.{within}
 
 -- "32-bit little-endian"
@@ -26,4 +26,4 @@ bodyOf s k = take (lengthOf s k) (drop (startOf s k) s)
 
 -- 3: "The pack is under 36 or over 65,536 bytes, or 36 plus the lengths is not its size." The sum is exact.
 unfoldable pub badSize : List ℕ → Bool
-badSize s = not (within contentsBytes maxPackBytes (length s) && eqb (startOf s 9) (length s))
+badSize s = not (within contentsBytes maxPackBytes (length s) && eqb (startOf s bodies) (length s))

@@ -1,4 +1,4 @@
--- The nine kinds of record (document 01, "The pack", 1 to 9), each as a reader. Assumes nothing.
+-- The kinds of record (document 01, "The pack", 1 to 9), each as a reader. Assumes nothing.
 use lib.Dec.{ltb, eqb}
 use mathlib.Core.Bool.{Bool, true, cond, _||_}
 use mathlib.Core.List.{List, [], _∷_}

@@ -5,6 +5,7 @@ use mathlib.Core.List.{List, [], _∷_}
 use mathlib.Core.Option.{none, some}
 use mathlib.Core.Path.{_≡_}
 use Prim.Native.Nat.{ℕ, zero, suc, _+_, _≤_}
+use Rattle.meaning.specs.Limits.{maxAtoms}
 use Rattle.meaning.specs.Pack.{ShapeRecord, Atom, Head, hasType, linksTo, linksToValue}
 use Rattle.pack.specs.Contents.{startOf, bodyOf}
 use Rattle.pack.specs.Readers.{Reader}
@@ -147,7 +148,7 @@ pub record RuleGot (s : List ℕ) (c : Cursor) (count : ℕ) (first : Cursor) (k
   pub subject-inside : t .start + t .len ≤ length s
   pub object-inside : u .start + u .len ≤ length s
   pub first-placed : Placed s first
-  pub few : count ≤ 3
+  pub few : count ≤ maxAtoms
   pub kinds : kind ≤ 2
 
 abbrev pub RuleShown : List ℕ → Cursor → RuleRead → Type 0

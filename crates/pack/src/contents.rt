@@ -1,11 +1,13 @@
-// The contents: nine lengths, where each body stands, and refusal 3.
+// The contents: a length for each body, where it stands, and refusal 3.
 ghost use mathlib.Core.Bool.{false};
 ghost use mathlib.Core.Path.{_≡_};
 ghost use Prim.Native.Nat.{_+_, _≤_, _<_};
+ghost use Rattle.meaning.specs.Limits.{bodies, contentsBytes};
 ghost use lib.ListN.{length};
 ghost use Rattle.pack.specs.Contents.{word, startOf, badSize};
 ghost use Rattle.pack.specs.Shown.{BodyAt};
 use crate::cursor::Cursor;
+use meaning::BODIES;
 use meaning::CONTENTS_BYTES;
 use meaning::MAX_PACK_BYTES;
 
@@ -23,10 +25,10 @@ pub fn word(s: &[u8], i: usize) -> u64
 
 // Where body k starts, by the lengths before it. The sum does not wrap, whatever the bytes.
 fn start(s: &[u8], k: usize) -> u64
-    requires { ⌜ (36 ≤ length (now s)) × (k ≤ 9) ⌝ }
+    requires { ⌜ (contentsBytes ≤ length (now s)) × (k ≤ bodies) ⌝ }
     ensures { λ r. ⌜ r ≡ startOf (now (s .entry)) k ⌝ }
 {
-    let mut at: u64 = 36;
+    let mut at = CONTENTS_BYTES as u64;
     let mut i = 0;
     while i < k {
         at += word(s, 4 * i);
@@ -45,12 +47,12 @@ pub fn bad_size(s: &[u8]) -> bool
     if MAX_PACK_BYTES < s.len() {
         return true;
     }
-    start(s, 9) != s.len() as u64
+    start(s, BODIES) != s.len() as u64
 }
 
 // A cursor at the start of body k.
 pub fn body(s: &[u8], k: usize) -> Cursor
-    requires { ⌜ (badSize (now s) ≡ false) × (k < 9) ⌝ }
+    requires { ⌜ (badSize (now s) ≡ false) × (k < bodies) ⌝ }
     ensures { λ r. ⌜ BodyAt (now (s .entry)) k r ⌝ }
 {
     let at = start(s, k) as usize;

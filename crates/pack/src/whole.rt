@@ -2,6 +2,7 @@
 ghost use mathlib.Core.Bool.{false};
 ghost use mathlib.Core.Path.{_≡_};
 ghost use Prim.Native.Nat.{_<_};
+ghost use Rattle.meaning.specs.Limits.{bodies};
 ghost use Rattle.pack.specs.Contents.{badSize, bodyOf};
 ghost use Rattle.pack.specs.Kinds.{readerOf};
 ghost use Rattle.pack.specs.Unpack.{body, unpack, isSome};
@@ -21,7 +22,7 @@ use meaning::MAX_VALUES;
 
 // Whether body k is at most so many whole records.
 fn fits(s: &[u8], k: usize, kind: Kind, limit: usize) -> bool
-    requires { ⌜ (badSize (now s) ≡ false) × (k < 9) ⌝ }
+    requires { ⌜ (badSize (now s) ≡ false) × (k < bodies) ⌝ }
     ensures { λ r. ⌜ r ≡ isSome (body (readerOf kind) limit (bodyOf (now (s .entry)) k)) ⌝ }
 {
     match count_records(body(s, k), s, kind) {

@@ -4,9 +4,11 @@ use lib.Seq.{drop-cons, getD-take, length-take-le, set-at, take-suc}
 use mathlib.Core.List.{List, [], _∷_, _++_, append-assoc, flatten, map}
 use mathlib.Core.Path.{_≡_, refl, sym, ap, subst, _∙_}
 use native.Mathlib.Omega.{arith}
-use Prim.Native.Nat.{ℕ, zero, suc, _+_, _*_, _/_, _%_, _≤_, _<_}
+use Prim.Native.Nat.{ℕ, zero, suc, _+_, _*_, _≤_, _<_}
+use Rattle.answers.specs.Keys.{pairFrom, pairKeys, pairTo}
 use Rattle.evaluate.specs.Answered.{AllPairs}
 use Rattle.evaluate.specs.Named.{pairOf}
+use Rattle.meaning.specs.Limits.{pairWidth}
 use Rattle.meaning.specs.Member.{_∈_, here, there}
 use Rattle.pair_list.specs.Written.{withPairs}
 
@@ -21,8 +23,8 @@ flat-snoc [] x = refl
 flat-snoc (y ∷ ys) x = ap (λ l. pairOf y ++ l) (flat-snoc ys x)
 
 -- two numbers set behind the pairs so far
-pub pairs-again : (found before : List ℕ) (k i : ℕ) → k ≤ length found → k * 2 ≤ length before → i < k
-    → set (set (withPairs i found before) (2 * i) (getD found i 0 / 1024)) (2 * i + 1) (getD found i 0 % 1024) ≡ withPairs (i + 1) found before
+pub pairs-again : (found before : List ℕ) (k i : ℕ) → k ≤ length found → k * pairWidth ≤ length before → i < k
+    → set (set (withPairs i found before) (2 * i) (pairFrom (getD found i 0))) (2 * i + 1) (pairTo (getD found i 0)) ≡ withPairs (i + 1) found before
 pairs-again found before k i h l j =
     ap (λ z. set (set (F ++ z) (2 * i) a) (2 * i + 1) b) two
     ∙ ap (λ z. set z (2 * i + 1) b) (set-at F _ _ a (2 * i) long)
@@ -37,10 +39,10 @@ pairs-again found before k i h l j =
     x = getD found i 0
 
     a : ℕ
-    a = x / 1024
+    a = pairFrom x
 
     b : ℕ
-    b = x % 1024
+    b = pairTo x
 
     F : List ℕ
     F = flatten (map pairOf (take i found))
@@ -62,18 +64,18 @@ pub publishing-start : {found before : List ℕ} → Publishing found 0 before b
 unfolding flatten
 publishing-start = record { long = refl; is = refl }
 
-pub publishing-again : {found before now : List ℕ} {k i : ℕ} → k ≤ length found → k * 2 ≤ length before → i < k → Publishing found i before now
-    → Publishing found (i + 1) before (set (set now (2 * i) (getD found i 0 / 1024)) (2 * i + 1) (getD found i 0 % 1024))
-publishing-again {found} {before} {now} {k} {i} h l j p = record {
-  long = length-set (set now (2 * i) (getD found i 0 / 1024)) (2 * i + 1) (getD found i 0 % 1024) ∙ length-set now (2 * i) (getD found i 0 / 1024) ∙ p .long;
-  is = ap (λ z. set (set z (2 * i) (getD found i 0 / 1024)) (2 * i + 1) (getD found i 0 % 1024)) (p .is) ∙ pairs-again found before k i h l j;
+pub publishing-again : {found before now : List ℕ} {k i u v : ℕ} → k ≤ length found → k * pairWidth ≤ length before → i < k → Publishing found i before now → u ≡ pairFrom (getD found i 0) → v ≡ pairTo (getD found i 0)
+    → Publishing found (i + 1) before (set (set now (2 * i) u) (2 * i + 1) v)
+publishing-again {found} {before} {now} {k} {i} {u} {v} h l j p a b = record {
+  long = length-set (set now (2 * i) u) (2 * i + 1) v ∙ length-set now (2 * i) u ∙ p .long;
+  is = (λ t. set (set (p .is t) (2 * i) (a t)) (2 * i + 1) (b t)) ∙ pairs-again found before k i h l j;
 }
 
 pub published : {found before now : List ℕ} {k i : ℕ} → i ≡ k → Publishing found i before now → now ≡ withPairs k found before
 published {found} {before} e p = p .is ∙ ap (λ j. withPairs j found before) e
 
 -- a pair that is written is of two nodes
-pub small-at : (found : List ℕ) (k i : ℕ) → AllPairs (take k found) → k ≤ length found → i < k → getD found i 0 < 1048576
+pub small-at : (found : List ℕ) (k i : ℕ) → AllPairs (take k found) → k ≤ length found → i < k → getD found i 0 < pairKeys
 small-at found k i all h l = all (getD found i 0) (subst (λ z. z ∈ take k found) (getD-take k found i 0 l) (getD-in (take k found) i (omega (arith, length-take-le k found h))))
   where
     getD-in : (xs : List ℕ) (i : ℕ) → i < length xs → getD xs i 0 ∈ xs

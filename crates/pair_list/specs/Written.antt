@@ -3,14 +3,13 @@
 use lib.ListN.{drop, length, take}
 use mathlib.Core.List.{List, _++_, flatten, map}
 use Prim.Native.Nat.{ℕ, _*_, _≤_}
-use Rattle.alive.specs.Worklist.{states}
 use Rattle.evaluate.specs.Answered.{AllPairs}
 use Rattle.evaluate.specs.Named.{pairOf}
-use Rattle.meaning.specs.Limits.{pairNumbers}
+use Rattle.meaning.specs.Limits.{maxStates, pairWidth}
 
 -- "A pair is listed as its start and end numbers": the first k stand at the front; entries past them keep theirs.
 abbrev pub withPairs : ℕ → List ℕ → List ℕ → List ℕ
-withPairs k found pairs = flatten (map pairOf (take k found)) ++ drop (k * pairNumbers) pairs
+withPairs k found pairs = flatten (map pairOf (take k found)) ++ drop (k * pairWidth) pairs
 
 -- n numbers are there, and have room
 abbrev pub CanCopy : ℕ → List ℕ → List ℕ → Type 0
@@ -18,10 +17,10 @@ CanCopy n src dst = (n ≤ length src) × (n ≤ length dst)
 
 -- so are k pairs
 abbrev pub PairsFit : ℕ → List ℕ → List ℕ → Type 0
-PairsFit k found pairs = (k ≤ length found) × (k * pairNumbers ≤ length pairs) × AllPairs (take k found)
+PairsFit k found pairs = (k ≤ length found) × (k * pairWidth ≤ length pairs) × AllPairs (take k found)
 
 -- ---- what is searched in
 
 -- the tables of states and the list of states are long enough
 abbrev pub TableRoom : List ℕ → List ℕ → List ℕ → Type 0
-TableRoom alive queue seen = (states ≤ length alive) × (states ≤ length queue) × (states ≤ length seen)
+TableRoom alive queue seen = (maxStates ≤ length alive) × (maxStates ≤ length queue) × (maxStates ≤ length seen)

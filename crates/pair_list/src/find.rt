@@ -9,7 +9,7 @@ use evaluate::pairs::pairs;
 use sets::buffers::clear_u8;
 use sets::buffers::clear_u16;
 
-// The pairs as numbers at the front of `found`; or that they are over 4,096.
+// The pairs as numbers at the front of `found`; or that they are too many.
 pub fn find_pairs(
     pack: &[u8],
     query: &[u8],

@@ -1,9 +1,13 @@
 // What was found, written at the front of the lent lists.
 ghost use mathlib.Core.Path.{_≡_};
 ghost use Prim.Native.Nat.{_*_};
-ghost use Rattle.meaning.specs.Limits.{nodeNumbers, tripleNumbers};
+ghost use Rattle.meaning.specs.Limits.{nodeWidth, tripleWidth};
 ghost use Rattle.pair_list.specs.Written.{CanCopy, PairsFit, withPairs};
 ghost use Rattle.sets.specs.Buffers.{overlaid};
+use answers::keys::pair_from;
+use answers::keys::pair_to;
+use meaning::NODE_WIDTH;
+use meaning::TRIPLE_WIDTH;
 use sets::buffers::copy_front;
 
 // Writes the first k pairs at the front of the list, two numbers each; the rest of it keeps its numbers.
@@ -13,13 +17,12 @@ pub fn write_pairs(found: &[u32], k: usize, pairs: &mut [u16])
 {
     for i in 0..k {
         let x = found[i];
-        pairs[2 * i] = (x / 1024) as u16;
-        pairs[2 * i + 1] = (x % 1024) as u16;
+        pairs[2 * i] = pair_from(x);
+        pairs[2 * i + 1] = pair_to(x);
     }
 }
 
-// Copies a graph from `points` and `links`, so many nodes and triples of seven and three numbers each, and writes the first k
-// pairs.
+// Copies a graph from `points` and `links`, so many nodes and triples, and writes the first k pairs.
 pub fn publish(
     points: &[u16],
     count: usize,
@@ -31,10 +34,10 @@ pub fn publish(
     triples: &mut [u16],
     pairs: &mut [u16],
 )
-    requires { ⌜ CanCopy (count * nodeNumbers) (now points) (now nodes) × CanCopy (edges * tripleNumbers) (now links) (now triples) × PairsFit k (now found) (now pairs) ⌝ }
-    ensures { λ _. ⌜ (now (nodes .exit) ≡ overlaid (count * nodeNumbers) (now (points .entry)) (now (nodes .entry))) × (now (triples .exit) ≡ overlaid (edges * tripleNumbers) (now (links .entry)) (now (triples .entry))) × (now (pairs .exit) ≡ withPairs k (now (found .entry)) (now (pairs .entry))) ⌝ }
+    requires { ⌜ CanCopy (count * nodeWidth) (now points) (now nodes) × CanCopy (edges * tripleWidth) (now links) (now triples) × PairsFit k (now found) (now pairs) ⌝ }
+    ensures { λ _. ⌜ (now (nodes .exit) ≡ overlaid (count * nodeWidth) (now (points .entry)) (now (nodes .entry))) × (now (triples .exit) ≡ overlaid (edges * tripleWidth) (now (links .entry)) (now (triples .entry))) × (now (pairs .exit) ≡ withPairs k (now (found .entry)) (now (pairs .entry))) ⌝ }
 {
-    copy_front(points, count * 7, nodes);
-    copy_front(links, edges * 3, triples);
+    copy_front(points, count * NODE_WIDTH, nodes);
+    copy_front(links, edges * TRIPLE_WIDTH, triples);
     write_pairs(found, k, pairs);
 }

@@ -13,7 +13,7 @@ use Rattle.meaning.proofs.Lists.Ordered.{by-key, list-unique}
 use Rattle.meaning.specs.Built.{BuiltNode}
 use Rattle.meaning.specs.Certain.{PairList, PairRecord, TooManyPairs}
 use Rattle.meaning.specs.Graph.{Spelling}
-use Rattle.meaning.specs.Limits.{pairNumbers}
+use Rattle.meaning.specs.Limits.{pairWidth}
 use Rattle.meaning.specs.Listing.{NodesInOrder, nodeKey}
 use Rattle.meaning.specs.Member.{_∈_, here, there}
 use Rattle.meaning.specs.Pack.{Pack, Text}
@@ -26,13 +26,13 @@ use Rattle.spelling.specs.Iri.{plain}
 
 -- ---- the front of the pair list is as long as the count says
 
-pair-flat : {σ : Spelling} {P : Pack} {e : Expr} {bs : List BuiltNode} (rs : List (List ℕ)) → ((r : List ℕ) → r ∈ rs → PairRecord σ P e bs r) → length (flatten rs) ≡ length rs * pairNumbers
+pair-flat : {σ : Spelling} {P : Pack} {e : Expr} {bs : List BuiltNode} (rs : List (List ℕ)) → ((r : List ℕ) → r ∈ rs → PairRecord σ P e bs r) → length (flatten rs) ≡ length rs * pairWidth
 unfolding flatten
 pair-flat [] h = refl
 pair-flat (r ∷ rs) h = let l = length-append r (flatten rs) in let m = pair-flat rs (λ q i. h q (there i)) in omega (arith, ap length (h r (here refl) .are))
 
-pub pair-length : {pack query : Text} {r : PairAnswer} {fronts : List (List ℕ)} (G : Gives pack query r fronts) → length (flatten (G .records)) ≡ r .pairs * pairNumbers
-pair-length G = pair-flat (G .records) (λ r i. G .certain .members r .0 i) ∙ ap (λ n. n * pairNumbers) (sym (G .count))
+pub pair-length : {pack query : Text} {r : PairAnswer} {fronts : List (List ℕ)} (G : Gives pack query r fronts) → length (flatten (G .records)) ≡ r .pairs * pairWidth
+pair-length G = pair-flat (G .records) (λ r i. G .certain .members r .0 i) ∙ ap (λ n. n * pairWidth) (sym (G .count))
 
 -- ---- one answer
 

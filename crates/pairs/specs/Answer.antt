@@ -3,13 +3,12 @@ use lib.ListN.{length}
 use mathlib.Core.List.{List, [], _∷_, _++_, flatten}
 use mathlib.Core.Path.{_≡_}
 use Prim.Native.Nat.{ℕ}
-use Rattle.alive.specs.Worklist.{states}
 use Rattle.calls.specs.Call.{Call, Contents, Lent, _at-least_}
-use Rattle.construct.specs.Outcome.{SomeObeys, headsLength, refusedAs, rowsLength}
+use Rattle.construct.specs.Outcome.{SomeObeys, refusedAs}
 use Rattle.grammar.specs.Grammar.{IsQuery}
 use Rattle.graph.specs.Fronts.{graphLists}
 use Rattle.meaning.specs.Certain.{PairList, TooManyPairs}
-use Rattle.meaning.specs.Limits.{pairListLength}
+use Rattle.meaning.specs.Limits.{headsLength, maxStates, pairListLength, rowsLength}
 use Rattle.meaning.specs.NoGraph.{TooLarge}
 use Rattle.meaning.specs.Pack.{Pack, Text}
 use Rattle.meaning.specs.Query.{Expr}
@@ -42,7 +41,7 @@ lists nodes triples pairs = graphLists nodes triples ++ (pairs at-least pairList
 -- the working buffers
 abbrev pub buffers : Contents → Contents → Contents → Contents → Contents → List Lent
 buffers rows heads alive queue seen =
-    rows at-least rowsLength ∷ heads at-least headsLength ∷ alive at-least states ∷ queue at-least states ∷ seen at-least states ∷ []
+    rows at-least rowsLength ∷ heads at-least headsLength ∷ alive at-least maxStates ∷ queue at-least maxStates ∷ seen at-least maxStates ∷ []
 
 -- 1 to 12, or the graph and the pairs
 abbrev pub Answers : Text → Text → PairAnswer → Contents → Contents → Contents → Contents → Contents → Contents → Contents → Contents → Type 0

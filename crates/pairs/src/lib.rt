@@ -3,17 +3,17 @@ ghost use Rattle.calls.specs.Call.{lent};
 ghost use Rattle.pair_list.specs.Written.{TableRoom};
 ghost use Rattle.pairs.specs.Answer.{Answers};
 ghost use Rattle.pairs.specs.Inner.{CountedGraph, Comes, ListRoom, Room};
-use alive::STATES;
 use answers::pairs::Pairs;
 use calls::long_enough;
 use construct::Constructed;
-use construct::HEADS_LENGTH;
-use construct::ROWS_LENGTH;
 use construct::refused;
+use meaning::HEADS_LENGTH;
 use meaning::MAX_PAIRS;
 use meaning::MAX_QUERY_BYTES;
+use meaning::MAX_STATES;
 use meaning::NODE_LIST_LENGTH;
 use meaning::PAIR_LIST_LENGTH;
+use meaning::ROWS_LENGTH;
 use meaning::TRIPLE_LIST_LENGTH;
 use pair_list::find::find_pairs;
 use pair_list::publish::publish;
@@ -140,9 +140,9 @@ pub fn pairs(
         PAIR_LIST_LENGTH,
         ROWS_LENGTH,
         HEADS_LENGTH,
-        STATES, // alive
-        STATES, // queue
-        STATES, // seen
+        MAX_STATES, // alive
+        MAX_STATES, // queue
+        MAX_STATES, // seen
     ];
     let lengths = [
         nodes.len(),

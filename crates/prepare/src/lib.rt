@@ -2,8 +2,7 @@
 ghost use lib.ListN.{length};
 ghost use Prim.Native.Nat.{_≤_};
 ghost use Rattle.calls.specs.Call.{lent};
-ghost use Rattle.construct.specs.Outcome.{headsLength, rowsLength};
-ghost use Rattle.meaning.specs.Limits.{maxQueryBytes, nodeListLength, tripleListLength};
+ghost use Rattle.meaning.specs.Limits.{headsLength, maxQueryBytes, nodeListLength, rowsLength, tripleListLength};
 ghost use Rattle.prepare.specs.Prepared.{Prepares};
 use construct::Constructed;
 use construct::construct;

@@ -1,23 +1,23 @@
 -- Names, labels and stars: a run and one stored part are what the reading gives. Assumes nothing.
 use borrow.Author.Tests.{eq-eqb, ne-eqb, le-leb, lt-leb}
-use lib.Dec.{eqb, leb, lit<}
+use lib.Dec.{lit<}
 use lib.ListN.{length, take, drop, getD, set, length-take, length-drop}
 use lib.Seq.{drop-drop, getD-set-same, getD-set-other}
-use mathlib.Core.Bool.{Bool, true, false, cond, _&&_}
-use mathlib.Core.List.{List, [], _∷_}
+use mathlib.Core.Bool.{Bool, true, false}
+use mathlib.Core.List.{List}
 use mathlib.Core.Logic.{_⊎_}
 use mathlib.Core.Path.{_≡_, refl, sym, ap, subst, _∙_}
 use native.Mathlib.Decide.{ℕ-discrete}
 use native.Mathlib.Omega.{arith}
-use Prim.Native.Nat.{ℕ, zero, suc, _+_, _-_, _≤_, _<_}
-use Rattle.meaning.specs.Limits.{maxNameBytes}
+use Prim.Native.Nat.{ℕ, _+_, _-_, _≤_, _<_}
+use Rattle.grammar.proofs.Bytes.{first-drop, getD-within, run-le}
+use Rattle.grammar.specs.Grammar.{letter, other, angleOpen, angleClose, quote, underscore}
+use Rattle.grammar.specs.Parse.{bad, first, label, leaf, name, noByte, ok, Out, run}
+use Rattle.meaning.specs.Limits.{maxNameBytes, partRoom}
 use Rattle.meaning.specs.Pack.{Text}
 use Rattle.meaning.specs.Query.{Expr, step, anyStep, atIri, atLiteral}
-use Rattle.grammar.specs.Grammar.{letter, other, angleOpen, angleClose, quote, underscore}
-use Rattle.grammar.specs.Parse.{Out, bad, ok, first, run, label, name, leaf}
-use Rattle.query.specs.Reading.{class, labelled, Ready, Put, Stored, Tells, Reading}
+use Rattle.query.specs.Reading.{class, labelled, Ready, Put, Tells, Reading}
 use Rattle.query.specs.Tree.{part, At, Holds, h-step, h-iri, h-literal}
-use Rattle.grammar.proofs.Bytes.{first-drop, getD-within, run-le}
 
 -- A refusal that kept the parts below n.
 pub refuse : (q t t′ : List ℕ) (i n : ℕ) (o : Out) → ((x : ℕ) → x < n → getD t′ x 0 ≡ getD t x 0) → o ≡ bad → Reading q t t′ i n false 0 0 o
@@ -41,23 +41,23 @@ run-size p q i j le e =
     (omega arith, k, simp (length-take, length-drop) (omega arith))
 
 -- What stands from i up to j.
-run-at : (q : Text) (i j : ℕ) → i < 256 → j - i < 256 → length (take (j - i) (drop i q)) ≡ j - i → At q i (take (j - i) (drop i q))
+run-at : (q : Text) (i j : ℕ) → i < partRoom → j - i < partRoom → length (take (j - i) (drop i q)) ≡ j - i → At q i (take (j - i) (drop i q))
 run-at q i j a b e = record { begins = a; short = omega arith; bytes = ap (λ (x : ℕ). take x (drop i q)) e }
 
 -- ---- labels
 
-label-no : (mark : ℕ) (f : Text → Expr) (q : Text) (i j : ℕ) → j ≡ i + run (other mark) (drop i q) → (getD q j 256 ≡ mark → ⊥) → label mark f (drop i q) ≡ bad
+label-no : (mark : ℕ) (f : Text → Expr) (q : Text) (i j : ℕ) → j ≡ i + run (other mark) (drop i q) → (getD q j noByte ≡ mark → ⊥) → label mark f (drop i q) ≡ bad
 unfolding label
 label-no mark f q i j e h =
     let k = run (other mark) (drop i q) in
-    let w : first (drop k (drop i q)) ≡ getD q j 256 = ap first (drop-drop k i q) ∙ first-drop q (i + k) ∙ ap (λ (x : ℕ). getD q x 256) (sym e) in
-    rw (w, ne-eqb (getD q j 256) mark h)
+    let w : first (drop k (drop i q)) ≡ getD q j noByte = ap first (drop-drop k i q) ∙ first-drop q (i + k) ∙ ap (λ (x : ℕ). getD q x noByte) (sym e) in
+    rw (w, ne-eqb (getD q j noByte) mark h)
 
-label-yes : (mark : ℕ) (f : Text → Expr) (q : Text) (i j : ℕ) → i ≤ length q → j ≡ i + run (other mark) (drop i q) → getD q j 256 ≡ mark → label mark f (drop i q) ≡ ok (f (take (j - i) (drop i q))) (drop (j + 1) q)
+label-yes : (mark : ℕ) (f : Text → Expr) (q : Text) (i j : ℕ) → i ≤ length q → j ≡ i + run (other mark) (drop i q) → getD q j noByte ≡ mark → label mark f (drop i q) ≡ ok (f (take (j - i) (drop i q))) (drop (j + 1) q)
 unfolding label
 label-yes mark f q i j le e h =
     let k = run (other mark) (drop i q) in
-    let w : first (drop k (drop i q)) ≡ mark = ap first (drop-drop k i q) ∙ first-drop q (i + k) ∙ ap (λ (x : ℕ). getD q x 256) (sym e) ∙ h in
+    let w : first (drop k (drop i q)) ≡ mark = ap first (drop-drop k i q) ∙ first-drop q (i + k) ∙ ap (λ (x : ℕ). getD q x noByte) (sym e) ∙ h in
     let v : drop 1 (drop k (drop i q)) ≡ drop (j + 1) q = ap (λ (x : Text). drop 1 x) (drop-drop k i q) ∙ drop-drop 1 (i + k) q ∙ ap (λ (x : ℕ). drop (x + 1) q) (sym e) in
     rw (w, eq-eqb mark mark refl, v, run-size (other mark) q i j le e .0)
 
@@ -66,7 +66,7 @@ abbrev pub Kind : ℕ → ℕ → Type 0
 Kind kind mark = ((kind ≡ 3) × (mark ≡ angleClose)) ⊎ ((kind ≡ 4) × (mark ≡ quote))
 
 module _ (q t : List ℕ) (i n kind mark j : ℕ) (is : j ≡ i + run (class kind) (drop i q)) where
-  pub label-refused : Kind kind mark → (getD q j 256 ≡ mark → ⊥) → Reading q t t i n false 0 0 (labelled kind (drop i q))
+  pub label-refused : Kind kind mark → (getD q j noByte ≡ mark → ⊥) → Reading q t t i n false 0 0 (labelled kind (drop i q))
   unfolding labelled class
   label-refused (_⊎_.inl (p, r)) h = refuse q t t i n (labelled kind (drop i q)) (λ x l. refl)
       (ap (λ (x : ℕ). labelled x (drop i q)) p ∙ label-no angleClose atIri q i j (is ∙ ap (λ (x : ℕ). i + run (class x) (drop i q)) p) (λ w. h (w ∙ sym r)))
@@ -74,7 +74,7 @@ module _ (q t : List ℕ) (i n kind mark j : ℕ) (is : j ≡ i + run (class kin
       (ap (λ (x : ℕ). labelled x (drop i q)) p ∙ label-no quote atLiteral q i j (is ∙ ap (λ (x : ℕ). i + run (class x) (drop i q)) p) (λ w. h (w ∙ sym r)))
 
   -- One law for both kinds.
-  module _ (v : ℕ) (rd : Ready q t i n) (h : getD q j 256 ≡ mark) (u : v ≡ part kind i (j - i)) (k m : ℕ) (lt : m < 256)
+  module _ (v : ℕ) (rd : Ready q t i n) (h : getD q j noByte ≡ mark) (u : v ≡ part kind i (j - i)) (k m : ℕ) (lt : m < noByte)
       (f : Text → Expr) (rule : (s : Text) → At q i s → getD (set t n v) n 0 ≡ part k i (length s) → Holds q (set t n v) n (f s) (n + 1))
       (p : kind ≡ k) (r : mark ≡ m) (same : j ≡ i + run (other m) (drop i q)) (told : labelled kind (drop i q) ≡ label m f (drop i q)) where
     label-kept : Reading q t (set t n v) i n true (j + 1) (n + 1) (labelled kind (drop i q))
@@ -85,7 +85,7 @@ module _ (q t : List ℕ) (i n kind mark j : ℕ) (is : j ≡ i + run (class kin
         (told ∙ label-yes m f q i j (rd .within) same (h ∙ r))
         (λ x. rule (take (j - i) (drop i q)) (run-at q i j (omega (arith, rd, z)) (omega (arith, rd, z)) (z .2)) (x ∙ u ∙ ap (λ (y : ℕ). part y i (j - i)) p ∙ ap (λ (y : ℕ). part k i y) (sym (z .2))))
 
-  pub label-stored : (v : ℕ) → Ready q t i n → Kind kind mark → getD q j 256 ≡ mark → v ≡ part kind i (j - i) → Reading q t (set t n v) i n true (j + 1) (n + 1) (labelled kind (drop i q))
+  pub label-stored : (v : ℕ) → Ready q t i n → Kind kind mark → getD q j noByte ≡ mark → v ≡ part kind i (j - i) → Reading q t (set t n v) i n true (j + 1) (n + 1) (labelled kind (drop i q))
   unfolding labelled class
   label-stored v rd (_⊎_.inl (p, r)) h u = label-kept v rd h u 3 angleClose (lit< tt) atIri (λ s a x. h-iri a x) p r
       (is ∙ ap (λ (x : ℕ). i + run (class x) (drop i q)) p) (ap (λ (x : ℕ). labelled x (drop i q)) p)
@@ -124,19 +124,19 @@ reread q t t′ i i′ n good j m o o′ r le e = record { kept = r .kept; tells
     go true x = let a = x .moved in let b = x .few in record { expr = x .expr; gives = x .gives; holds = x .holds; moved = omega arith; within = x .within; few = omega arith }
 
 module _ (q : Text) (i : ℕ) where
-  pub leaf-iri : getD q i 256 ≡ angleOpen → labelled 3 (drop (i + 1) q) ≡ leaf (drop i q)
+  pub leaf-iri : getD q i noByte ≡ angleOpen → labelled 3 (drop (i + 1) q) ≡ leaf (drop i q)
   unfolding leaf labelled
   leaf-iri h = rw (first-drop q i, h, drop-drop 1 i q)
 
-  pub leaf-literal : getD q i 256 ≡ quote → labelled 4 (drop (i + 1) q) ≡ leaf (drop i q)
+  pub leaf-literal : getD q i noByte ≡ quote → labelled 4 (drop (i + 1) q) ≡ leaf (drop i q)
   unfolding leaf labelled
   leaf-literal h = rw (first-drop q i, h, drop-drop 1 i q)
 
-  pub leaf-any : getD q i 256 ≡ underscore → leaf (drop i q) ≡ ok anyStep (drop (i + 1) q)
+  pub leaf-any : getD q i noByte ≡ underscore → leaf (drop i q) ≡ ok anyStep (drop (i + 1) q)
   unfolding leaf
   leaf-any h = rw (first-drop q i, h, drop-drop 1 i q)
 
-  pub leaf-name : (c : ℕ) → c ≡ getD q i 256 → (c ≡ angleOpen → ⊥) → (c ≡ quote → ⊥) → (c ≡ underscore → ⊥) → name (drop i q) ≡ leaf (drop i q)
+  pub leaf-name : (c : ℕ) → c ≡ getD q i noByte → (c ≡ angleOpen → ⊥) → (c ≡ quote → ⊥) → (c ≡ underscore → ⊥) → name (drop i q) ≡ leaf (drop i q)
   unfolding leaf
   leaf-name c e h₁ h₂ h₃ = rw (first-drop q i, ← e, ne-eqb c angleOpen h₁, ne-eqb c quote h₂, ne-eqb c underscore h₃)
 

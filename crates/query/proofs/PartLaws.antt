@@ -1,22 +1,22 @@
 -- How the reading of a whole is made from the readings of its parts. Assumes nothing.
 use borrow.Author.Tests.{eq-eqb, ne-eqb}
-use lib.Dec.{eqb, lit<}
-use lib.ListN.{length, take, drop, getD, set, length-drop}
+use lib.Dec.{lit<}
+use lib.ListN.{length, drop, getD, set, length-drop}
 use lib.Seq.{drop-drop, getD-set-same, getD-set-other}
-use mathlib.Core.Bool.{Bool, true, false, cond}
-use mathlib.Core.List.{List, [], _∷_}
+use mathlib.Core.Bool.{Bool, true, false}
+use mathlib.Core.List.{List, _∷_}
 use mathlib.Core.Path.{_≡_, refl, sym, ap, subst, _∙_}
 use native.Mathlib.Nat.{add-zero}
 use native.Mathlib.Omega.{arith}
 use Prim.Native.Nat.{ℕ, zero, suc, _+_, _-_, _≤_, _<_}
-use Rattle.meaning.specs.Pack.{Text}
-use Rattle.meaning.specs.Query.{Expr, stay, nested, sequence, star, union}
-use Rattle.grammar.specs.Grammar.{aUnion, aSequence, aStep, anAtom, stars, bar, slash, roundOpen, roundClose, squareOpen, squareClose}
-use Rattle.grammar.specs.Parse.{Out, bad, ok, first, run, parts, withStars, closed, leaf, atomOf, stepBy, sequenceBy, unionBy, atomAt, parse}
-use Rattle.query.specs.Reading.{class, Ready, Put, Stored, Tells, Reading}
-use Rattle.query.specs.Tree.{part, Holds, h-stay, h-nested, h-star}
 use Rattle.grammar.proofs.Bytes.{uncons, first-drop, getD-within, run-le}
 use Rattle.grammar.proofs.Complete.{Going, none-more, going-ends, going-bad, going-on, union-starts, sequence-starts, step-stars, atom-bracket, atom-opens}
+use Rattle.grammar.specs.Grammar.{aUnion, aSequence, aStep, anAtom, stars, bar, slash, roundOpen, roundClose, squareOpen, squareClose}
+use Rattle.grammar.specs.Parse.{atomOf, bad, closed, leaf, noByte, ok, Out, parse, parts, run, sequenceBy, unionBy, withStars}
+use Rattle.meaning.specs.Pack.{Text}
+use Rattle.meaning.specs.Query.{Expr, stay, nested, sequence, star, union}
+use Rattle.query.specs.Reading.{class, Ready, Put, Stored, Tells, Reading}
+use Rattle.query.specs.Tree.{part, Holds, h-stay, h-nested, h-star}
 use Rattle.query.proofs.LeafLaws.{refuse, store, reread}
 use Rattle.query.proofs.TreeLaws.{holds-lt, holds-kept}
 
@@ -69,13 +69,13 @@ partly-start q t t₁ i n j m sep f read o p good r e starts =
     record { expr = s .expr; going = starts (s .expr) (s .gives) (omega arith); holds = s .holds; kept = λ x h. refl; moved = s .moved; within = s .within; few = s .few; some = holds-lt (s .holds) }
 
 module _ {q t₀ t : List ℕ} {i n j m sep : ℕ} {f : Expr → Expr → Expr} {read : Text → Out} {o : Out} (p : Partly q t₀ t i n j m sep f read o) where
-  pub partly-done : (getD q j 256 ≡ sep → ⊥) → Reading q t₀ t i n true j m o
+  pub partly-done : (getD q j noByte ≡ sep → ⊥) → Reading q t₀ t i n true j m o
   partly-done ne = record {
     kept = p .kept;
-    tells = record { expr = p .expr; gives = going-ends (p .going) (rw (first-drop q j) (ne-eqb (getD q j 256) sep ne)); holds = p .holds; moved = p .moved; within = p .within; few = p .few };
+    tells = record { expr = p .expr; gives = going-ends (p .going) (rw (first-drop q j) (ne-eqb (getD q j noByte) sep ne)); holds = p .holds; moved = p .moved; within = p .within; few = p .few };
   }
 
-  module _ (lt : sep < 256) (c : getD q j 256 ≡ sep) where
+  module _ (lt : sep < noByte) (c : getD q j noByte ≡ sep) where
     left : drop j q ≡ sep ∷ drop (j + 1) q
     left = uncons (drop j q) sep (first-drop q j ∙ c) lt ∙ ap (λ (x : Text). sep ∷ x) (drop-drop 1 j q)
 
@@ -172,52 +172,52 @@ module _ (d : ℕ) {q t t₁ : List ℕ} {i n : ℕ} {good : Bool} {j m : ℕ} (
 -- ---- atoms: which rule the first bytes choose
 
 module _ (q : Text) (i d : ℕ) (o : Out) where
-  round-none : getD q i 256 ≡ roundOpen → d ≡ 0 → atomOf d (drop i q) o ≡ bad
+  round-none : getD q i noByte ≡ roundOpen → d ≡ 0 → atomOf d (drop i q) o ≡ bad
   unfolding atomOf
   round-none h z = rw (first-drop q i, h, z)
 
-  square-none : getD q i 256 ≡ squareOpen → d ≡ 0 → atomOf d (drop i q) o ≡ bad
+  square-none : getD q i noByte ≡ squareOpen → d ≡ 0 → atomOf d (drop i q) o ≡ bad
   unfolding atomOf
   square-none h z = rw (first-drop q i, h, z)
 
-  atom-stay : getD q i 256 ≡ roundOpen → (d ≡ 0 → ⊥) → getD q (i + 1) 256 ≡ roundClose → atomOf d (drop i q) o ≡ ok stay (drop (i + 2) q)
+  atom-stay : getD q i noByte ≡ roundOpen → (d ≡ 0 → ⊥) → getD q (i + 1) noByte ≡ roundClose → atomOf d (drop i q) o ≡ ok stay (drop (i + 2) q)
   unfolding atomOf
   atom-stay h z w = rw (first-drop q i, h, ne-eqb d 0 z, drop-drop 1 i q, first-drop q (i + 1), w, drop-drop 2 i q)
 
-  pub atom-round : getD q i 256 ≡ roundOpen → (d ≡ 0 → ⊥) → (getD q (i + 1) 256 ≡ roundClose → ⊥) → atomOf d (drop i q) o ≡ closed roundClose (λ e. e) o
+  pub atom-round : getD q i noByte ≡ roundOpen → (d ≡ 0 → ⊥) → (getD q (i + 1) noByte ≡ roundClose → ⊥) → atomOf d (drop i q) o ≡ closed roundClose (λ e. e) o
   unfolding atomOf
-  atom-round h z w = rw (first-drop q i, h, ne-eqb d 0 z, drop-drop 1 i q, first-drop q (i + 1), ne-eqb (getD q (i + 1) 256) roundClose w)
+  atom-round h z w = rw (first-drop q i, h, ne-eqb d 0 z, drop-drop 1 i q, first-drop q (i + 1), ne-eqb (getD q (i + 1) noByte) roundClose w)
 
-  pub atom-square : getD q i 256 ≡ squareOpen → (d ≡ 0 → ⊥) → atomOf d (drop i q) o ≡ closed squareClose nested o
+  pub atom-square : getD q i noByte ≡ squareOpen → (d ≡ 0 → ⊥) → atomOf d (drop i q) o ≡ closed squareClose nested o
   unfolding atomOf
   atom-square h z = rw (first-drop q i, h, ne-eqb d 0 z)
 
-  atom-leaf : (getD q i 256 ≡ roundOpen → ⊥) → (getD q i 256 ≡ squareOpen → ⊥) → atomOf d (drop i q) o ≡ leaf (drop i q)
+  atom-leaf : (getD q i noByte ≡ roundOpen → ⊥) → (getD q i noByte ≡ squareOpen → ⊥) → atomOf d (drop i q) o ≡ leaf (drop i q)
   unfolding atomOf
-  atom-leaf h z = rw (first-drop q i, ne-eqb (getD q i 256) roundOpen h, ne-eqb (getD q i 256) squareOpen z)
+  atom-leaf h z = rw (first-drop q i, ne-eqb (getD q i noByte) roundOpen h, ne-eqb (getD q i noByte) squareOpen z)
 
 -- Where the rule needs no inside.
 plain-atom : (q : Text) (i d : ℕ) (z : Out) → ((o : Out) → atomOf d (drop i q) o ≡ z) → parse anAtom d (drop i q) ≡ z
 plain-atom q i d z h = let (o, p) = atom-opens d (drop i q) in p ∙ h o
 
 module _ (d : ℕ) {q t : List ℕ} {i n : ℕ} where
-  pub no-round : {c : ℕ} → c ≡ getD q i 256 → c ≡ roundOpen → d ≡ 0 → Reading q t t i n false 0 0 (parse anAtom d (drop i q))
+  pub no-round : {c : ℕ} → c ≡ getD q i noByte → c ≡ roundOpen → d ≡ 0 → Reading q t t i n false 0 0 (parse anAtom d (drop i q))
   no-round e h z = refuse q t t i n (parse anAtom d (drop i q)) (λ x l. refl) (plain-atom q i d bad (λ o. round-none q i d o (sym e ∙ h) z))
 
-  pub no-square : {c : ℕ} → c ≡ getD q i 256 → c ≡ squareOpen → d ≡ 0 → Reading q t t i n false 0 0 (parse anAtom d (drop i q))
+  pub no-square : {c : ℕ} → c ≡ getD q i noByte → c ≡ squareOpen → d ≡ 0 → Reading q t t i n false 0 0 (parse anAtom d (drop i q))
   no-square e h z = refuse q t t i n (parse anAtom d (drop i q)) (λ x l. refl) (plain-atom q i d bad (λ o. square-none q i d o (sym e ∙ h) z))
 
-  pub stay-read : {v : ℕ} → Ready q t i n → getD q i 256 ≡ roundOpen → (d ≡ 0 → ⊥) → getD q (i + 1) 256 ≡ roundClose → v ≡ part 0 0 0 → Reading q t (set t n v) i n true (i + 2) (n + 1) (parse anAtom d (drop i q))
+  pub stay-read : {v : ℕ} → Ready q t i n → getD q i noByte ≡ roundOpen → (d ≡ 0 → ⊥) → getD q (i + 1) noByte ≡ roundClose → v ≡ part 0 0 0 → Reading q t (set t n v) i n true (i + 2) (n + 1) (parse anAtom d (drop i q))
   stay-read {v} rd h z w u =
       let a = getD-within q (i + 1) roundClose w (lit< tt) in
       store q t i n (i + 2) v (parse anAtom d (drop i q)) stay (omega (arith, rd)) (omega arith) (omega arith) (plain-atom q i d (ok stay (drop (i + 2) q)) (λ o. atom-stay q i d o h z w)) (λ y. h-stay (y ∙ u))
 
-  pub leaf-read : {t₁ : List ℕ} {good : Bool} {j m c : ℕ} → Reading q t t₁ i n good j m (leaf (drop i q)) → c ≡ getD q i 256 → (c ≡ roundOpen → ⊥) → (c ≡ squareOpen → ⊥) → Reading q t t₁ i n good j m (parse anAtom d (drop i q))
+  pub leaf-read : {t₁ : List ℕ} {good : Bool} {j m c : ℕ} → Reading q t t₁ i n good j m (leaf (drop i q)) → c ≡ getD q i noByte → (c ≡ roundOpen → ⊥) → (c ≡ squareOpen → ⊥) → Reading q t t₁ i n good j m (parse anAtom d (drop i q))
   leaf-read {t₁} {good} {j} {m} r e h z = reread q t t₁ i i n good j m (leaf (drop i q)) (parse anAtom d (drop i q)) r (omega arith)
       (sym (plain-atom q i d (leaf (drop i q)) (λ o. atom-leaf q i d o (λ y. h (e ∙ y)) (λ y. z (e ∙ y)))))
 
 -- A bracket, its inside and its closing mark.
-module _ (i d : ℕ) {mark : ℕ} (fn : Expr → Expr) (lt : mark < 256) {q t t₁ : List ℕ} {n : ℕ} {good : Bool} {j m : ℕ}
+module _ (i d : ℕ) {mark : ℕ} (fn : Expr → Expr) (lt : mark < noByte) {q t t₁ : List ℕ} {n : ℕ} {good : Bool} {j m : ℕ}
     (r : Reading q t t₁ (i + 1) n good j m (parse aUnion (d - 1) (drop (i + 1) q)))
     (some : d ≡ 0 → ⊥)
     (rule : (o : Out) → atomOf d (drop i q) o ≡ closed mark fn o) where
@@ -232,19 +232,19 @@ module _ (i d : ℕ) {mark : ℕ} (fn : Expr → Expr) (lt : mark < 256) {q t t�
   unfolding closed
   inside-refused e = refuse q t t₁ i n (parse anAtom d (drop i q)) (r .kept) (closed-opens ∙ ap (closed mark fn) (is-bad r e))
 
-  pub not-closed : good ≡ true → (getD q j 256 ≡ mark → ⊥) → Reading q t t₁ i n false 0 0 (parse anAtom d (drop i q))
+  pub not-closed : good ≡ true → (getD q j noByte ≡ mark → ⊥) → Reading q t t₁ i n false 0 0 (parse anAtom d (drop i q))
   unfolding closed
-  not-closed e w = refuse q t t₁ i n (parse anAtom d (drop i q)) (r .kept) (closed-opens ∙ ap (closed mark fn) (is-stored r e .gives) ∙ rw (first-drop q j, ne-eqb (getD q j 256) mark w))
+  not-closed e w = refuse q t t₁ i n (parse anAtom d (drop i q)) (r .kept) (closed-opens ∙ ap (closed mark fn) (is-stored r e .gives) ∙ rw (first-drop q j, ne-eqb (getD q j noByte) mark w))
 
   -- what is given where the mark is there
-  closed-gives : (e : good ≡ true) → getD q j 256 ≡ mark → parse anAtom d (drop i q) ≡ ok (fn (is-stored r e .expr)) (drop (j + 1) q)
+  closed-gives : (e : good ≡ true) → getD q j noByte ≡ mark → parse anAtom d (drop i q) ≡ ok (fn (is-stored r e .expr)) (drop (j + 1) q)
   unfolding closed
   closed-gives e w = closed-opens ∙ ap (closed mark fn) (is-stored r e .gives) ∙ answer (is-stored r e .expr)
     where
       answer : (a : Expr) → closed mark fn (ok a (drop j q)) ≡ ok (fn a) (drop (j + 1) q)
-      answer a = rw (first-drop q j, eq-eqb (getD q j 256) mark w, drop-drop 1 j q)
+      answer a = rw (first-drop q j, eq-eqb (getD q j noByte) mark w, drop-drop 1 j q)
 
-  pub group-read : good ≡ true → getD q j 256 ≡ mark → ((a : Expr) → fn a ≡ a) → Reading q t t₁ i n true (j + 1) m (parse anAtom d (drop i q))
+  pub group-read : good ≡ true → getD q j noByte ≡ mark → ((a : Expr) → fn a ≡ a) → Reading q t t₁ i n true (j + 1) m (parse anAtom d (drop i q))
   group-read e w same =
       let s = is-stored r e in
       let y = getD-within q j mark w lt in
@@ -255,7 +255,7 @@ module _ (i d : ℕ) {mark : ℕ} (fn : Expr → Expr) (lt : mark < 256) {q t t�
         tells = record { expr = s .expr; gives = closed-gives e w ∙ ap (λ (x : Expr). ok x (drop (j + 1) q)) (same (s .expr)); holds = s .holds; moved = omega arith; within = omega arith; few = omega arith };
       }
 
-  pub test-read : good ≡ true → getD q j 256 ≡ mark → ((a : Expr) → fn a ≡ nested a) → (v : ℕ) → v ≡ part 5 0 0 → m < length t₁ → Reading q t (set t₁ m v) i n true (j + 1) (m + 1) (parse anAtom d (drop i q))
+  pub test-read : good ≡ true → getD q j noByte ≡ mark → ((a : Expr) → fn a ≡ nested a) → (v : ℕ) → v ≡ part 5 0 0 → m < length t₁ → Reading q t (set t₁ m v) i n true (j + 1) (m + 1) (parse anAtom d (drop i q))
   test-read e w same v u room =
       let s = is-stored r e in
       let y = getD-within q j mark w lt in

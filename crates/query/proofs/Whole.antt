@@ -1,16 +1,15 @@
 -- From the union reader to the whole text. Assumes nothing.
 use lib.ListN.{length, drop, length-drop, drop-of-length-le}
 use mathlib.Core.Bool.{Bool, true, false}
-use mathlib.Core.List.{List, [], _∷_}
+use mathlib.Core.List.{List, []}
 use mathlib.Core.Path.{_≡_, sym, ap, _∙_}
 use native.Mathlib.Omega.{arith}
 use Prim.Native.Nat.{ℕ, _≤_, _<_}
 use Rattle.meaning.specs.Limits.{maxOpenBrackets, maxQueryBytes}
 use Rattle.meaning.specs.Pack.{Text}
-use Rattle.meaning.specs.Query.{Expr}
 use Rattle.query.specs.Answer.{HoldsQuery, Refusal2}
-use Rattle.grammar.specs.Grammar.{aUnion, IsQuery}
-use Rattle.grammar.specs.Parse.{Out, ok, parse}
+use Rattle.grammar.specs.Grammar.{aUnion}
+use Rattle.grammar.specs.Parse.{ok, parse}
 use Rattle.query.specs.Reading.{Reading}
 use Rattle.grammar.proofs.Agree.{reads-whole}
 use Rattle.query.proofs.PartLaws.{is-bad, is-stored}

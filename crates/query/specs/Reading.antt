@@ -5,11 +5,11 @@ use mathlib.Core.Bool.{Bool, true, false, cond}
 use mathlib.Core.List.{List}
 use mathlib.Core.Path.{_≡_}
 use Prim.Native.Nat.{ℕ, _+_, _≤_, _<_}
-use Rattle.meaning.specs.Limits.{maxQueryBytes}
-use Rattle.meaning.specs.Pack.{Text}
-use Rattle.meaning.specs.Query.{Expr, atIri, atLiteral}
 use Rattle.grammar.specs.Grammar.{letter, other, asterisk, angleClose, quote}
 use Rattle.grammar.specs.Parse.{Out, bad, ok, label}
+use Rattle.meaning.specs.Limits.{maxParts, maxQueryBytes}
+use Rattle.meaning.specs.Pack.{Text}
+use Rattle.meaning.specs.Query.{Expr, atIri, atLiteral}
 use Rattle.query.specs.Tree.{Holds, part}
 
 -- The bytes that a run goes over, by the kind of part that it is read for: a name's letters, a label's bytes, stars.
@@ -24,7 +24,7 @@ labelled kind s = cond (eqb kind 3) (label angleClose atIri s) (label quote atLi
 pub record Ready (q t : List ℕ) (i n : ℕ) : Type 0 where
   pub within : i ≤ length q
   pub short : length q ≤ maxQueryBytes
-  pub room : maxQueryBytes ≤ length t
+  pub room : maxParts ≤ length t
   pub few : n ≤ i
 
 -- The answer o is an expression that t holds from part n up to m; the bytes i up to j were read, and no more parts made.

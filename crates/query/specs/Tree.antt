@@ -3,21 +3,35 @@
 use lib.ListN.{length, take, drop, getD}
 use mathlib.Core.List.{List}
 use mathlib.Core.Path.{_≡_}
-use Prim.Native.Nat.{ℕ, _+_, _-_, _*_, _<_}
+use Prim.Native.Nat.{ℕ, _%_, _*_, _+_, _-_, _/_, _<_}
+use Rattle.meaning.specs.Limits.{partRoom}
 use Rattle.meaning.specs.Pack.{Text}
 use Rattle.meaning.specs.Query.{Expr, stay, step, anyStep, atIri, atLiteral, nested, sequence, union, star}
 
--- A part: its kind and two numbers below 256. The kinds are
+abbrev pub kindRoom : ℕ  -- the two numbers of a part
+kindRoom = partRoom * partRoom
+
+-- A part: its kind and two numbers below partRoom. The kinds are
 --   0 stay   1 any step   2 a step by name   3 at an IRI   4 at a literal   5 nested   6 star   7 sequence   8 union
 -- Of a name or a label (2, 3, 4) the numbers are where it begins in the query, and its length. Of a sequence or a union
 -- (7, 8) the first number is the root of the left part. The root of the only or right part stands just before its parent.
 unfoldable pub part : ℕ → ℕ → ℕ → ℕ
-part kind a b = kind * 65536 + a * 256 + b
+part kind a b = kind * kindRoom + a * partRoom + b
+
+-- The numbers of the part i of a list.
+abbrev pub kindOf : List ℕ → ℕ → ℕ
+kindOf t i = getD t i 0 / kindRoom
+
+abbrev pub firstNumber : List ℕ → ℕ → ℕ
+firstNumber t i = getD t i 0 / partRoom % partRoom
+
+abbrev pub secondNumber : List ℕ → ℕ → ℕ
+secondNumber t i = getD t i 0 % partRoom
 
 -- The text is the query's bytes from a on.
 pub record At (q : Text) (a : ℕ) (s : Text) : Type 0 where
-  pub begins : a < 256
-  pub short : length s < 256
+  pub begins : a < partRoom
+  pub short : length s < partRoom
   pub bytes : take (length s) (drop a q) ≡ s
 
 -- `Holds q t n e m`: the parts of t from n up to m hold e, with the bytes of names and labels in q.

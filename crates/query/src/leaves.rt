@@ -1,26 +1,17 @@
 // Parts that have no part, and stars.
 ghost use lib.ListN.{length, drop};
-ghost use mathlib.Core.Path.{_≡_};
-ghost use Prim.Native.Nat.{_+_, _≤_, _<_};
+ghost use Prim.Native.Nat.{_+_, _≤_};
 ghost use Rattle.grammar.specs.Parse.{name, leaf};
 ghost use Rattle.query.specs.Reading.{labelled, Ready, Put, Reading};
-ghost use Rattle.query.specs.Tree.{part};
-use crate::MAX_NAME_BYTES;
 use crate::kinds;
 use crate::marks;
+use crate::parts::pack;
 use crate::scan::peek;
 use crate::scan::run_end;
+use meaning::MAX_NAME_BYTES;
 
 // Whether a reader found its part, and where it stopped: the next byte and the next part.
 pub struct Read(pub bool, pub usize, pub usize);
-
-// A part as one number.
-pub fn pack(kind: usize, a: usize, b: usize) -> u32
-    requires { ⌜ (kind < 16) × ((a < 256) × (b < 256)) ⌝ }
-    ensures { λ r. ⌜ r ≡ part kind a b ⌝ }
-{
-    (kind * 65536 + a * 256 + b) as u32
-}
 
 // Writes k stars from part n on.
 pub fn put_stars(tree: &mut [u32], n: usize, k: usize)

@@ -2,21 +2,18 @@
 pub mod kinds;
 mod leaves;
 mod marks;
+pub mod parts;
 mod readers;
 mod scan;
 
 ghost use lib.ListN.{length};
 ghost use Prim.Native.Nat.{_≤_};
-ghost use Rattle.meaning.specs.Limits.{maxQueryBytes};
+ghost use Rattle.meaning.specs.Limits.{maxParts};
 ghost use Rattle.query.specs.Answer.{Answered};
 use crate::leaves::Read;
 use crate::readers::read_union;
-
-pub const MAX_QUERY_BYTES: usize = 256;
-
-pub const MAX_OPEN_BRACKETS: usize = 16;
-
-pub const MAX_NAME_BYTES: usize = 16;
+use meaning::MAX_OPEN_BRACKETS;
+use meaning::MAX_QUERY_BYTES;
 
 // How many parts the expression has, or refusal 2.
 pub enum Query {
@@ -26,7 +23,7 @@ pub enum Query {
 
 // Reads a whole text into the list of parts.
 pub fn read_query(q: &[u8], tree: &mut [u32]) -> Query
-    requires { ⌜ maxQueryBytes ≤ length (now tree) ⌝ }
+    requires { ⌜ maxParts ≤ length (now tree) ⌝ }
     ensures { λ r. ⌜ Answered r (now (q .entry)) (now (tree .exit)) ⌝ }
 {
     if MAX_QUERY_BYTES < q.len() {

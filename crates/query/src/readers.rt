@@ -1,15 +1,15 @@
 // The four readers, which call each other in a cycle: a union reads sequences, a sequence steps, a step an atom, and an
 // atom in brackets a union again. `left` brackets may still be opened.
-ghost use lib.ListN.{length, drop};
+ghost use lib.ListN.{drop};
 ghost use Rattle.grammar.specs.Grammar.{aUnion, aSequence, aStep, anAtom};
 ghost use Rattle.grammar.specs.Parse.{parse};
 ghost use Rattle.query.specs.Reading.{Ready, Reading};
 use crate::kinds;
 use crate::leaves::Read;
-use crate::leaves::pack;
 use crate::leaves::put_stars;
 use crate::leaves::read_leaf;
 use crate::marks;
+use crate::parts::pack;
 use crate::scan::peek;
 use crate::scan::run_end;
 

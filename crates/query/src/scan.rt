@@ -2,16 +2,22 @@
 ghost use lib.ListN.{length, drop, getD};
 ghost use mathlib.Core.Path.{_≡_};
 ghost use Prim.Native.Nat.{_+_, _≤_};
-ghost use Rattle.grammar.specs.Parse.{run};
+ghost use Rattle.grammar.specs.Parse.{noByte, run};
 ghost use Rattle.query.specs.Reading.{class};
 use crate::kinds;
 use crate::marks;
 
-// The byte at `at`, 256 at the end.
+const NO_BYTE: usize = 256;
+
+// The byte at `at`, or none at the end.
 pub fn peek(q: &[u8], at: usize) -> usize
-    ensures { λ r. ⌜ r ≡ getD (now (q .entry)) at 256 ⌝ }
+    ensures { λ r. ⌜ r ≡ getD (now (q .entry)) at noByte ⌝ }
 {
-    if at < q.len() { q[at] as usize } else { 256 }
+    if at < q.len() {
+        q[at] as usize
+    } else {
+        NO_BYTE
+    }
 }
 
 // Whether a byte belongs to a run that is read for this kind of part.

@@ -3,22 +3,22 @@ use lib.ListN.{length, take, getD, getElem?}
 use lib.Seq.{length-take-le, getD-take}
 use mathlib.Core.Bool.{Bool, true, false}
 use mathlib.Core.List.{List, [], _∷_}
-use mathlib.Core.Option.{Option, some}
+use mathlib.Core.Option.{some}
 use mathlib.Core.Path.{_≡_, refl, sym, ap, subst, _∙_}
 use native.Mathlib.Omega.{arith}
 use Prim.Native.Nat.{ℕ, zero, suc, _+_, _≤_, _<_}
-use Rattle.access.proofs.Accepted.{WellFormed, well-formed, zero-accepted}
+use Rattle.access.proofs.Accepted.{WellFormed, well-formed}
 use Rattle.meaning.proofs.Lists.Members.{element}
+use Rattle.meaning.specs.Limits.{maxConstructors, maxValues}
 use Rattle.meaning.specs.Listing.{padded}
-use Rattle.meaning.specs.Member.{_∈_}
-use Rattle.meaning.specs.Pack.{Pack, Text, Constructor}
+use Rattle.meaning.specs.Pack.{Pack, Text}
 use Rattle.pack.proofs.Unpacking.{unpacked}
 use Rattle.pack.specs.Checked.{Checked, refused, accepted, wellFormed, numberOf}
 use Rattle.pack.proofs.Bounds.{constructor-bounded}
-use Rattle.readback.specs.Answer.{Answers, not-well-formed, no-iri, iri, unreadAs, term, read}
+use Rattle.readback.specs.Answer.{Answers, not-well-formed, no-iri, iri, unreadAs, read}
 use Rattle.readback.specs.declared.ReadBack.{ReadBack}
-use Rattle.readback.specs.Held.{OfPack, TextsHeld, ConstructorsHeld}
-use Rattle.spelling.proofs.Answer.{spelled-is-read, read-is-spelled, not-read, tables-read}
+use Rattle.readback.specs.Held.{TextsHeld, ConstructorsHeld}
+use Rattle.spelling.proofs.Answer.{read-is-spelled, not-read, tables-read}
 use Rattle.spelling.proofs.Reading.{SomeArguments}
 use Rattle.spelling.specs.declared.iri.IriRead.{IriRead}
 use Rattle.spelling.specs.Places.{Placed, Tables, textsAt, constructorsAt, iriRead}
@@ -86,7 +86,7 @@ placed-part s starts lens n h e inside =
     }
 
 pub tables-held : (s : Text) (P : Pack) → wellFormed s ≡ accepted P → (starts lens arities prefixes widths : List ℕ) (n m : ℕ)
-    → TextsHeld s starts lens n (P .setting .values) → ConstructorsHeld s arities prefixes widths m (P .setting .constructors) → length starts ≤ 256 → length prefixes ≤ 16
+    → TextsHeld s starts lens n (P .setting .values) → ConstructorsHeld s arities prefixes widths m (P .setting .constructors) → length starts ≤ maxValues → length prefixes ≤ maxConstructors
     → Tables s (take n starts) (take n lens) (take m arities) (take m prefixes) (take m widths)
 tables-held s P w starts lens arities prefixes widths n m t k few many = record {
   values = placed-part s starts lens n (t .few) (t .as-many) (t .inside);

@@ -2,10 +2,10 @@
 ghost use lib.ListN.{length};
 ghost use mathlib.Core.Path.{_≡_};
 ghost use Prim.Native.Nat.{_+_, _≤_};
-ghost use Rattle.access.specs.Places.{IsWellFormed};
-ghost use Rattle.meaning.specs.Limits.{maxValues, maxConstructors};
+ghost use Rattle.access.specs.Places.{IsWellFormed, OfPack};
+ghost use Rattle.meaning.specs.Limits.{maxConstructors, maxPackBytes, maxValues};
 ghost use Rattle.readback.specs.Answer.{Answers, unreadAs, read};
-ghost use Rattle.readback.specs.Held.{OfPack, TextsHeld, ConstructorsHeld, SamePlace};
+ghost use Rattle.readback.specs.Held.{TextsHeld, ConstructorsHeld, SamePlace};
 use meaning::MAX_ARGUMENTS;
 use meaning::MAX_CONSTRUCTORS;
 use meaning::MAX_VALUES;
@@ -52,7 +52,7 @@ fn answer(found: IriRead) -> ReadBack
 
 // The place of a text in 16 bits: an empty text may stand anywhere.
 fn place(start: usize, len: usize) -> u16
-    requires { ⌜ start + len ≤ 65536 ⌝ }
+    requires { ⌜ start + len ≤ maxPackBytes ⌝ }
     ensures { λ r. ⌜ SamePlace start len r ⌝ }
 {
     if len == 0 {

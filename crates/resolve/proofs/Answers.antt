@@ -8,12 +8,9 @@ use Rattle.access.proofs.Accepted.{well-formed}
 use Rattle.meaning.specs.Built.{core}
 use Rattle.meaning.specs.Certain.{BuiltIri, BuiltLiteral}
 use Rattle.meaning.specs.Core.{iriNode, literalNode}
+use Rattle.meaning.specs.Limits.{maxNodes, maxValues, unused}
 use Rattle.meaning.specs.Listing.{padded}
 use Rattle.meaning.specs.Pack.{Pack, Text}
-use Rattle.resolve.proofs.Labelled.{iri-label, iri-unlabelled, literal-label, literal-unlabelled}
-use Rattle.resolve.proofs.Numbered.{iri-numbers, literal-numbers}
-use Rattle.resolve.proofs.OneNode.{one-node, no-node}
-use Rattle.resolve.proofs.Records.{padded-length}
 use Rattle.resolve.specs.Listed.{Roomy}
 use Rattle.resolve.specs.Search.{HasNumbers, First, ValuesOf, TablesOf}
 use Rattle.resolve.specs.Wanted.{IriIs, LiteralIs, OfGraph}
@@ -28,14 +25,18 @@ use Rattle.spelling.specs.Iri.{plain}
 use Rattle.spelling.specs.Places.{textsAt, constructorsAt, foundOf, iriRead}
 use Rattle.spelling.specs.ReadBack.{readFromBy, readBack, findBy}
 use Rattle.spelling.specs.Segment.{segment}
+use Rattle.resolve.proofs.Labelled.{iri-label, iri-unlabelled, literal-label, literal-unlabelled}
+use Rattle.resolve.proofs.Numbered.{iri-numbers, literal-numbers}
+use Rattle.resolve.proofs.OneNode.{one-node, no-node}
+use Rattle.resolve.proofs.Records.{padded-length}
 
-at-most : (nodes : List ℕ) (count : ℕ) → Roomy nodes count → count ≤ 1024
+at-most : (nodes : List ℕ) (count : ℕ) → Roomy nodes count → count ≤ maxNodes
 at-most nodes count r = omega (arith, r .few)
 
 module _ (s text : Text) (nodes : List ℕ) (count : ℕ) (room : Roomy nodes count) where
   module _ (starts lens arities prefixes widths : List ℕ) (t : TablesOf s starts lens arities prefixes widths) (read : IriRead)
       (is : read ≡ iriRead (readFromBy segment (textsAt s starts lens) 0 (constructorsAt s arities prefixes widths) text)) where
-    pub iri-unknown : read .ok ≡ false → OfGraph s nodes count (λ P inOrder. IriIs P inOrder text 65535)
+    pub iri-unknown : read .ok ≡ false → OfGraph s nodes count (λ P inOrder. IriIs P inOrder text unused)
     unfolding iriRead
     iri-unknown e P a inOrder listed =
         let q = is ∙ tables-read P _ _ text (t .values P a) (t .constructors P a) in
@@ -58,7 +59,7 @@ module _ (s text : Text) (nodes : List ℕ) (count : ℕ) (room : Roomy nodes co
     in-pack : (P : Pack) → textsAt s starts lens ≡ P .setting .values → value ≡ foundOf (findBy segment (P .setting .values) text)
     in-pack P e = is ∙ ap (λ l. foundOf (findBy segment l text)) e
 
-    pub literal-below : {v : ℕ} → value ≡ At v → v < 256
+    pub literal-below : {v : ℕ} → value ≡ At v → v < maxValues
     unfolding foundOf
     literal-below {v} e =
         case-some (findBy segment (textsAt s starts lens) text)
@@ -66,7 +67,7 @@ module _ (s text : Text) (nodes : List ℕ) (count : ℕ) (room : Roomy nodes co
         (λ w n. let q : At w ≡ At v = sym (is ∙ ap foundOf n) ∙ e in let z : w ≡ v = cc in
         omega (arith, find-sound segment (textsAt s starts lens) text w n .below, texts-length s starts lens (t .placed .as-many), t .few))
 
-    pub literal-unknown : value ≡ Nothing → OfGraph s nodes count (λ P inOrder. LiteralIs P inOrder text 65535)
+    pub literal-unknown : value ≡ Nothing → OfGraph s nodes count (λ P inOrder. LiteralIs P inOrder text unused)
     unfolding foundOf
     literal-unknown e P a inOrder listed =
         let q = in-pack P (t .are P a) in

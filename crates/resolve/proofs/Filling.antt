@@ -11,9 +11,10 @@ use native.Mathlib.Decide.{ℕ-discrete}
 use native.Mathlib.Omega.{arith}
 use Prim.Native.Nat.{ℕ, _+_, _-_, _≤_, _<_}
 use Rattle.meaning.specs.Pack.{Text}
+use Rattle.query.specs.Tree.{kindOf}
 use Rattle.resolve.specs.Search.{lesser}
 use Rattle.resolve.specs.Wanted.{Wants, OfGraph, Written}
-use Rattle.walk.specs.Parts.{kindOf, partText}
+use Rattle.walk.specs.Parts.{partText}
 
 -- ---- the lesser of two numbers
 
@@ -74,9 +75,9 @@ module _ {pack q : Text} {t nodes : List ℕ} {count : ℕ} {wanted : List ℕ} 
   pub filled-start : Filled pack q t nodes count wanted wanted 0
   filled-start = record { long = refl; parts = λ j h. absurd (let z : ⊥ = omega arith in z); kept = λ j h. refl }
 
-  pub filled-on : {wanted′ : List ℕ} {i : ℕ} → Filled pack q t nodes count wanted wanted′ i → i < length wanted → (text : Text) (w : ℕ) → text ≡ partText q t i
-      → OfGraph pack nodes count (λ P inOrder. Wants P inOrder (kindOf t i) text w) → Filled pack q t nodes count wanted (set wanted′ i w) (i + 1)
-  filled-on {wanted′} {i} f h text w e g = record {
+  pub filled-on : {wanted′ : List ℕ} {i : ℕ} → Filled pack q t nodes count wanted wanted′ i → i < length wanted → (text : Text) (w : ℕ) → text ≡ partText q t i → {kind : ℕ} → kind ≡ kindOf t i
+      → OfGraph pack nodes count (λ P inOrder. Wants P inOrder kind text w) → Filled pack q t nodes count wanted (set wanted′ i w) (i + 1)
+  filled-on {wanted′} {i} f h text w e {kind} is g = record {
     long = length-set wanted′ i w ∙ f .long;
     parts = more;
     kept = λ j l. getD-set-other wanted′ i j w 0 (λ z. let k : ⊥ = omega (arith, z) in k) ∙ f .kept j (omega arith);
@@ -89,7 +90,7 @@ module _ {pack q : Text} {t nodes : List ℕ} {count : ℕ} {wanted : List ℕ} 
           go (yes p) P a inOrder listed =
               subst (λ k. Wants P inOrder (kindOf t k) (partText q t k) (getD (set wanted′ i w) k 0)) (sym p)
               (subst (Wants P inOrder (kindOf t i) (partText q t i)) (sym (getD-set-same wanted′ i w 0 (omega (arith, f .long))))
-              (subst (λ s. Wants P inOrder (kindOf t i) s w) e (g P a inOrder listed)))
+              (subst (λ s. Wants P inOrder (kindOf t i) s w) e (subst (λ k. Wants P inOrder k text w) is (g P a inOrder listed))))
           go (no n) P a inOrder listed =
               subst (Wants P inOrder (kindOf t j) (partText q t j)) (sym (getD-set-other wanted′ i j w 0 n)) (f .parts j (omega arith) P a inOrder listed)
 

@@ -1,5 +1,4 @@
 pub mod Answers
-pub mod ByNumber
 pub mod Filling
 pub mod Labelled
 pub mod Names

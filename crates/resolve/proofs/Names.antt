@@ -4,7 +4,7 @@ use lib.Seq.{slice, drop-length}
 use mathlib.Core.Bool.{Bool, true, false, _||_, false≢true}
 use mathlib.Core.List.{List, [], _∷_, _++_, append-nil}
 use mathlib.Core.Logic.{_↔_}
-use mathlib.Core.Option.{Option, none, some, Option·none-ne-some, Option·some-injective}
+use mathlib.Core.Option.{Option, some, Option·none-ne-some, Option·some-injective}
 use mathlib.Core.Path.{_≡_, refl, sym, ap, subst, _∙_}
 use native.Mathlib.Decide.{ℕ-discrete}
 use native.Mathlib.Omega.{arith}
@@ -12,8 +12,9 @@ use Prim.Native.Nat.{ℕ, zero, suc, _+_, _-_, _≤_, _<_}
 use Rattle.access.proofs.Accepted.{well-formed}
 use Rattle.access.specs.declared.Place.{Place}
 use Rattle.access.specs.declared.Place.the-variants.{At, Nothing}
-use Rattle.access.specs.Places.{IsWellFormed, TextAt, TextPlaced}
+use Rattle.access.specs.Places.{IsWellFormed, OfPack, TextAt, TextPlaced}
 use Rattle.meaning.specs.Graph.{Called}
+use Rattle.meaning.specs.Limits.{maxPredicates, unused}
 use Rattle.meaning.specs.Pack.{Pack, Text}
 use Rattle.meaning.specs.Tests.{anyTwo, sameText, begins}
 use Rattle.meaning.specs.WellFormed.{duplicates, sameCell}
@@ -21,7 +22,6 @@ use Rattle.pack.proofs.Reading.{length-at, slice-by}
 use Rattle.pack.proofs.Unpacking.{unpacked}
 use Rattle.pack.specs.Checked.{wellFormed, accepted}
 use Rattle.pack.specs.Unpack.{Decoded}
-use Rattle.readback.specs.Held.{OfPack}
 use Rattle.resolve.specs.Wanted.{PredicateIs}
 use Rattle.spelling.proofs.Texts.{or-false, eq-same, begins-append, begins-rest, one-place, getElem-below}
 
@@ -110,13 +110,13 @@ module _ (s text : Text) where
       go (yes e) = false≢true (sym n ∙ is P a .1 (subst (Called P text) e c))
       go (no ne) = before P a k (omega arith) c
 
-  pub named : (p : ℕ) (b : Bool) → p < 12 → OfPack s (λ P. (b ≡ true) ↔ Called P text p) → b ≡ true → OfPack s (λ P. PredicateIs P text p)
+  pub named : (p : ℕ) (b : Bool) → p < maxPredicates → OfPack s (λ P. (b ≡ true) ↔ Called P text p) → b ≡ true → OfPack s (λ P. PredicateIs P text p)
   named p b h is t P a k = (
     (λ c. let e = called-once P (well-formed s P a .distinct) text k p c (is P a .0 t) in (omega arith, e)),
     (λ c. subst (Called P text) (sym (c .1)) (is P a .0 t)),
   )
 
-  pub unnamed : (p : ℕ) → 12 ≤ p → NotBefore p → OfPack s (λ P. PredicateIs P text 65535)
+  pub unnamed : (p : ℕ) → maxPredicates ≤ p → NotBefore p → OfPack s (λ P. PredicateIs P text unused)
   unnamed p h before P a k = (
     (λ c. absurd (before P a k (omega (arith, getElem-below (P .setting .predicates) k c, unpacked s P (well-formed s P a .read) .predicates .1)) c)),
     (λ c. absurd (let z : ⊥ = omega (arith, c .0, c .1) in z)),

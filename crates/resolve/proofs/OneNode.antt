@@ -8,19 +8,20 @@ use native.Mathlib.Omega.{arith}
 use Prim.Native.Nat.{ℕ, zero, suc, _≤_, _<_}
 use Rattle.meaning.proofs.Lists.Members.{element}
 use Rattle.meaning.specs.Built.{BuiltNode, IsBuilt}
+use Rattle.meaning.specs.Limits.{maxNodes, unused}
 use Rattle.meaning.specs.Pack.{Pack}
-use Rattle.resolve.proofs.Numbered.{Numbered}
-use Rattle.resolve.proofs.Records.{place-once, below-count, has-numbers}
 use Rattle.resolve.specs.Listed.{Listed}
 use Rattle.resolve.specs.Search.{HasNumbers, First, found, nowhere}
 use Rattle.resolve.specs.Wanted.{NodeIs}
+use Rattle.resolve.proofs.Numbered.{Numbered}
+use Rattle.resolve.proofs.Records.{place-once, below-count, has-numbers}
 
 pub some-at : {A : Type 0} (xs : List A) (i : ℕ) → i < length xs → (x : A) × (getElem? xs i ≡ some x)
 some-at [] i h = absurd (let z : ⊥ = omega arith in z)
 some-at (x ∷ xs) zero h = (x, refl)
 some-at (x ∷ xs) (suc i) h = some-at xs i (omega arith)
 
-module _ {P : Pack} {inOrder : List BuiltNode} {nodes : List ℕ} {count : ℕ} (listed : Listed P inOrder nodes count) (few : count ≤ 1024) (HasLabel : BuiltNode → Type 0) where
+module _ {P : Pack} {inOrder : List BuiltNode} {nodes : List ℕ} {count : ℕ} (listed : Listed P inOrder nodes count) (few : count ≤ maxNodes) (HasLabel : BuiltNode → Type 0) where
   built-at : (m : ℕ) (b : BuiltNode) → getElem? inOrder m ≡ some b → IsBuilt P b
   built-at m b at = listed .ordered .members b .0 (element inOrder m b at)
 
@@ -46,5 +47,5 @@ module _ {P : Pack} {inOrder : List BuiltNode} {nodes : List ℕ} {count : ℕ} 
       back (found l q others) e = labelled b i .1 (numbered b i .0 (numbers .0 (subst (HasNumbers nodes k v vs) (sym e) q)))
       back (nowhere e others) g = absurd (let z : ⊥ = omega (arith, below-count P listed m b at) in z)
 
-  pub no-node : ((b : BuiltNode) → IsBuilt P b → HasLabel b → ⊥) → NodeIs HasLabel inOrder 65535
+  pub no-node : ((b : BuiltNode) → IsBuilt P b → HasLabel b → ⊥) → NodeIs HasLabel inOrder unused
   no-node never m b at = (λ h. absurd (never b (built-at m b at) h), λ e. absurd (let z : ⊥ = omega (arith, below-count P listed m b at) in z))

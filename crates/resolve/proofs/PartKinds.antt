@@ -3,8 +3,8 @@ use mathlib.Core.List.{List}
 use mathlib.Core.Path.{_≡_}
 use native.Mathlib.Omega.{arith}
 use Prim.Native.Nat.{ℕ}
+use Rattle.access.specs.Places.{OfPack}
 use Rattle.meaning.specs.Pack.{Text}
-use Rattle.readback.specs.Held.{OfPack}
 use Rattle.resolve.specs.Wanted.{PredicateIs, IriIs, LiteralIs, Wants, OfGraph}
 
 module _ (s text : Text) (nodes : List ℕ) (count kind w : ℕ) where

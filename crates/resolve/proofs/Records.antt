@@ -1,6 +1,6 @@
 -- The records of the node list: where each stands, and which node it is. Assumes nothing.
 use lib.ListN.{length, take, replicate, getD, getElem?, length-append, length-replicate, List·getD-append}
-use lib.Seq.{getD-take, getD-append-add, take-at, length-take-le, take-append-seam, take-take, ext-getD}
+use lib.Seq.{getD-take, getD-append-add, length-take-le, take-append-seam, take-take, ext-getD}
 use mathlib.Core.List.{List, [], _∷_, _++_, Forall₂, Forall₂·nil, Forall₂·cons, flatten}
 use mathlib.Core.Logic.{_↔_}
 use mathlib.Core.Option.{some, Option·none-ne-some, Option·some-injective}
@@ -11,7 +11,8 @@ use Rattle.meaning.proofs.Lists.Members.{element}
 use Rattle.meaning.proofs.Lists.Ordered.{≺-irrefl}
 use Rattle.meaning.specs.Built.{BuiltNode, core, invented}
 use Rattle.meaning.specs.Core.{iriNode, literalNode}
-use Rattle.meaning.specs.Listing.{kind, number, padded, arguments, NodeRecord, NodesInOrder, nodeKey, _◃_}
+use Rattle.meaning.specs.Limits.{maxArguments, nodeWidth, unused}
+use Rattle.meaning.specs.Listing.{kind, number, padded, arguments, NodeRecord, nodeKey, _◃_}
 use Rattle.meaning.specs.Ordered.{InOrder, before, _≺_}
 use Rattle.meaning.specs.Pack.{Pack}
 use Rattle.resolve.specs.Listed.{Listed}
@@ -32,7 +33,7 @@ place-once (y ∷ ys) (before h o) (suc i) (suc j) x e f = ap suc (place-once ys
 -- ---- the numbers of a record
 
 pub padded-length : (vs : List ℕ) → length (padded vs) ≡ 4
-padded-length vs = length-take-le 4 (vs ++ replicate 4 65535) (omega (arith, length-append vs (replicate 4 65535), length-replicate {A = ℕ} 4 65535))
+padded-length vs = length-take-le maxArguments (vs ++ replicate maxArguments unused) (omega (arith, length-append vs (replicate maxArguments unused), length-replicate {A = ℕ} 4 unused))
 
 pub arguments-length : (b : BuiltNode) → length (arguments b) ≡ 4
 unfolding arguments
@@ -45,61 +46,41 @@ pub padded-inj : (vs ws : List ℕ) → length vs ≡ length ws → length ws �
 padded-inj vs ws e h p = sym (front vs (omega arith)) ∙ (λ i. take (e i) (p i)) ∙ front ws h
   where
     front : (us : List ℕ) → length us ≤ 4 → take (length us) (padded us) ≡ us
-    front us l = take-take (length us) 4 (us ++ replicate 4 65535) l ∙ take-append-seam us (replicate 4 65535)
+    front us l = take-take (length us) maxArguments (us ++ replicate maxArguments unused) l ∙ take-append-seam us (replicate maxArguments unused)
 
 abbrev numbersOf : BuiltNode → ℕ → List ℕ
 numbersOf b types = kind b ∷ number b ∷ types ∷ arguments b
 
-numbers-length : (b : BuiltNode) (types : ℕ) → length (numbersOf b types) ≡ 7
+numbers-length : (b : BuiltNode) (types : ℕ) → length (numbersOf b types) ≡ nodeWidth
 numbers-length b types = omega (arith, arguments-length b)
 
 -- ---- where it stands
 
 module _ (P : Pack) where
   entry : {bs : List BuiltNode} {rs : List (List ℕ)} → Forall₂ (NodeRecord P) bs rs → (m : ℕ) (b : BuiltNode) → getElem? bs m ≡ some b
-      → (types : ℕ) × ((j : ℕ) → j < 7 → getD (flatten rs) (m * 7 + j) 0 ≡ getD (numbersOf b types) j 0)
+      → (types : ℕ) × ((j : ℕ) → j < nodeWidth → getD (flatten rs) (m * nodeWidth + j) 0 ≡ getD (numbersOf b types) j 0)
   unfolding flatten
   entry Forall₂·nil m b e = absurd (Option·none-ne-some b e)
   entry (Forall₂·cons {a = a} {b = r} {l₂ = rs} x f) zero b e =
       let q : a ≡ b = Option·some-injective a b e in
       let w : r ≡ numbersOf b (x .types) = x .are ∙ ap (λ z. numbersOf z (x .types)) q in
-      (x .types, λ j h. ap (λ k. getD (r ++ flatten rs) k 0) (let z : 0 * 7 + j ≡ j = omega arith in z) ∙ List·getD-append r (flatten rs) 0 j (omega (arith, ap length w, numbers-length b (x .types))) ∙ ap (λ l. getD l j 0) w)
+      (x .types, λ j h. ap (λ k. getD (r ++ flatten rs) k 0) (let z : 0 * nodeWidth + j ≡ j = omega arith in z) ∙ List·getD-append r (flatten rs) 0 j (omega (arith, ap length w, numbers-length b (x .types))) ∙ ap (λ l. getD l j 0) w)
   entry (Forall₂·cons {a = a} {b = r} {l₂ = rs} x f) (suc m) b e =
       let t = entry f m b e in (
         t .0,
-        λ j h. ap (λ k. getD (r ++ flatten rs) k 0) (let z : suc m * 7 + j ≡ length r + (m * 7 + j) = omega (arith, ap length (x .are), numbers-length a (x .types)) in z)
-            ∙ getD-append-add r (flatten rs) (m * 7 + j) 0 ∙ t .1 j h,
+        λ j h. ap (λ k. getD (r ++ flatten rs) k 0) (let z : suc m * nodeWidth + j ≡ length r + (m * nodeWidth + j) = omega (arith, ap length (x .are), numbers-length a (x .types)) in z)
+            ∙ getD-append-add r (flatten rs) (m * nodeWidth + j) 0 ∙ t .1 j h,
       )
-
-  records-length : {bs : List BuiltNode} {rs : List (List ℕ)} → Forall₂ (NodeRecord P) bs rs → (length (flatten rs) ≡ length bs * 7) × (length rs ≡ length bs)
-  unfolding flatten
-  records-length Forall₂·nil = (refl, refl)
-  records-length (Forall₂·cons {a = a} {b = r} {l₂ = rs} x f) =
-      let k = records-length f in
-      (omega (arith, length-append r (flatten rs), ap length (x .are), numbers-length a (x .types), k .0), ap suc (k .1))
-
-  -- a list that begins with the records, one after another, is the node list
-  pub listed-of : {inOrder : List BuiltNode} {records : List (List ℕ)} → NodesInOrder P inOrder → Forall₂ (NodeRecord P) inOrder records → (nodes rest : List ℕ) (count : ℕ)
-      → count ≡ length records → nodes ≡ flatten records ++ rest → Listed P inOrder nodes count
-  listed-of {inOrder} {records} o f nodes rest count c e =
-      let k = records-length f in
-      record {
-        ordered = o;
-        records = records;
-        recorded = f;
-        are = ap (take (count * 7)) e ∙ take-at (flatten records) rest (count * 7) (omega (arith, k .0, k .1));
-        counted = c ∙ k .1;
-      }
 
   module _ {inOrder : List BuiltNode} {nodes : List ℕ} {count : ℕ} (listed : Listed P inOrder nodes count) (m : ℕ) (b : BuiltNode) (at : getElem? inOrder m ≡ some b) where
     pub below-count : m < count
     below-count = omega (arith, getElem-below inOrder m at, listed .counted)
 
-    number-at : (types : ℕ) × ((j : ℕ) → j < 7 → getD nodes (m * 7 + j) 0 ≡ getD (numbersOf b types) j 0)
+    number-at : (types : ℕ) × ((j : ℕ) → j < nodeWidth → getD nodes (m * nodeWidth + j) 0 ≡ getD (numbersOf b types) j 0)
     number-at =
         let t = entry (listed .recorded) m b at in
         let l = below-count in
-        (t .0, λ j h. sym (getD-take (count * 7) nodes (m * 7 + j) 0 (omega arith)) ∙ ap (λ l. getD l (m * 7 + j) 0) (listed .are) ∙ t .1 j h)
+        (t .0, λ j h. sym (getD-take (count * nodeWidth) nodes (m * nodeWidth + j) 0 (omega arith)) ∙ ap (λ l. getD l (m * nodeWidth + j) 0) (listed .are) ∙ t .1 j h)
 
     pub has-numbers : {k v : ℕ} {vs : List ℕ} → length vs ≡ 4 → HasNumbers nodes k v vs m ↔ ((kind b ≡ k) × (number b ≡ v) × (arguments b ≡ vs))
     has-numbers {k} {v} {vs} four = (
@@ -111,12 +92,12 @@ module _ (P : Pack) where
       (λ h. record { kind-is = first ∙ h .0; number-is = second ∙ h .1; arguments-are = λ j l. later j l ∙ ap (λ l. getD l j 0) (h .2) }),
     )
       where
-        first : getD nodes (m * 7) 0 ≡ kind b
-        first = ap (λ i. getD nodes i 0) (let z : m * 7 ≡ m * 7 + 0 = omega arith in z) ∙ number-at .1 0 (omega arith)
+        first : getD nodes (m * nodeWidth) 0 ≡ kind b
+        first = ap (λ i. getD nodes i 0) (let z : m * nodeWidth ≡ m * nodeWidth + 0 = omega arith in z) ∙ number-at .1 0 (omega arith)
 
-        second : getD nodes (m * 7 + 1) 0 ≡ number b
+        second : getD nodes (m * nodeWidth + 1) 0 ≡ number b
         second = number-at .1 1 (omega arith)
 
-        later : (j : ℕ) → j < 4 → getD nodes (m * 7 + 3 + j) 0 ≡ getD (arguments b) j 0
+        later : (j : ℕ) → j < maxArguments → getD nodes (m * nodeWidth + 3 + j) 0 ≡ getD (arguments b) j 0
         later j l =
-            ap (λ i. getD nodes i 0) (let z : m * 7 + 3 + j ≡ m * 7 + (suc (suc (suc j))) = omega arith in z) ∙ number-at .1 (suc (suc (suc j))) (omega arith)
+            ap (λ i. getD nodes i 0) (let z : m * nodeWidth + 3 + j ≡ m * nodeWidth + (suc (suc (suc j))) = omega arith in z) ∙ number-at .1 (suc (suc (suc j))) (omega arith)

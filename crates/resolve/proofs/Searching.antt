@@ -7,6 +7,7 @@ use mathlib.Core.Path.{_≡_, sym, subst, _∙_}
 use native.Mathlib.Decide.{ℕ-discrete}
 use native.Mathlib.Omega.{arith}
 use Prim.Native.Nat.{ℕ, _+_, _*_, _≤_, _<_}
+use Rattle.meaning.specs.Limits.{maxArguments, nodeWidth, unused}
 use Rattle.resolve.specs.Search.{HasNumbers, First, found, nowhere}
 
 -- ---- the arguments
@@ -31,23 +32,23 @@ module _ {nodes : List ℕ} {at : ℕ} {arguments : List ℕ} where
 
 module _ (nodes : List ℕ) (at : ℕ) (arguments : List ℕ) where
   pub agree-not : (k : ℕ) → k < 4 → (getD nodes (at + k) 0 ≡ getD arguments k 0 → ⊥)
-      → (false ≡ true) ↔ ((j : ℕ) → j < 4 → getD nodes (at + j) 0 ≡ getD arguments j 0)
+      → (false ≡ true) ↔ ((j : ℕ) → j < maxArguments → getD nodes (at + j) 0 ≡ getD arguments j 0)
   agree-not k h n = (λ t. absurd (false≢true t), λ f. absurd (n (f k h)))
 
-  pub agree-all : (k : ℕ) → 4 ≤ k → Agree nodes at arguments k → (true ≡ true) ↔ ((j : ℕ) → j < 4 → getD nodes (at + j) 0 ≡ getD arguments j 0)
+  pub agree-all : (k : ℕ) → 4 ≤ k → Agree nodes at arguments k → (true ≡ true) ↔ ((j : ℕ) → j < maxArguments → getD nodes (at + j) 0 ≡ getD arguments j 0)
   agree-all k h a = (λ t j l. a .agree j (omega arith), λ f. λ i. true)
 
 -- ---- a record
 
 module _ {nodes arguments : List ℕ} {kind number m : ℕ} where
-  pub other-kind : (getD nodes (m * 7) 0 ≡ kind → ⊥) → (false ≡ true) ↔ HasNumbers nodes kind number arguments m
+  pub other-kind : (getD nodes (m * nodeWidth) 0 ≡ kind → ⊥) → (false ≡ true) ↔ HasNumbers nodes kind number arguments m
   other-kind n = (λ t. absurd (false≢true t), λ h. absurd (n (h .kind-is)))
 
-  pub other-number : (getD nodes (m * 7 + 1) 0 ≡ number → ⊥) → (false ≡ true) ↔ HasNumbers nodes kind number arguments m
+  pub other-number : (getD nodes (m * nodeWidth + 1) 0 ≡ number → ⊥) → (false ≡ true) ↔ HasNumbers nodes kind number arguments m
   other-number n = (λ t. absurd (false≢true t), λ h. absurd (n (h .number-is)))
 
-  pub by-arguments : getD nodes (m * 7) 0 ≡ kind → getD nodes (m * 7 + 1) 0 ≡ number → (b : Bool)
-      → (b ≡ true) ↔ ((j : ℕ) → j < 4 → getD nodes (m * 7 + 3 + j) 0 ≡ getD arguments j 0)
+  pub by-arguments : getD nodes (m * nodeWidth) 0 ≡ kind → getD nodes (m * nodeWidth + 1) 0 ≡ number → (b : Bool)
+      → (b ≡ true) ↔ ((j : ℕ) → j < maxArguments → getD nodes (m * nodeWidth + 3 + j) 0 ≡ getD arguments j 0)
       → (b ≡ true) ↔ HasNumbers nodes kind number arguments m
   by-arguments k n b is = (λ t. record { kind-is = k; number-is = n; arguments-are = is .0 t }, λ h. is .1 (h .arguments-are))
 
@@ -74,5 +75,5 @@ module _ {Q : ℕ → Type 0} where
   pub found-here : {m count : ℕ} (b : Bool) → (b ≡ true) ↔ Q m → b ≡ true → m < count → Before Q m → First Q count m
   found-here b is t h f = found h (is .0 t) (f .none)
 
-  pub found-nowhere : {m count : ℕ} → count ≤ m → Before Q m → First Q count 65535
-  found-nowhere h f = nowhere (λ i. 65535) (λ k l q. f .none k (omega arith) q)
+  pub found-nowhere : {m count : ℕ} → count ≤ m → Before Q m → First Q count unused
+  found-nowhere h f = nowhere (λ i. unused) (λ k l q. f .none k (omega arith) q)

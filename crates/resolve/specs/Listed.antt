@@ -4,7 +4,7 @@ use mathlib.Core.List.{List, Forall₂, flatten}
 use mathlib.Core.Path.{_≡_}
 use Prim.Native.Nat.{ℕ, _*_, _≤_}
 use Rattle.meaning.specs.Built.{BuiltNode}
-use Rattle.meaning.specs.Limits.{nodeNumbers, nodeListLength}
+use Rattle.meaning.specs.Limits.{nodeListLength, nodeWidth}
 use Rattle.meaning.specs.Listing.{NodeRecord, NodesInOrder}
 use Rattle.meaning.specs.Pack.{Pack}
 
@@ -13,10 +13,10 @@ pub record Listed (P : Pack) (inOrder : List BuiltNode) (nodes : List ℕ) (coun
   pub ordered : NodesInOrder P inOrder
   pub records : List (List ℕ)
   pub recorded : Forall₂ (NodeRecord P) inOrder records
-  pub are : take (count * nodeNumbers) nodes ≡ flatten records
+  pub are : take (count * nodeWidth) nodes ≡ flatten records
   pub counted : count ≡ length inOrder
 
 -- The list has room for as many nodes as there may be, and there are no more.
 pub record Roomy (nodes : List ℕ) (count : ℕ) : Type 0 where
   pub room : nodeListLength ≤ length nodes
-  pub few : count * nodeNumbers ≤ nodeListLength
+  pub few : count * nodeWidth ≤ nodeListLength

@@ -5,15 +5,15 @@ use mathlib.Core.Bool.{cond}
 use mathlib.Core.List.{List}
 use mathlib.Core.Path.{_≡_}
 use Prim.Native.Nat.{ℕ, _+_, _*_, _<_, _≤_}
-use Rattle.meaning.specs.Limits.{maxValues, maxArguments, nodeNumbers, unused}
-use Rattle.readback.specs.Held.{OfPack}
+use Rattle.access.specs.Places.{OfPack}
+use Rattle.meaning.specs.Limits.{maxArguments, maxValues, nodeWidth, unused}
 use Rattle.spelling.specs.Places.{textsAt, constructorsAt, Placed, Tables}
 
 -- The record of node m has this kind, number and arguments; its type set may be any.
 pub record HasNumbers (nodes : List ℕ) (kind number : ℕ) (arguments : List ℕ) (m : ℕ) : Type 0 where
-  pub kind-is : getD nodes (m * nodeNumbers) 0 ≡ kind
-  pub number-is : getD nodes (m * nodeNumbers + 1) 0 ≡ number
-  pub arguments-are : (j : ℕ) → j < maxArguments → getD nodes (m * nodeNumbers + 3 + j) 0 ≡ getD arguments j 0
+  pub kind-is : getD nodes (m * nodeWidth) 0 ≡ kind
+  pub number-is : getD nodes (m * nodeWidth + 1) 0 ≡ number
+  pub arguments-are : (j : ℕ) → j < maxArguments → getD nodes (m * nodeWidth + 3 + j) 0 ≡ getD arguments j 0
 
 -- The first number below count that is in Q, or 65,535.
 pub data First (Q : ℕ → Type 0) (count r : ℕ) : Type 0 where

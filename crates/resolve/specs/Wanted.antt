@@ -6,15 +6,16 @@ use mathlib.Core.Logic.{_↔_}
 use mathlib.Core.Option.{some}
 use mathlib.Core.Path.{_≡_}
 use Prim.Native.Nat.{ℕ, _<_, _≤_}
+use Rattle.access.specs.Places.{OfPack}
 use Rattle.meaning.specs.Built.{BuiltNode}
 use Rattle.meaning.specs.Certain.{BuiltIri, BuiltLiteral}
 use Rattle.meaning.specs.Graph.{Called}
 use Rattle.meaning.specs.Limits.{maxPredicates}
 use Rattle.meaning.specs.Pack.{Pack, Text}
-use Rattle.readback.specs.Held.{OfPack}
+use Rattle.query.specs.Tree.{kindOf}
 use Rattle.resolve.specs.Listed.{Listed}
 use Rattle.spelling.specs.Iri.{plain}
-use Rattle.walk.specs.Parts.{kindOf, partText}
+use Rattle.walk.specs.Parts.{partText}
 
 -- The number w is that of the predicate of this name. "An unknown name .. matches nothing": it has a number that is none's.
 abbrev pub PredicateIs : Pack → Text → ℕ → Type 0

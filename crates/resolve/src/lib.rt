@@ -17,6 +17,9 @@ use meaning::MAX_CONSTRUCTORS;
 use meaning::MAX_VALUES;
 use meaning::UNUSED;
 use query::kinds;
+use query::parts::first_number;
+use query::parts::kind_of;
+use query::parts::second_number;
 use readback::constructor_places;
 use readback::value_places;
 
@@ -88,9 +91,8 @@ fn resolve_parts(
     ensures { λ _. ⌜ Written (now (pack .entry)) (now (query .entry)) (now (tree .entry)) (now (nodes .entry)) n count (now (wanted .entry)) (now (wanted .exit)) ⌝ }
 {
     for i in 0..n {
-        let part = tree[i] as usize;
-        let start = least(part / 256 % 256, query.len());
-        let end = least(start + part % 256, query.len());
+        let start = least(first_number(tree, i), query.len());
+        let end = least(start + second_number(tree, i), query.len());
         wanted[i] = number_wanted(
             pack,
             starts,
@@ -98,7 +100,7 @@ fn resolve_parts(
             arities,
             prefixes,
             widths,
-            part / 65536,
+            kind_of(tree, i),
             &query[start..end],
             nodes,
             count,

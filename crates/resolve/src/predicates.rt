@@ -2,9 +2,8 @@
 ghost use mathlib.Core.Bool.{true};
 ghost use mathlib.Core.Logic.{_↔_};
 ghost use mathlib.Core.Path.{_≡_};
-ghost use Rattle.access.specs.Places.{IsWellFormed};
+ghost use Rattle.access.specs.Places.{IsWellFormed, OfPack};
 ghost use Rattle.meaning.specs.Graph.{Called};
-ghost use Rattle.readback.specs.Held.{OfPack};
 ghost use Rattle.resolve.specs.Wanted.{PredicateIs};
 use access::Place;
 use access::predicate_place;

@@ -4,13 +4,12 @@ ghost use mathlib.Core.Bool.{true};
 ghost use mathlib.Core.Logic.{_↔_};
 ghost use mathlib.Core.Path.{_≡_};
 ghost use Prim.Native.Nat.{ℕ, _+_, _*_, _<_, _≤_};
-ghost use Rattle.meaning.specs.Limits.{maxArguments, nodeNumbers};
+ghost use Rattle.meaning.specs.Limits.{maxArguments, nodeWidth};
 ghost use Rattle.resolve.specs.Listed.{Roomy};
 ghost use Rattle.resolve.specs.Search.{HasNumbers, First};
 use meaning::MAX_ARGUMENTS;
+use meaning::NODE_WIDTH;
 use meaning::UNUSED;
-
-const NODE_NUMBERS: usize = 7;
 
 // Whether the numbers from a place on are the arguments.
 fn has_arguments(nodes: &[u16], at: usize, arguments: [u16; MAX_ARGUMENTS]) -> bool
@@ -33,10 +32,10 @@ fn has_numbers(
     number: u16,
     arguments: [u16; MAX_ARGUMENTS],
 ) -> bool
-    requires { ⌜ m * nodeNumbers + nodeNumbers ≤ length (now nodes) ⌝ }
+    requires { ⌜ m * nodeWidth + nodeWidth ≤ length (now nodes) ⌝ }
     ensures { λ r. ⌜ (r ≡ true) ↔ HasNumbers (now (nodes .entry)) kind number arguments m ⌝ }
 {
-    let at = m * NODE_NUMBERS;
+    let at = m * NODE_WIDTH;
     if nodes[at] != kind {
         return false;
     }

@@ -16,6 +16,7 @@ use Rattle.pack.proofs.Sizes.{in-body}
 use Rattle.pack.proofs.Unpacking.{unpacked}
 use Rattle.pack.proofs.Walks.{Asked, asked-start, asked-on, asked-done, asked-never, front}
 use Rattle.access.proofs.Accepted.{well-formed}
+use Rattle.meaning.specs.Limits.{maxRows, rowWidth}
 use Rattle.rows.proofs.Laws.{Written, written-start, written-on}
 use Rattle.rows.specs.Loaded.{Loaded}
 
@@ -30,7 +31,7 @@ loading-start out p = record { done = []; written = written-start out; asked = a
 
 module _ {s : List ℕ} {c₀ c : Cursor} {out₀ out : List ℕ} {n : ℕ} (b : BodyAt s 8 c₀) (l : Loading s c₀ out₀ out n c) where
   -- there is room for a row that is read
-  pub loading-room : {r : Row} {d : Cursor} → Got row s c r d → (P : Pack) → wellFormed s ≡ accepted P → n < 1024
+  pub loading-room : {r : Row} {d : Cursor} → Got row s c r d → (P : Pack) → wellFormed s ≡ accepted P → n < maxRows
   loading-room {r} g P e =
       let u = unpacked s P (well-formed s P e .read) in
       let q = l .asked .is (P .rows) (in-body row b (u .rows .0)) in
@@ -38,8 +39,8 @@ module _ {s : List ℕ} {c₀ c : Cursor} {out₀ out : List ℕ} {n : ℕ} (b :
       let k : length (l .done ++ (r ∷ f .0)) ≡ length (P .rows) = ap length (ap (λ (t : List Row). l .done ++ t) (sym (f .1)) ∙ q .2) in
       omega (arith, u .rows .1, l .written .count, length-append (l .done) (r ∷ f .0))
 
-  pub loading-on : {r : Row} {d : Cursor} {out′ : List ℕ} → Got row s c r d → 9 * n + 9 ≤ length out₀
-      → out′ ≡ take (9 * n) out ++ rowNumbers r ++ drop (9 * n + 9) out → length out′ ≡ length out → Loading s c₀ out₀ out′ (n + 1) d
+  pub loading-on : {r : Row} {d : Cursor} {out′ : List ℕ} → Got row s c r d → rowWidth * n + rowWidth ≤ length out₀
+      → out′ ≡ take (rowWidth * n) out ++ rowNumbers r ++ drop (rowWidth * n + rowWidth) out → length out′ ≡ length out → Loading s c₀ out₀ out′ (n + 1) d
   loading-on {r} g h e k = record {
     done = l .done ++ (r ∷ []);
     written = written-on (l .written) r h e k;

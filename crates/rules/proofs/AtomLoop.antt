@@ -8,6 +8,7 @@ use native.Mathlib.Nat.{sub-zero}
 use native.Mathlib.Omega.{arith}
 use Prim.Native.Nat.{ℕ, suc, _+_, _*_, _-_, _≤_, _<_, zero-le}
 use Rattle.matching.specs.Rule.{atomNumbers, AtomsHeld}
+use Rattle.meaning.specs.Limits.{atomsLength, atomWidth, maxAtoms, maxColumns}
 use Rattle.meaning.specs.Pack.{Atom}
 use Rattle.pack.specs.Readers.{Read, give, next}
 use Rattle.pack.specs.Records.{atom, atomOf, atoms}
@@ -59,8 +60,8 @@ flat-snoc : (xs : List Atom) (a : Atom) → flatMap atomNumbers (xs ++ (a ∷ []
 unfolding flatMap
 flat-snoc xs a = flat-append xs (a ∷ []) ∙ ap (λ (t : List ℕ). flatMap atomNumbers xs ++ t) (append-nil (atomNumbers a))
 
--- an atom that was read has at most eight variables
-pub atom-short : {s : List ℕ} {c d : Cursor} {t : Tuple} → TupleGot atomOf atom s c t d → t .len ≤ 8
+-- an atom that was read has no more variables than columns are allowed
+pub atom-short : {s : List ℕ} {c d : Cursor} {t : Tuple} → TupleGot atomOf atom s c t d → t .len ≤ maxColumns
 atom-short {s} {c} {d} {t} g = omega (arith, atom-fine (left s c) _ (g .got .reads) .short, length-at s (t .start) (t .len) (g .inside))
 
 -- ---- the loop
@@ -69,13 +70,13 @@ atom-short {s} {c} {d} {t} g = omega (arith, atom-fine (left s c) _ (g .got .rea
 pub record AtomsPut (s : List ℕ) (c₀ : Cursor) (n i : ℕ) (c : Cursor) (out : List ℕ) : Type 0 where
   pub within : i ≤ n
   pub placed : Placed s c
-  pub long : length out ≡ 30
+  pub long : length out ≡ atomsLength
   pub done : List Atom
   pub many : length done ≡ i
-  pub held : take (i * 10) out ≡ flatMap atomNumbers done
+  pub held : take (i * atomWidth) out ≡ flatMap atomNumbers done
   pub asked : (as′ : List Atom) (d : Cursor) → Got (atoms n) s c₀ as′ d → (bs : List Atom) × Got (atoms (n - i)) s c bs d × (done ++ bs ≡ as′)
 
-pub atoms-start : {s : List ℕ} {c : Cursor} (n : ℕ) (out : List ℕ) → length out ≡ 30 → Placed s c → AtomsPut s c n 0 c out
+pub atoms-start : {s : List ℕ} {c : Cursor} (n : ℕ) (out : List ℕ) → length out ≡ atomsLength → Placed s c → AtomsPut s c n 0 c out
 unfolding flatMap
 atoms-start n out l p = record {
   within = zero-le;
@@ -95,23 +96,23 @@ module _ {s : List ℕ} {c₀ c : Cursor} {n i : ℕ} {out : List ℕ} (p : Atom
       let e : n - i ≡ suc (n - (i + 1)) = omega arith in
       (q .0, rw e at (q .1), q .2)
 
-  module _ {t : Tuple} {e : Cursor} (g : TupleGot atomOf atom s c t e) (h : i < n) (few : n ≤ 3) {out′ : List ℕ}
-      (is : out′ ≡ take (i * 10) out ++ atomNumbers (made atomOf s t) ++ drop (i * 10 + 10) out) where
+  module _ {t : Tuple} {e : Cursor} (g : TupleGot atomOf atom s c t e) (h : i < n) (few : n ≤ maxAtoms) {out′ : List ℕ}
+      (is : out′ ≡ take (i * atomWidth) out ++ atomNumbers (made atomOf s t) ++ drop (i * atomWidth + atomWidth) out) where
     abbrev front : List ℕ
-    front = take (i * 10) out ++ atomNumbers (made atomOf s t)
+    front = take (i * atomWidth) out ++ atomNumbers (made atomOf s t)
 
-    length-front : length front ≡ (i + 1) * 10
+    length-front : length front ≡ (i + 1) * atomWidth
     length-front =
-        omega (arith, length-append (take (i * 10) out) (atomNumbers (made atomOf s t)), length-take-le (i * 10) out (omega (arith, p .long)), length-atom (made atomOf s t))
+        omega (arith, length-append (take (i * atomWidth) out) (atomNumbers (made atomOf s t)), length-take-le (i * atomWidth) out (omega (arith, p .long)), length-atom (made atomOf s t))
 
     pub atoms-on : AtomsPut s c₀ n (i + 1) e out′
     atoms-on = record {
       within = omega arith;
       placed = g .got .placed;
-      long = ap length is ∙ omega (arith, length-append front (drop (i * 10 + 10) out), length-front, length-drop (i * 10 + 10) out, p .long);
+      long = ap length is ∙ omega (arith, length-append front (drop (i * atomWidth + atomWidth) out), length-front, length-drop (i * atomWidth + atomWidth) out, p .long);
       done = p .done ++ (made atomOf s t ∷ []);
       many = omega (arith, length-append (p .done) (made atomOf s t ∷ []), p .many);
-      held = ap (take ((i + 1) * 10)) is ∙ take-at front (drop (i * 10 + 10) out) ((i + 1) * 10) length-front
+      held = ap (take ((i + 1) * atomWidth)) is ∙ take-at front (drop (i * atomWidth + atomWidth) out) ((i + 1) * atomWidth) length-front
           ∙ ap (λ (ys : List ℕ). ys ++ atomNumbers (made atomOf s t)) (p .held) ∙ sym (flat-snoc (p .done) (made atomOf s t));
       asked = λ as′ d k.
           let q = ahead h k in
@@ -129,4 +130,4 @@ module _ {s : List ℕ} {c₀ c : Cursor} {n i : ℕ} {out : List ℕ} (p : Atom
       let b : q .0 ≡ [] = no-atoms (rw e at (q .1)) in
       let a : p .done ≡ as′ = sym (append-nil (p .done)) ∙ ap (λ (ys : List Atom). p .done ++ ys) (sym b) ∙ q .2 in
       let l : length as′ ≡ i = ap length (sym a) ∙ p .many in
-      record { are = ap (λ (k : ℕ). take (k * 10) out) l ∙ p .held ∙ ap (flatMap atomNumbers) a }
+      record { are = ap (λ (k : ℕ). take (k * atomWidth) out) l ∙ p .held ∙ ap (flatMap atomNumbers) a }

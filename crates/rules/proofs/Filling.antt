@@ -28,14 +28,14 @@ module _ {at : ℕ} {xs : List ℕ} {i : ℕ} {d₀ d : List ℕ} (f : Filled at
       f .is ∙ ap (λ (k : ℕ). paste d₀ at xs k) e
       ∙ ap (λ (ys : List ℕ). take at d₀ ++ ys ++ drop (at + n) d₀) (take-all n xs (rw l (le-refl n)))
 
--- eight numbers, from the start on
-module _ (xs : List ℕ) (l : 8 ≤ length xs) {i : ℕ} {d₀ d : List ℕ} (f : Filled 0 (take 8 xs) i d₀ d) (m : length d₀ ≡ 8) where
-  pub eight-on : {v : ℕ} → v ≡ getD xs i 0 → i < 8 → Filled 0 (take 8 xs) (i + 1) d₀ (set d i v)
-  eight-on {v} e h =
+-- the first n of a longer list, from the start on
+module _ {n : ℕ} (xs : List ℕ) (l : n ≤ length xs) {i : ℕ} {d₀ d : List ℕ} (f : Filled 0 (take n xs) i d₀ d) (m : length d₀ ≡ n) where
+  pub first-on : {v : ℕ} → v ≡ getD xs i 0 → i < n → Filled 0 (take n xs) (i + 1) d₀ (set d i v)
+  first-on {v} e h =
       let z : 0 + i ≡ i = omega arith in
-      rw z at (filled-on f {n = 8} {v = v} (length-take-le 8 xs l) (e ∙ sym (getD-take 8 xs i 0 h)) (omega arith) h)
+      rw z at (filled-on f {n = n} {v = v} (length-take-le n xs l) (e ∙ sym (getD-take n xs i 0 h)) (omega arith) h)
 
-  pub eight-done : i ≡ 8 → d ≡ take 8 xs
-  eight-done e =
-      filled-done f 8 (length-take-le 8 xs l) e
-      ∙ ap (λ (ys : List ℕ). take 8 xs ++ ys) (drop-of-length-le d₀ {i = 8} (omega (arith, m))) ∙ append-nil (take 8 xs)
+  pub first-done : i ≡ n → d ≡ take n xs
+  first-done e =
+      filled-done f n (length-take-le n xs l) e
+      ∙ ap (λ (ys : List ℕ). take n xs ++ ys) (drop-of-length-le d₀ {i = 0 + n} (omega (arith, m))) ∙ append-nil (take n xs)

@@ -15,6 +15,7 @@ use Rattle.core.specs.Heads.{headArguments}
 use Rattle.matching.specs.Rule.{RuleHeld}
 use Rattle.meaning.proofs.Lists.Members.{both, every-at}
 use Rattle.meaning.proofs.Model.Resolved.{Bound, headTerms, headVariables, resolved}
+use Rattle.meaning.specs.Limits.{maxArguments, maxHeadVariables}
 use Rattle.meaning.specs.Member.{_∈_, here, there}
 use Rattle.meaning.specs.Pack.{Atom, Head, Pack, Row, Rule, Term, hasType, linksTo, linksToValue}
 use Rattle.meaning.specs.Tables.{RowsHeld}
@@ -77,19 +78,19 @@ in-variables (linksToValue s p x) v i = ⊎-elim there last (List·Memᴰ·appen
     last (here e) = here e
     last (there m) = elim m [ ]
 
-pub arguments-few : (h : Head) → ((t : Term) → t ∈ headTerms h → length (t .variables) ≤ 4) → length (headArguments h) ≤ 8
+pub arguments-few : (h : Head) → ((t : Term) → t ∈ headTerms h → length (t .variables) ≤ maxArguments) → length (headArguments h) ≤ maxHeadVariables
 unfolding headArguments headTerms
 arguments-few (hasType s t) f = omega (arith, f s (here refl))
 arguments-few (linksTo s p o) f = omega (arith, f s (here refl), f o (there (here refl)), length-append (s .variables) (o .variables))
 arguments-few (linksToValue s p v) f = omega (arith, f s (here refl), length-append (s .variables) (v ∷ []))
 
-front-is : (vs : List ℕ) (n : ℕ) → n ≡ length vs → length vs ≤ 8 → take n (take 8 (padded vs)) ≡ vs
-front-is vs n e h = rw e (take-take (length vs) 8 (padded vs) h ∙ take-at vs (replicate 8 0) (length vs) refl)
+front-is : (vs : List ℕ) (n : ℕ) → n ≡ length vs → length vs ≤ maxHeadVariables → take n (take maxHeadVariables (padded maxHeadVariables vs)) ≡ vs
+front-is vs n e h = rw e (take-take (length vs) maxHeadVariables (padded maxHeadVariables vs) h ∙ take-at vs (replicate maxHeadVariables 0) (length vs) refl)
 
 -- ---- the rule
 
 module _ {s : List ℕ} {P : Pack} (w : WellFormed s P) {rule : Rule} (listed : rule ∈ P .setting .rules) where
-  few-arguments : length (headArguments (rule .head)) ≤ 8
+  few-arguments : length (headArguments (rule .head)) ≤ maxHeadVariables
   few-arguments = arguments-few (rule .head) (term-short (bounded-of w) listed)
 
   pub rule-held : {rows : List ℕ} {n : RuleNumbers} → RowsHeld (P .rows) rows → Numbered rule n

@@ -8,12 +8,13 @@ use native.Mathlib.Omega.{arith}
 use Prim.Native.Nat.{ℕ, _+_, _-_, _≤_, _<_}
 use Rattle.access.proofs.Accepted.{well-formed}
 use Rattle.access.proofs.Found.{sought-on, sought-past, sought-there}
-use Rattle.access.specs.Places.{IsWellFormed}
+use Rattle.access.specs.Places.{IsWellFormed, OfPack}
 use Rattle.core.specs.Heads.{headArguments}
 use Rattle.matching.specs.Rule.{Answers, HeadKey, RuleGiven, RuleHeads}
 use Rattle.matching.specs.declared.Heads.{Heads}
 use Rattle.meaning.proofs.Lists.Members.{element}
 use Rattle.meaning.proofs.Lists.Places.{same-at, there-is}
+use Rattle.meaning.specs.Limits.{maxRules}
 use Rattle.meaning.specs.Pack.{Rule}
 use Rattle.pack.proofs.Bodies.{shrinks-of}
 use Rattle.pack.proofs.Sizes.{in-body}
@@ -25,7 +26,7 @@ use Rattle.pack.specs.Unpack.{Decoded, readAll}
 use Rattle.pack.specs.declared.cursor.Cursor.{Cursor}
 use Rattle.pack.specs.declared.walk.Kind.the-variants as Of
 use Rattle.rules.proofs.Held.{rule-held}
-use Rattle.rules.specs.Answer.{OfPack, RowsFrom}
+use Rattle.rules.specs.Answer.{RowsFrom}
 use Rattle.rules.specs.Numbers.{Numbered, NumberedAt, RuleThere}
 use Rattle.rules.specs.declared.numbers.RuleNumbers.{RuleNumbers}
 
@@ -88,7 +89,7 @@ abbrev pub CountFrom : List ℕ → ℕ → Type 0
 CountFrom s count = Decoded s (λ P. count ≡ length (P .setting .rules))
 
 module _ (s : List ℕ) (count : ℕ) (k : CountFrom s count) where
-  pub rules-few : IsWellFormed s → count ≤ 32
+  pub rules-few : IsWellFormed s → count ≤ maxRules
   rules-few w =
       let f = well-formed s (w .pack) (w .is) in
       omega (arith, k (w .pack) (f .read), unpacked s (w .pack) (f .read) .rules .1)

@@ -1,4 +1,4 @@
--- More than 1,024 keys of one rule's heads make the core too large: different keys are different subjects of its type, or
+-- More keys of one rule's heads than maxHeads make the core too large: different keys are different subjects of its type, or
 -- different triples of its predicate. Assumes nothing.
 use lib.ListN.{length}
 use mathlib.Core.List.{List, [], _∷_, _++_, map, map-append}
@@ -9,7 +9,7 @@ use Prim.Native.Nat.{ℕ, suc, _≤_}
 use Rattle.core.specs.Heads.{headArguments}
 use Rattle.matching.specs.Rule.{HeadKey}
 use Rattle.meaning.specs.Core.{Node, asTyped, headFact, iriNode, literalNode, nodeOf}
-use Rattle.meaning.specs.Limits.{maxCoreTriples, maxIris}
+use Rattle.meaning.specs.Limits.{maxCoreTriples, maxHeads, maxIris}
 use Rattle.meaning.specs.Member.{_∈_, here, there}
 use Rattle.meaning.specs.NoGraph.{CoreIri, CoreTriple, TooLarge}
 use Rattle.meaning.specs.Ordered.{InOrder, Over, before, empty}
@@ -85,11 +85,11 @@ module _ (P : Pack) (rule : Rule) (listed : rule ∈ P .setting .rules) where
     q .is ∙ ap packed (map-append (q .values) (s .variables) (v ∷ [])),
   )
 
-  pub too-large : Over 1024 (HeadKey (P .rows) (rule .atoms) (headArguments (rule .head))) → TooLarge P
+  pub too-large : Over maxHeads (HeadKey (P .rows) (rule .atoms) (headArguments (rule .head))) → TooLarge P
   unfolding Keys
   too-large = go (rule .head) refl
     where
-      go : (h : Head) → rule .head ≡ h → Over 1024 (Keys h) → TooLarge P
+      go : (h : Head) → rule .head ≡ h → Over maxHeads (Keys h) → TooLarge P
       go (hasType s t) e o = inl (over-by (λ (b : ℕ × List ℕ). packed (b .1)) (CoreIri P) maxIris (omega arith) (iri-of s t e) o)
       go (linksTo s p u) e o = inr (over-by tripleOf (CoreTriple P) maxCoreTriples (omega arith) (link-of s p u e) o)
       go (linksToValue s p v) e o = inr (over-by tripleOf (CoreTriple P) maxCoreTriples (omega arith) (value-of s p v e) o)

@@ -1,5 +1,5 @@
 -- The numbers of an atom and of a head, by their places in the bytes. Assumes nothing.
-use lib.ListN.{length, getD, take, replicate, length-append, List·getD-append, getD-replicate}
+use lib.ListN.{length, getD, take, replicate, length-append, length-replicate, List·getD-append, getD-replicate}
 use lib.Seq.{length-take-le, getD-append-add, getD-drop, getD-take}
 use mathlib.Core.List.{List, [], _∷_, _++_, append-nil}
 use mathlib.Core.Path.{_≡_, refl, sym, ap, _∙_}
@@ -7,6 +7,7 @@ use native.Mathlib.Omega.{arith}
 use Prim.Native.Nat.{ℕ, zero, suc, _+_, _-_, _≤_, _<_}
 use Rattle.core.specs.Heads.{headArguments, headNumbers}
 use Rattle.matching.specs.Rule.{atomNumbers}
+use Rattle.meaning.specs.Limits.{atomWidth, maxColumns, maxHeadVariables}
 use Rattle.meaning.specs.Pack.{Atom}
 use Rattle.pack.specs.Records.{atomOf}
 use Rattle.pack.specs.Shown.{headAt, made, textAt}
@@ -16,14 +17,14 @@ use Rattle.rules.specs.Numbers.{argumentPlaces, argumentsAt, padded}
 
 -- ---- a list with zeros behind
 
-module _ (xs : List ℕ) (i : ℕ) where
-  pub at-front : i < length xs → getD xs i 0 ≡ getD (padded xs) i 0
-  at-front h = sym (List·getD-append xs (replicate 8 0) 0 i h)
+module _ (n : ℕ) (xs : List ℕ) (i : ℕ) where
+  pub at-front : i < length xs → getD xs i 0 ≡ getD (padded n xs) i 0
+  at-front h = sym (List·getD-append xs (replicate n 0) 0 i h)
 
-  pub at-zero : length xs ≤ i → i < 8 → 0 ≡ getD (padded xs) i 0
+  pub at-zero : length xs ≤ i → i < n → 0 ≡ getD (padded n xs) i 0
   at-zero h k =
       let e : i ≡ length xs + (i - length xs) = omega arith in
-      sym (ap (λ (j : ℕ). getD (padded xs) j 0) e ∙ getD-append-add xs (replicate 8 0) (i - length xs) 0 ∙ getD-replicate 8 (i - length xs) 0 0 (omega arith))
+      sym (ap (λ (j : ℕ). getD (padded n xs) j 0) e ∙ getD-append-add xs (replicate n 0) (i - length xs) 0 ∙ getD-replicate n (i - length xs) 0 0 (omega arith))
 
 -- an element of the second of two lists
 at-second : (xs ys : List ℕ) (i : ℕ) → length xs ≤ i → getD ys (i - length xs) 0 ≡ getD (xs ++ ys) i 0
@@ -31,8 +32,8 @@ at-second xs ys i h =
     let e : i ≡ length xs + (i - length xs) = omega arith in
     sym (ap (λ (j : ℕ). getD (xs ++ ys) j 0) e ∙ getD-append-add xs ys (i - length xs) 0)
 
-pub length-padded : (xs : List ℕ) → length (padded xs) ≡ length xs + 8
-length-padded xs = length-append xs (replicate 8 0)
+pub length-padded : (n : ℕ) (xs : List ℕ) → length (padded n xs) ≡ length xs + n
+length-padded n xs = length-append xs (replicate n 0) ∙ ap (λ (m : ℕ). length xs + m) (length-replicate n 0)
 
 -- a byte of a place
 module _ (s : List ℕ) (start len i : ℕ) where
@@ -41,8 +42,8 @@ module _ (s : List ℕ) (start len i : ℕ) where
 
 -- ---- an atom
 
-pub length-atom : (a : Atom) → length (atomNumbers a) ≡ 10
-length-atom a = ap (λ (n : ℕ). suc (suc n)) (length-take-le 8 (padded (a .variables)) (omega (arith, length-padded (a .variables))))
+pub length-atom : (a : Atom) → length (atomNumbers a) ≡ atomWidth
+length-atom a = ap (λ (n : ℕ). suc (suc n)) (length-take-le maxColumns (padded maxColumns (a .variables)) (omega (arith, length-padded maxColumns (a .variables))))
 
 module _ (s : List ℕ) (t : Tuple) (h : t .start + t .len ≤ length s) (i : ℕ) where
   abbrev numbers : List ℕ
@@ -54,21 +55,21 @@ module _ (s : List ℕ) (t : Tuple) (h : t .start + t .len ≤ length s) (i : �
   pub atom-length : i ≡ 1 → t .len ≡ getD numbers i 0
   atom-length e = rw e (sym (length-at s (t .start) (t .len) h))
 
-  variables-at : 2 ≤ i → i < 10 → getD (padded (textAt s (t .start) (t .len))) (i - 2) 0 ≡ getD numbers i 0
+  variables-at : 2 ≤ i → i < atomWidth → getD (padded maxColumns (textAt s (t .start) (t .len))) (i - 2) 0 ≡ getD numbers i 0
   variables-at k l =
       let e : i ≡ suc (suc (i - 2)) = omega arith in
-      sym (ap (λ (j : ℕ). getD numbers j 0) e ∙ getD-take 8 (padded (textAt s (t .start) (t .len))) (i - 2) 0 (omega arith))
+      sym (ap (λ (j : ℕ). getD numbers j 0) e ∙ getD-take maxColumns (padded maxColumns (textAt s (t .start) (t .len))) (i - 2) 0 (omega arith))
 
-  pub atom-variable : (i ≡ 0 → ⊥) → (i ≡ 1 → ⊥) → i < 10 → i - 2 < t .len → getD s (t .start + (i - 2)) 0 ≡ getD numbers i 0
+  pub atom-variable : (i ≡ 0 → ⊥) → (i ≡ 1 → ⊥) → i < atomWidth → i - 2 < t .len → getD s (t .start + (i - 2)) 0 ≡ getD numbers i 0
   atom-variable x y l k =
       let two : 2 ≤ i = omega arith in
       byte-at s (t .start) (t .len) (i - 2) k
-      ∙ at-front (textAt s (t .start) (t .len)) (i - 2) (omega (arith, length-at s (t .start) (t .len) h)) ∙ variables-at two l
+      ∙ at-front maxColumns (textAt s (t .start) (t .len)) (i - 2) (omega (arith, length-at s (t .start) (t .len) h)) ∙ variables-at two l
 
-  pub atom-unused : (i ≡ 0 → ⊥) → (i ≡ 1 → ⊥) → i < 10 → t .len ≤ i - 2 → 0 ≡ getD numbers i 0
+  pub atom-unused : (i ≡ 0 → ⊥) → (i ≡ 1 → ⊥) → i < atomWidth → t .len ≤ i - 2 → 0 ≡ getD numbers i 0
   atom-unused x y l k =
       let two : 2 ≤ i = omega arith in
-      at-zero (textAt s (t .start) (t .len)) (i - 2) (omega (arith, length-at s (t .start) (t .len) h)) (omega arith) ∙ variables-at two l
+      at-zero maxColumns (textAt s (t .start) (t .len)) (i - 2) (omega (arith, length-at s (t .start) (t .len) h)) (omega arith) ∙ variables-at two l
 
 -- ---- a head
 
@@ -85,9 +86,9 @@ module _ (s : List ℕ) (t u : Tuple) where
   arguments-are (suc zero) l = refl
   arguments-are (suc (suc k)) l = refl
 
-  pub places-long : (kind : ℕ) → 8 ≤ length (argumentPlaces kind s t u)
+  pub places-long : (kind : ℕ) → maxHeadVariables ≤ length (argumentPlaces kind s t u)
   unfolding argumentPlaces
-  places-long kind = omega (arith, length-padded (argumentsAt kind s t u))
+  places-long kind = omega (arith, length-padded maxHeadVariables (argumentsAt kind s t u))
 
   parts : (kind : ℕ) → argumentsAt kind s t u ≡ textAt s (t .start) (t .len) ++ objectAt kind s u
   unfolding argumentsAt headArguments objectAt
@@ -120,25 +121,25 @@ module _ (s : List ℕ) (t u : Tuple) where
     count-value (suc (suc n)) x y = omega (arith, length-parts (suc (suc n)))
 
     module _ (kind i : ℕ) where
-      places-are : padded (subject ++ objectAt kind s u) ≡ argumentPlaces kind s t u
+      places-are : padded maxHeadVariables (subject ++ objectAt kind s u) ≡ argumentPlaces kind s t u
       unfolding argumentPlaces
-      places-are = ap padded (sym (parts kind))
+      places-are = ap (padded maxHeadVariables) (sym (parts kind))
 
       pub in-subject : i < t .len → getD s (t .start + i) 0 ≡ getD (argumentPlaces kind s t u) i 0
       in-subject l =
           byte-at s (t .start) (t .len) i l ∙ sym (List·getD-append subject (objectAt kind s u) 0 i (omega (arith, long)))
-          ∙ at-front (subject ++ objectAt kind s u) i (omega (arith, long, length-append subject (objectAt kind s u)))
+          ∙ at-front maxHeadVariables (subject ++ objectAt kind s u) i (omega (arith, long, length-append subject (objectAt kind s u)))
           ∙ ap (λ (xs : List ℕ). getD xs i 0) places-are
 
       in-object : t .len ≤ i → i - t .len < length (objectAt kind s u) → getD (objectAt kind s u) (i - t .len) 0 ≡ getD (argumentPlaces kind s t u) i 0
       in-object l m =
           ap (λ (n : ℕ). getD (objectAt kind s u) (i - n) 0) (sym long) ∙ at-second subject (objectAt kind s u) i (omega (arith, long))
-          ∙ at-front (subject ++ objectAt kind s u) i (omega (arith, long, length-append subject (objectAt kind s u)))
+          ∙ at-front maxHeadVariables (subject ++ objectAt kind s u) i (omega (arith, long, length-append subject (objectAt kind s u)))
           ∙ ap (λ (xs : List ℕ). getD xs i 0) places-are
 
-      past : t .len ≤ i → i < 8 → length (objectAt kind s u) ≤ i - t .len → 0 ≡ getD (argumentPlaces kind s t u) i 0
+      past : t .len ≤ i → i < maxHeadVariables → length (objectAt kind s u) ≤ i - t .len → 0 ≡ getD (argumentPlaces kind s t u) i 0
       past l b m =
-          at-zero (subject ++ objectAt kind s u) i (omega (arith, long, length-append subject (objectAt kind s u))) b
+          at-zero maxHeadVariables (subject ++ objectAt kind s u) i (omega (arith, long, length-append subject (objectAt kind s u))) b
           ∙ ap (λ (xs : List ℕ). getD xs i 0) places-are
 
     module _ (kind i : ℕ) (l : t .len ≤ i) where
@@ -146,11 +147,11 @@ module _ (s : List ℕ) (t u : Tuple) where
       unfolding objectAt
       in-link e m = rw e (byte-at s (u .start) (u .len) (i - t .len) m ∙ in-object 1 i l (omega (arith, length-at s (u .start) (u .len) k)))
 
-      pub past-link : kind ≡ 1 → i < 8 → u .len ≤ i - t .len → 0 ≡ getD (argumentPlaces kind s t u) i 0
+      pub past-link : kind ≡ 1 → i < maxHeadVariables → u .len ≤ i - t .len → 0 ≡ getD (argumentPlaces kind s t u) i 0
       unfolding objectAt
       past-link e b m = rw e (past 1 i l b (omega (arith, length-at s (u .start) (u .len) k)))
 
-      pub past-type : kind ≡ 0 → i < 8 → 0 ≡ getD (argumentPlaces kind s t u) i 0
+      pub past-type : kind ≡ 0 → i < maxHeadVariables → 0 ≡ getD (argumentPlaces kind s t u) i 0
       unfolding objectAt
       past-type e b = rw e (past 0 i l b (omega arith))
 
@@ -160,7 +161,7 @@ module _ (s : List ℕ) (t u : Tuple) where
     in-value (suc zero) i l x y e = absurd (y refl)
     in-value (suc (suc n)) i l x y e = sym (ap (λ (j : ℕ). getD (u .number ∷ []) j 0) e) ∙ in-object (suc (suc n)) i l (omega arith)
 
-    pub past-value : (kind i : ℕ) → t .len ≤ i → i < 8 → (kind ≡ 0 → ⊥) → (kind ≡ 1 → ⊥) → (i - t .len ≡ 0 → ⊥) → 0 ≡ getD (argumentPlaces kind s t u) i 0
+    pub past-value : (kind i : ℕ) → t .len ≤ i → i < maxHeadVariables → (kind ≡ 0 → ⊥) → (kind ≡ 1 → ⊥) → (i - t .len ≡ 0 → ⊥) → 0 ≡ getD (argumentPlaces kind s t u) i 0
     unfolding objectAt
     past-value zero i l b x y e = absurd (x refl)
     past-value (suc zero) i l b x y e = absurd (y refl)

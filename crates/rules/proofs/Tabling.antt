@@ -8,25 +8,27 @@ use native.Mathlib.Decide.{ℕ-discrete}
 use native.Mathlib.Omega.{arith}
 use Prim.Native.Nat.{ℕ, _+_, _-_, _≤_, _<_, zero-le}
 use Rattle.access.proofs.Accepted.{well-formed}
+use Rattle.access.specs.Places.{OfPack}
 use Rattle.core.specs.Heads.{headNumbers}
 use Rattle.meaning.proofs.Lists.Places.{inside}
+use Rattle.meaning.specs.Limits.{maxRules}
 use Rattle.meaning.specs.Pack.{Pack, Rule}
 use Rattle.pack.specs.Checked.{wellFormed, accepted}
-use Rattle.rules.specs.Answer.{OfPack, TableFrom}
+use Rattle.rules.specs.Answer.{TableFrom}
 use Rattle.rules.specs.declared.numbers.RuleNumbers.{RuleNumbers}
 use Rattle.rules.proofs.OneRule.{CountFrom, NumberedFrom}
 
 -- those of the first r rules are put
 pub record Tabling (s : List ℕ) (count r : ℕ) (rules : List (List ℕ)) : Type 0 where
   pub within : r ≤ count
-  pub all : length rules ≡ 32
+  pub all : length rules ≡ maxRules
   pub numbers : OfPack s (λ P. (i : ℕ) → i < r → (rule : Rule) → getElem? (P .setting .rules) i ≡ some rule → getD rules i [] ≡ headNumbers (rule .head))
 
-pub tabling-start : (s : List ℕ) (count : ℕ) (rules : List (List ℕ)) → length rules ≡ 32 → Tabling s count 0 rules
+pub tabling-start : (s : List ℕ) (count : ℕ) (rules : List (List ℕ)) → length rules ≡ maxRules → Tabling s count 0 rules
 tabling-start s count rules e = record { within = zero-le; all = e; numbers = λ P w i h. absurd (omega (arith, h)) }
 
 module _ {s : List ℕ} {count r : ℕ} {rules : List (List ℕ)} (t : Tabling s count r rules) where
-  pub tabling-on : r < count → count ≤ 32 → (n : RuleNumbers) → NumberedFrom s r n → Tabling s count (r + 1) (set rules r (n .head))
+  pub tabling-on : r < count → count ≤ maxRules → (n : RuleNumbers) → NumberedFrom s r n → Tabling s count (r + 1) (set rules r (n .head))
   tabling-on h few n m = record {
     within = omega arith;
     all = length-set rules r (n .head) ∙ t .all;

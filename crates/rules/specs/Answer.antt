@@ -5,17 +5,13 @@ use mathlib.Core.List.{List, []}
 use mathlib.Core.Option.{some}
 use mathlib.Core.Path.{_≡_}
 use Prim.Native.Nat.{ℕ, _≤_, _<_}
-use Rattle.core.specs.Heads.{HeadsHeld, headNumbers, keysPerRule}
-use Rattle.meaning.specs.Limits.{maxRules}
+use Rattle.access.specs.Places.{OfPack}
+use Rattle.core.specs.Heads.{HeadsHeld, headNumbers}
+use Rattle.meaning.specs.Limits.{maxHeads, maxRules}
 use Rattle.meaning.specs.NoGraph.{TooLarge}
 use Rattle.meaning.specs.Pack.{Pack, Rule}
 use Rattle.meaning.specs.Tables.{RowsHeld}
-use Rattle.pack.specs.Checked.{wellFormed, accepted}
 use Rattle.rules.specs.declared.heads.AllHeads.{AllHeads}
-
--- what holds of the pack that the bytes are
-abbrev pub OfPack : List ℕ → (Pack → Type 0) → Type 0
-OfPack s Q = (P : Pack) → wellFormed s ≡ accepted P → Q P
 
 abbrev pub RowsFrom : List ℕ → List ℕ → Type 0
 RowsFrom s numbers = OfPack s (λ P. RowsHeld (P .rows) numbers)
@@ -33,7 +29,7 @@ TableFrom s rules = OfPack s (λ P. HeadTable P rules)
 -- of all rules: with the table of their heads they are held
 pub record HeadsFound (P : Pack) (a : AllHeads) (heads : List ℕ) : Type 0 where
   pub few : a .count ≤ maxRules
-  pub short : (r : ℕ) → r < a .count → getD (a .counts) r 0 ≤ keysPerRule
+  pub short : (r : ℕ) → r < a .count → getD (a .counts) r 0 ≤ maxHeads
   pub held : (rules : List (List ℕ)) → HeadTable P rules → HeadsHeld P rules (a .count) heads (a .counts)
 
 -- or the core is too large (refusal 9)

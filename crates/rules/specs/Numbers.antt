@@ -5,6 +5,7 @@ use mathlib.Core.Path.{_≡_}
 use Prim.Native.Nat.{ℕ, _+_, _≤_}
 use Rattle.core.specs.Heads.{headArguments, headNumbers}
 use Rattle.matching.specs.Rule.{AtomsHeld}
+use Rattle.meaning.specs.Limits.{maxHeadVariables}
 use Rattle.meaning.specs.Pack.{Rule}
 use Rattle.pack.specs.Records.{rule}
 use Rattle.pack.specs.Shown.{Got, Not, Placed, headAt}
@@ -12,16 +13,15 @@ use Rattle.pack.specs.declared.cursor.Cursor.{Cursor}
 use Rattle.pack.specs.declared.cursor.Tuple.{Tuple}
 use Rattle.rules.specs.declared.numbers.RuleNumbers.{RuleNumbers}
 
--- numbers with zeros behind them
-abbrev pub padded : List ℕ → List ℕ
-padded vs = vs ++ replicate 8 0
+-- numbers with n zeros behind them
+abbrev pub padded : ℕ → List ℕ → List ℕ
+padded n vs = vs ++ replicate n 0
 
--- The numbers are those of the rule: ten an atom; its head's variables in eight places, 0 where unused, since a head has at
--- most two terms of four; its head.
+-- The numbers are those of the rule: its atoms; its head's variables, 0 in places unused; its head.
 pub record Numbered (it : Rule) (n : RuleNumbers) : Type 0 where
   pub atoms : AtomsHeld (it .atoms) (n .atoms)
   pub atoms-counted : n .«atom_count» ≡ length (it .atoms)
-  pub vars : n .vars ≡ take 8 (padded (headArguments (it .head)))
+  pub vars : n .vars ≡ take maxHeadVariables (padded maxHeadVariables (headArguments (it .head)))
   pub vars-counted : n .«var_count» ≡ length (headArguments (it .head))
   pub head : n .head ≡ headNumbers (it .head)
 
@@ -52,4 +52,4 @@ argumentsAt kind s subject object = headArguments (headAt kind s subject 0 objec
 
 unfoldable pub argumentPlaces : ℕ → List ℕ → Tuple → Tuple → List ℕ
 unfolding argumentsAt
-argumentPlaces kind s subject object = padded (argumentsAt kind s subject object)
+argumentPlaces kind s subject object = padded maxHeadVariables (argumentsAt kind s subject object)

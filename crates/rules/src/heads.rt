@@ -3,24 +3,30 @@ ghost use Prim.Native.Nat.{_≤_};
 ghost use lib.ListN.{length};
 ghost use Rattle.access.specs.Places.{IsWellFormed};
 ghost use Rattle.matching.specs.Rule.{RuleGiven, RuleHeads};
+ghost use Rattle.meaning.specs.Limits.{candidatesLength, headsLength};
 ghost use Rattle.rules.specs.Answer.{RowsFrom, HeadsAnswer, TableFrom};
 use crate::numbers::RuleNumbers;
 use crate::numbers::rule_numbers;
 use access::rule_count;
+use core::heads::Counts;
+use core::heads::HeadTable;
 use matching::Heads;
 use matching::rule_heads;
+use meaning::HEAD_WIDTH;
+use meaning::MAX_HEADS;
+use meaning::MAX_RULES;
 use pack::contents::body;
 
 // How many rules there are and how many keys each has; or that the core is too large.
 pub struct AllHeads {
     pub too_large: bool,
     pub count: usize,
-    pub counts: [usize; 32],
+    pub counts: Counts,
 }
 
 // The keys of a rule's heads, ascending at the front of keys.
 fn heads_of(rule: RuleNumbers, rows: &[u16], keys: &mut [u64], work: &mut [u64]) -> Heads
-    requires { ⌜ RuleGiven (now rows) (rule .atoms) (rule .«atom_count») (rule .vars) (rule .«var_count») × (3072 ≤ length (now work)) ⌝ }
+    requires { ⌜ RuleGiven (now rows) (rule .atoms) (rule .«atom_count») (rule .vars) (rule .«var_count») × (candidatesLength ≤ length (now work)) ⌝ }
     ensures { λ h. ⌜ RuleHeads h (now (rows .entry)) (rule .atoms) (rule .«atom_count») (rule .vars) (rule .«var_count») (now (keys .exit)) ⌝ }
 {
     let atoms = rule.atoms;
@@ -36,18 +42,18 @@ fn heads_of(rule: RuleNumbers, rows: &[u16], keys: &mut [u64], work: &mut [u64])
     )
 }
 
-// The keys of all rules' heads, rule r's from r * 1,024 on.
+// The keys of all rules' heads, rule r's from r * MAX_HEADS on.
 pub fn all_heads(s: &[u8], rows: &[u16], heads: &mut [u64], work: &mut [u64]) -> AllHeads
-    requires { ⌜ IsWellFormed (now s) × RowsFrom (now s) (now rows) × (32768 ≤ length (now heads)) × (3072 ≤ length (now work)) ⌝ }
+    requires { ⌜ IsWellFormed (now s) × RowsFrom (now s) (now rows) × (headsLength ≤ length (now heads)) × (candidatesLength ≤ length (now work)) ⌝ }
     ensures { λ a. ⌜ HeadsAnswer (now (s .entry)) a (now (heads .exit)) ⌝ }
 {
     let count = rule_count(s);
-    let mut counts = [0usize; 32];
+    let mut counts = [0usize; MAX_RULES];
     let mut c = body(s, 7);
     for r in 0..count {
         let rule = rule_numbers(s, c);
-        let start = r * 1024;
-        let end = start + 1024;
+        let start = r * MAX_HEADS;
+        let end = start + MAX_HEADS;
         let found = heads_of(rule, rows, &mut heads[start..end], work);
         match found {
             Heads::Over => {
@@ -71,12 +77,12 @@ pub fn all_heads(s: &[u8], rows: &[u16], heads: &mut [u64], work: &mut [u64]) ->
 }
 
 // The heads of all rules, six numbers each.
-pub fn head_table(s: &[u8]) -> [[u64; 6]; 32]
+pub fn head_table(s: &[u8]) -> HeadTable
     requires { ⌜ IsWellFormed (now s) ⌝ }
     ensures { λ rules. ⌜ TableFrom (now (s .entry)) rules ⌝ }
 {
     let count = rule_count(s);
-    let mut rules = [[0u64; 6]; 32];
+    let mut rules = [[0u64; HEAD_WIDTH]; MAX_RULES];
     let mut c = body(s, 7);
     for rule in 0..count {
         let n = rule_numbers(s, c);

@@ -6,28 +6,34 @@ ghost use lib.ListN.{length, getD, take, drop};
 ghost use Rattle.access.specs.Places.{IsWellFormed};
 ghost use Rattle.core.specs.Heads.{headNumbers};
 ghost use Rattle.matching.specs.Rule.{atomNumbers, AtomsHeld};
+ghost use Rattle.meaning.specs.Limits.{atomsLength, atomWidth, maxAtoms, maxColumns, maxHeadVariables, maxPackBytes};
 ghost use Rattle.pack.specs.Named.{AtomsAt};
 ghost use Rattle.pack.specs.Records.{atomOf};
 ghost use Rattle.pack.specs.Shown.{Placed, made, headAt};
 ghost use Rattle.rules.specs.Numbers.{InBytes, Inside, RuleThere, NumberedAt, argumentsAt, argumentPlaces};
+use core::heads::Head;
+use meaning::ATOM_WIDTH;
+use meaning::ATOMS_LENGTH;
+use meaning::HEAD_WIDTH;
+use meaning::MAX_HEAD_VARIABLES;
 use pack::cursor::Cursor;
 use pack::cursor::RuleRead;
 use pack::cursor::Tuple;
 use pack::cursor::TupleRead;
 
-// A rule: ten numbers an atom; the head's variables, 0 where unused; six numbers of the head. And where the next rule is.
+// A rule: the numbers of its atoms; the head's variables, 0 where unused; six numbers of the head. And where the next rule is.
 pub struct RuleNumbers {
-    pub atoms: [u8; 30],
+    pub atoms: [u8; ATOMS_LENGTH],
     pub atom_count: usize,
-    pub vars: [u8; 8],
+    pub vars: [u8; MAX_HEAD_VARIABLES],
     pub var_count: usize,
-    pub head: [u64; 6],
+    pub head: Head,
     pub next: Cursor,
 }
 
-// Number i of an atom's ten: its relation, how many variables, the variables, 0 where unused.
+// Number i of an atom: its relation, how many variables, the variables, 0 where unused.
 fn atom_number(s: &[u8], atom: Tuple, i: usize) -> u8
-    requires { ⌜ Inside (now s) atom × (atom .len ≤ 8) × (i < 10) ⌝ }
+    requires { ⌜ Inside (now s) atom × (atom .len ≤ maxColumns) × (i < atomWidth) ⌝ }
     ensures { λ r. ⌜ r ≡ getD (atomNumbers (made atomOf (now (s .entry)) atom)) i 0 ⌝ }
 {
     let start = atom.start;
@@ -45,29 +51,29 @@ fn atom_number(s: &[u8], atom: Tuple, i: usize) -> u8
 }
 
 // The numbers with those of an atom from a place on.
-fn put_atom(s: &[u8], atom: Tuple, atoms: [u8; 30], at: usize) -> [u8; 30]
-    requires { ⌜ Inside (now s) atom × (atom .len ≤ 8) × (at + 10 ≤ 30) ⌝ }
-    ensures { λ r. ⌜ r ≡ take at atoms ++ atomNumbers (made atomOf (now (s .entry)) atom) ++ drop (at + 10) atoms ⌝ }
+fn put_atom(s: &[u8], atom: Tuple, atoms: [u8; ATOMS_LENGTH], at: usize) -> [u8; ATOMS_LENGTH]
+    requires { ⌜ Inside (now s) atom × (atom .len ≤ maxColumns) × (at + atomWidth ≤ atomsLength) ⌝ }
+    ensures { λ r. ⌜ r ≡ take at atoms ++ atomNumbers (made atomOf (now (s .entry)) atom) ++ drop (at + atomWidth) atoms ⌝ }
 {
     let mut out = atoms;
-    for i in 0..10 {
+    for i in 0..ATOM_WIDTH {
         out[at + i] = atom_number(s, atom, i);
     }
     out
 }
 
 // The n atoms from a cursor on.
-fn rule_atoms(s: &[u8], first: Cursor, n: usize) -> [u8; 30]
-    requires { ⌜ Placed (now s) first × (n ≤ 3) ⌝ }
+fn rule_atoms(s: &[u8], first: Cursor, n: usize) -> [u8; ATOMS_LENGTH]
+    requires { ⌜ Placed (now s) first × (n ≤ maxAtoms) ⌝ }
     ensures { λ r. ⌜ AtomsAt (now (s .entry)) first n (λ as′. AtomsHeld as′ r) ⌝ }
 {
-    let mut out = [0u8; 30];
+    let mut out = [0u8; ATOMS_LENGTH];
     let mut c = first;
     let mut i = 0;
     while i < n {
         match c.atom(s) {
             TupleRead::Tuple { tuple, next } => {
-                let filled = put_atom(s, tuple, out, i * 10);
+                let filled = put_atom(s, tuple, out, i * ATOM_WIDTH);
                 out = filled;
                 c = next;
             }
@@ -82,7 +88,7 @@ fn rule_atoms(s: &[u8], first: Cursor, n: usize) -> [u8; 30]
 
 // Variable i of a head, the subject's before the object's; 0 past them.
 fn head_variable(s: &[u8], kind: u8, subject: Tuple, object: Tuple, i: usize) -> u8
-    requires { ⌜ Inside (now s) subject × Inside (now s) object × (i < 8) ⌝ }
+    requires { ⌜ Inside (now s) subject × Inside (now s) object × (i < maxHeadVariables) ⌝ }
     ensures { λ r. ⌜ r ≡ getD (argumentPlaces kind (now (s .entry)) subject object) i 0 ⌝ }
 {
     let start = subject.start;
@@ -106,13 +112,13 @@ fn head_variable(s: &[u8], kind: u8, subject: Tuple, object: Tuple, i: usize) ->
     0
 }
 
-// All eight.
-fn head_variables(s: &[u8], kind: u8, subject: Tuple, object: Tuple) -> [u8; 8]
+// All of them.
+fn head_variables(s: &[u8], kind: u8, subject: Tuple, object: Tuple) -> [u8; MAX_HEAD_VARIABLES]
     requires { ⌜ Inside (now s) subject × Inside (now s) object ⌝ }
-    ensures { λ r. ⌜ r ≡ take 8 (argumentPlaces kind (now (s .entry)) subject object) ⌝ }
+    ensures { λ r. ⌜ r ≡ take maxHeadVariables (argumentPlaces kind (now (s .entry)) subject object) ⌝ }
 {
-    let mut vars = [0u8; 8];
-    for i in 0..8 {
+    let mut vars = [0u8; MAX_HEAD_VARIABLES];
+    for i in 0..MAX_HEAD_VARIABLES {
         vars[i] = head_variable(s, kind, subject, object, i);
     }
     vars
@@ -120,7 +126,7 @@ fn head_variables(s: &[u8], kind: u8, subject: Tuple, object: Tuple) -> [u8; 8]
 
 // How many variables a head has.
 fn variable_count(kind: u8, subject: Tuple, object: Tuple) -> usize
-    requires { ⌜ (subject .len ≤ 65536) × (object .len ≤ 65536) ⌝ }
+    requires { ⌜ (subject .len ≤ maxPackBytes) × (object .len ≤ maxPackBytes) ⌝ }
     ensures { λ r. ⌜ InBytes subject object (λ s. r ≡ length (argumentsAt kind s subject object)) ⌝ }
 {
     if kind == 0 {
@@ -133,7 +139,7 @@ fn variable_count(kind: u8, subject: Tuple, object: Tuple) -> usize
 }
 
 // A head's six numbers.
-fn head_numbers(kind: u8, subject: Tuple, label: u8, object: Tuple) -> [u64; 6]
+fn head_numbers(kind: u8, subject: Tuple, label: u8, object: Tuple) -> Head
     ensures { λ r. ⌜ InBytes subject object (λ s. r ≡ headNumbers (headAt kind s subject label object)) ⌝ }
 {
     let constructor = subject.number as u64;
@@ -180,11 +186,11 @@ pub fn rule_numbers(s: &[u8], at: Cursor) -> RuleNumbers
             }
         }
         RuleRead::Bad => RuleNumbers {
-            atoms: [0; 30],
+            atoms: [0; ATOMS_LENGTH],
             atom_count: 0,
-            vars: [0; 8],
+            vars: [0; MAX_HEAD_VARIABLES],
             var_count: 0,
-            head: [0; 6],
+            head: [0; HEAD_WIDTH],
             next: at,
         },
     }

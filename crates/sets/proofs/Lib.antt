@@ -8,3 +8,4 @@ pub mod Shift
 pub mod Insertion
 pub mod Mask
 pub mod Lowest
+pub mod Progress

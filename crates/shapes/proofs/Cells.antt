@@ -4,11 +4,11 @@ use mathlib.Core.Option.{Option, none, some}
 use mathlib.Core.Path.{_≡_, refl, _∙_}
 use native.Mathlib.Omega.{arith}
 use Prim.Native.Nat.{ℕ, _/_, _%_, _≤_, _<_}
-use Rattle.meaning.specs.Limits.{maxTypes, maxPredicates}
+use Rattle.meaning.specs.Limits.{maxPredicates, maxTypes, multiplicityRoom}
 use Rattle.meaning.specs.Pack.{HasShape, Multiplicity, Setting, Shape, anyNumber, atLeastOne, multiplicityNumber, one, optional, shapeOf}
 use Rattle.meaning.specs.Tables.{ShapeTable, cellAt, cellOf, targetCode}
 
-multiplicity-small : (m : Multiplicity) → (1 ≤ multiplicityNumber m) × (multiplicityNumber m < 8)
+pub multiplicity-small : (m : Multiplicity) → (1 ≤ multiplicityNumber m) × (multiplicityNumber m < multiplicityRoom)
 multiplicity-small one = (omega arith, omega arith)
 multiplicity-small optional = (omega arith, omega arith)
 multiplicity-small anyNumber = (omega arith, omega arith)
@@ -18,10 +18,10 @@ module _ (s : Shape) where
   pub cell-held : cellOf (some s) ≡ 0 → ⊥
   cell-held e = omega (arith, multiplicity-small (s .multiplicity))
 
-  pub cell-target : cellOf (some s) / 8 ≡ targetCode (s .target)
+  pub cell-target : cellOf (some s) / multiplicityRoom ≡ targetCode (s .target)
   cell-target = omega (arith, multiplicity-small (s .multiplicity))
 
-  pub cell-multiplicity : cellOf (some s) % 8 ≡ multiplicityNumber (s .multiplicity)
+  pub cell-multiplicity : cellOf (some s) % multiplicityRoom ≡ multiplicityNumber (s .multiplicity)
   cell-multiplicity = omega (arith, multiplicity-small (s .multiplicity))
 
 -- the shape of a cell that is not 0

@@ -9,7 +9,7 @@ use native.Mathlib.Decide.{ℕ-discrete}
 use native.Mathlib.Omega.{arith}
 use Prim.Native.Nat.{ℕ, _*_, _/_, _%_, _^_, _<_}
 use Rattle.meaning.proofs.Lists.Bits.{zero-bits}
-use Rattle.meaning.specs.Limits.{maxPredicates, maxTypes}
+use Rattle.meaning.specs.Limits.{maxPredicates, maxTypes, multiplicityRoom}
 use Rattle.meaning.specs.Tables.{cellAt, cellOf, setOfMask, targetCode}
 use Rattle.meaning.specs.TypeSet.{bit, _∈ₜ_}
 use Rattle.sets.proofs.Lowest.{cleared}
@@ -24,11 +24,11 @@ pub record HasCode (table : List (List ℕ)) (mask p j : ℕ) : Type 0 where
   pub member : ℕ
   pub has : Member mask member
   pub held : cellAt table member p ≡ 0 → ⊥
-  pub code : cellAt table member p / 8 ≡ j
+  pub code : cellAt table member p / multiplicityRoom ≡ j
 
 -- a shape's target is not in the mask of all
 abbrev Missing : ℕ → ℕ → Type 0
-Missing all cell = (cell ≡ 0 → ⊥) × (bit (cell / 8) all ≡ 1 → ⊥)
+Missing all cell = (cell ≡ 0 → ⊥) × (bit (cell / multiplicityRoom) all ≡ 1 → ⊥)
 
 -- all has targets of members only; the members whose target it lacks are still to come
 pub record Joining (table : List (List ℕ)) (mask p left all : ℕ) : Type 0 where
@@ -52,19 +52,19 @@ module _ {table : List (List ℕ)} {mask p left all : ℕ} (v : Joining table ma
     join-past e = record { fits = v .fits; only = v .only; rest = search-again (v .rest) more (λ t h. h) (λ h. h .0 e) }
 
     module _ (pre : (p < maxPredicates) × CodesFit table) where
-      pub code-fits : cell / 8 < 16
+      pub code-fits : cell / multiplicityRoom < 16
       code-fits = omega (arith, pre .1 (next left) p (search-next (v .rest) more .0) (pre .0))
 
-      pub join-on : (cell ≡ 0 → ⊥) → Joining table mask p (cleared left) (bitOr all (1 * 2 ^ (cell / 8) % 2 ^ 16))
-      join-on n = rw (weight-made 16 (cell / 8) code-fits) (record {
-        fits = or-lt 16 all (2 ^ (cell / 8)) (v .fits) (pow-lt code-fits);
-        only = λ j e. from j (added-member j (cell / 8) all .0 e);
+      pub join-on : (cell ≡ 0 → ⊥) → Joining table mask p (cleared left) (bitOr all (1 * 2 ^ (cell / multiplicityRoom) % 2 ^ 16))
+      join-on n = rw (weight-made 16 (cell / multiplicityRoom) code-fits) (record {
+        fits = or-lt 16 all (2 ^ (cell / multiplicityRoom)) (v .fits) (pow-lt code-fits);
+        only = λ j e. from j (added-member j (cell / multiplicityRoom) all .0 e);
         rest = search-again (v .rest) more
-            (λ t m. (m .0, λ b. m .1 (added-member (cellAt table t p / 8) (cell / 8) all .1 (inr b))))
-            (λ m. m .1 (added-member (cell / 8) (cell / 8) all .1 (inl refl)));
+            (λ t m. (m .0, λ b. m .1 (added-member (cellAt table t p / multiplicityRoom) (cell / multiplicityRoom) all .1 (inr b))))
+            (λ m. m .1 (added-member (cell / multiplicityRoom) (cell / multiplicityRoom) all .1 (inl refl)));
       })
         where
-          from : (j : ℕ) → (j ≡ cell / 8) ⊎ (bit j all ≡ 1) → HasCode table mask p j
+          from : (j : ℕ) → (j ≡ cell / multiplicityRoom) ⊎ (bit j all ≡ 1) → HasCode table mask p j
           from j (inl e) = record { member = next left; has = search-next (v .rest) more; held = n; code = sym e }
           from j (inr b) = v .only j b
 

@@ -6,7 +6,7 @@ use mathlib.Core.Option.{some}
 use mathlib.Core.Path.{_≡_, sym, _∙_, subst}
 use native.Mathlib.Omega.{arith}
 use Prim.Native.Nat.{ℕ, _%_, _<_}
-use Rattle.meaning.specs.Limits.{maxPredicates}
+use Rattle.meaning.specs.Limits.{maxPredicates, multiplicityRoom}
 use Rattle.meaning.specs.Pack.{AnswersTest, Multiplicity, Shape, multiplicityNumber}
 use Rattle.meaning.specs.Tables.{cellAt, cellOf}
 use Rattle.sets.proofs.Lowest.{cleared}
@@ -39,17 +39,17 @@ module _ {test : Multiplicity → Bool} {table : List (List ℕ)} {mask p left :
     pub no-shape : cell ≡ 0 → Passing test table mask p (cleared left)
     no-shape e = again (λ h. cell-held (h .shape) (sym (h .is) ∙ e))
 
-    module _ {r : Bool} (a : AnswersTest test (cell % 8) r) where
+    module _ {r : Bool} (a : AnswersTest test (cell % multiplicityRoom) r) where
       pub fails : r ≡ false → Passing test table mask p (cleared left)
       fails e = again (λ h.
-          let m : cell % 8 ≡ multiplicityNumber (h .shape .multiplicity) = rw (h .is) (cell-multiplicity (h .shape)) in
+          let m : cell % multiplicityRoom ≡ multiplicityNumber (h .shape .multiplicity) = rw (h .is) (cell-multiplicity (h .shape)) in
           subst T (sym (a (h .shape .multiplicity) m) ∙ e) (h .passes))
 
       pub found : p < maxPredicates → (cell ≡ 0 → ⊥) → r ≡ true → SomePasses test table mask p true
       found hp n e S tab =
           let m = search-next (v .rest) more in
           let h = held-shape (tab .cells) (m .0) hp n in
-          let k : cell % 8 ≡ multiplicityNumber (h .0 .multiplicity) = rw (h .2) (cell-multiplicity (h .0)) in (
+          let k : cell % multiplicityRoom ≡ multiplicityNumber (h .0 .multiplicity) = rw (h .2) (cell-multiplicity (h .0)) in (
             λ u. record {
               member = next left;
               shape = h .0;

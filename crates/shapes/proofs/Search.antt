@@ -4,9 +4,9 @@ use lib.Count.{trailingZeros}
 use mathlib.Core.Path.{_≡_, _∙_, subst}
 use native.Mathlib.Decide.{ℕ-discrete}
 use native.Mathlib.Omega.{arith}
-use Prim.Native.Nat.{ℕ, _^_, _<_}
+use Prim.Native.Nat.{ℕ, _<_}
 use Rattle.meaning.proofs.Lists.Bits.{zero-bits}
-use Rattle.meaning.specs.Limits.{maxTypes}
+use Rattle.meaning.specs.Limits.{maxTypes, typeSets}
 use Rattle.meaning.specs.TypeSet.{bit}
 use Rattle.sets.proofs.Lowest.{Lowest, cleared, cleared-le, cleared-member, lowest}
 use Rattle.shapes.proofs.Sets.{low-member, typesIn, types-small}
@@ -21,15 +21,15 @@ next left = trailingZeros 16 left
 
 module _ (Has : ℕ → Type 0) where
   pub record Searching (mask left : ℕ) : Type 0 where
-    pub small : left < 2 ^ 8
+    pub small : left < typeSets
     pub among : (t : ℕ) → bit t left ≡ 1 → Member mask t
     pub rest : (t : ℕ) → Member mask t → Has t → bit t left ≡ 1
 
   pub search-start : (mask : ℕ) → Searching mask (typesIn mask)
   search-start mask = record {
     small = types-small mask;
-    among = λ t. low-member 8 t mask .0;
-    rest = λ t m h. low-member 8 t mask .1 m;
+    among = λ t. low-member maxTypes t mask .0;
+    rest = λ t m h. low-member maxTypes t mask .1 m;
   }
 
 module _ {Has : ℕ → Type 0} {mask left : ℕ} (v : Searching Has mask left) where

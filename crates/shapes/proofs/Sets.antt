@@ -1,6 +1,6 @@
 -- A mask of 16 bits as a type set: type t's bit is bit t, Literal's is bit 15. Assumes nothing.
 use lib.Bits.{bitAnd, bitOr, and-le-r, and-mask, or-lt}
-use lib.Dec.{leb, leb→le, le→leb, lit<}
+use lib.Dec.{leb→le, le→leb, lit<}
 use lib.Pow.{pow-lt, suc-ones}
 use mathlib.Core.Logic.{_↔_, _⊎_, inl, inr}
 use mathlib.Core.Path.{_≡_, refl, sym, ap, _∙_, subst}
@@ -9,8 +9,9 @@ use native.Mathlib.Nat.{pow-suc, not-suc-le-zero, le-of-suc-le-suc}
 use native.Mathlib.Omega.{arith}
 use Prim.Native.Nat.{ℕ, zero, suc, _-_, _/_, _%_, _^_, _≤_, _<_}
 use Rattle.meaning.proofs.Lists.Bits.{bit-one, bit-other, bit-shift, zero-bits}
+use Rattle.meaning.specs.Limits.{literalBit, typeSets}
 use Rattle.meaning.specs.Pack.{Target, Literal, type}
-use Rattle.meaning.specs.Tables.{targetCode, setOfMask, literalBit}
+use Rattle.meaning.specs.Tables.{targetCode, setOfMask}
 use Rattle.meaning.specs.TypeSet.{bit, _∈ₜ_}
 use Rattle.sets.proofs.Mask.{bit-small, intersection-member, union-member}
 
@@ -31,10 +32,10 @@ low-member k t m = (
 
 -- the types of a mask
 abbrev pub typesIn : ℕ → ℕ
-typesIn mask = bitAnd mask 255
+typesIn mask = bitAnd mask (typeSets - 1)
 
-pub types-small : (mask : ℕ) → typesIn mask < 2 ^ 8
-types-small mask = omega (arith, and-le-r mask 255)
+pub types-small : (mask : ℕ) → typesIn mask < typeSets
+types-small mask = omega (arith, and-le-r mask (typeSets - 1))
 
 pub type-in : (t m : ℕ) → (type t ∈ₜ setOfMask m) ↔ ((t < literalBit) × (bit t m ≡ 1))
 unfolding setOfMask

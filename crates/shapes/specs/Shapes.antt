@@ -4,8 +4,8 @@ use mathlib.Core.Bool.{Bool}
 use mathlib.Core.List.{List}
 use mathlib.Core.Logic.{_↔_}
 use mathlib.Core.Path.{_≡_}
-use Prim.Native.Nat.{ℕ, _*_, _<_}
-use Rattle.meaning.specs.Limits.{maxTypes, maxPredicates}
+use Prim.Native.Nat.{ℕ, _*_, _+_, _<_}
+use Rattle.meaning.specs.Limits.{literalBit, maxPredicates, maxTypes, multiplicityRoom}
 use Rattle.meaning.specs.Pack.{HasShape, Multiplicity, Setting, Shape, Target, type}
 use Rattle.meaning.specs.Tables.{ShapeTable, cellAt, setOfMask}
 use Rattle.meaning.specs.TypeSet.{_∈ₜ_}
@@ -18,7 +18,7 @@ pub record SomeShape (S : Setting) (mask p : ℕ) (Q : Shape → Type 0) : Type 
   pub declared : HasShape S member p shape
   pub holds : Q shape
 
--- The shapes' types and targets are among the 8 types ("Types, at most 8", and 7: "A number names no record").
+-- The shapes' types and targets are among the types that a pack may have ("Types, at most 8", and 7: "A number names no record").
 pub record FewTypes (S : Setting) : Type 0 where
   pub owners : {t p : ℕ} {s : Shape} → HasShape S t p s → t < maxTypes
   pub targets : {t p u : ℕ} {s : Shape} → HasShape S t p s → s .target ≡ type u → u < maxTypes
@@ -28,9 +28,9 @@ pub record Tabled (S : Setting) (table : List (List ℕ)) : Type 0 where
   pub cells : ShapeTable S table
   pub few : FewTypes S
 
--- A cell's target code is below 16: so is every target's, 15 being Literal's.
+-- A cell's target code is at most Literal's.
 abbrev pub CodesFit : List (List ℕ) → Type 0
-CodesFit table = (t p : ℕ) → t < maxTypes → p < maxPredicates → cellAt table t p < 16 * 8
+CodesFit table = (t p : ℕ) → t < maxTypes → p < maxPredicates → cellAt table t p < (literalBit + 1) * multiplicityRoom
 
 -- "the targets of p in every shape of a member of X, required or not": r is the mask of their set
 abbrev pub TargetsOf : List (List ℕ) → ℕ → ℕ → ℕ → Type 0

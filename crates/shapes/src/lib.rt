@@ -1,15 +1,18 @@
-// What a type set's shapes say of a predicate. A cell of the shape table is target code * 8 + multiplicity, 0 for no shape.
+// What a type set's shapes say of a predicate. A cell of the shape table is a target code and a multiplicity, 0 for no shape.
 // "The members of a type set are taken from the lowest number upward."
 ghost use Prim.Native.Nat.{_<_};
 ghost use Rattle.meaning.specs.Limits.{maxPredicates};
 ghost use Rattle.meaning.specs.Pack.{limits as Limits, requires as Requires};
 ghost use Rattle.shapes.specs.Shapes.{CodesFit, SomePasses, TargetsOf};
+use meaning::MULTIPLICITY_ROOM;
+use meaning::ShapeTable;
+use meaning::TYPE_SETS;
 
 // The types of a mask: all but Literal.
-pub const TYPES: u16 = 255;
+pub const TYPES: u16 = (TYPE_SETS - 1) as u16;
 
 // The mask of the targets of p in the members' shapes.
-pub fn targets(shapes: &[[u16; 12]; 8], mask: u16, p: usize) -> u16
+pub fn targets(shapes: &ShapeTable, mask: u16, p: usize) -> u16
     requires { ⌜ (p < maxPredicates) × CodesFit (now shapes) ⌝ }
     ensures { λ r. ⌜ TargetsOf (now (shapes .entry)) mask p r ⌝ }
 {
@@ -20,14 +23,14 @@ pub fn targets(shapes: &[[u16; 12]; 8], mask: u16, p: usize) -> u16
         left &= left - 1;
         let cell = shapes[t][p];
         if cell != 0 {
-            all |= 1u16 << (cell / 8);
+            all |= 1u16 << (cell / MULTIPLICITY_ROOM);
         }
     }
     all
 }
 
 // Whether some member's shape requires p.
-pub fn required(shapes: &[[u16; 12]; 8], mask: u16, p: usize) -> bool
+pub fn required(shapes: &ShapeTable, mask: u16, p: usize) -> bool
     requires { ⌜ p < maxPredicates ⌝ }
     ensures { λ r. ⌜ SomePasses Requires (now (shapes .entry)) mask p r ⌝ }
 {
@@ -37,7 +40,7 @@ pub fn required(shapes: &[[u16; 12]; 8], mask: u16, p: usize) -> bool
         left &= left - 1;
         let cell = shapes[t][p];
         if cell != 0 {
-            if meaning::requires_edge((cell % 8) as u8) {
+            if meaning::requires_edge((cell % MULTIPLICITY_ROOM) as u8) {
                 return true;
             }
         }
@@ -46,7 +49,7 @@ pub fn required(shapes: &[[u16; 12]; 8], mask: u16, p: usize) -> bool
 }
 
 // Whether some member's shape limits p to one object.
-pub fn limited(shapes: &[[u16; 12]; 8], mask: u16, p: usize) -> bool
+pub fn limited(shapes: &ShapeTable, mask: u16, p: usize) -> bool
     requires { ⌜ p < maxPredicates ⌝ }
     ensures { λ r. ⌜ SomePasses Limits (now (shapes .entry)) mask p r ⌝ }
 {
@@ -56,7 +59,7 @@ pub fn limited(shapes: &[[u16; 12]; 8], mask: u16, p: usize) -> bool
         left &= left - 1;
         let cell = shapes[t][p];
         if cell != 0 {
-            if meaning::limits_edges((cell % 8) as u8) {
+            if meaning::limits_edges((cell % MULTIPLICITY_ROOM) as u8) {
                 return true;
             }
         }

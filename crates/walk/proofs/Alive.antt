@@ -1,10 +1,10 @@
 -- The walk finds what an expression joins: forward the ends that are reached, backward the states that are alive. This
 -- holds for any graph whose edges join its nodes, any threaded parts, and the expressions that these have. Assumes nothing.
 use mathlib.Core.Logic.{_↔_, _⊎_, inl, inr, ⊎-elim}
-use mathlib.Core.Path.{_≡_, refl, sym, ap, subst, _∙_}
+use mathlib.Core.Path.{_≡_, refl, sym, subst}
 use native.Mathlib.Omega.{arith}
 use Prim.Native.Nat.{ℕ, zero, suc, _<_}
-use Rattle.meaning.specs.Query.{Expr, nested, sequence, union, star, View, Repeated, none, more, Joins}
+use Rattle.meaning.specs.Query.{Expr, nested, sequence, union, star, View, none, Joins}
 use Rattle.walk.specs.Parts.{Part, leaf, test, repeat, chain, either, Linked, Threaded}
 use Rattle.walk.specs.Walk.{StepBy, Step, Reached, start, onward, Alive, ended, moves, tested, stops, repeats, begins, goes-left, goes-right, Saturated, EdgesJoinNodes}
 use Rattle.walk.proofs.Meanings.{before, kept, kept-back, joins-from, joins-to}
@@ -58,9 +58,6 @@ module _ (G : View) (whole : EdgesJoinNodes G) (part : ℕ → Part) (leaves : �
 
   known : (i : ℕ) → i < done → Known i (part i)
   known i l = (threaded .linked i l, says i l)
-
-  known-as : (i : ℕ) → i < done → (p : Part) → part i ≡ p → Known i p
-  known-as i l p e = subst (λ x. Known i x) e (known i l)
 
   -- ---- SOUND: what is left to do at a state
 

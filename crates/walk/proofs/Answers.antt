@@ -5,11 +5,12 @@ use mathlib.Core.Logic.{_↔_, inl, inr}
 use mathlib.Core.Path.{_≡_, refl, subst}
 use native.Mathlib.Omega.{arith}
 use Prim.Native.Nat.{ℕ, zero, suc, _+_, _-_, _≤_, _<_}
+use Rattle.meaning.specs.Limits.{maxParts}
 use Rattle.meaning.specs.Pack.{Text}
-use Rattle.meaning.specs.Query.{Expr, View, Joins, Satisfied}
+use Rattle.meaning.specs.Query.{View, Joins, Satisfied}
 use Rattle.query.proofs.TreeLaws.{holds-lt}
 use Rattle.query.specs.Answer.{HoldsQuery}
-use Rattle.walk.specs.Parts.{Part, leaf, test, repeat, chain, either, partOf, leafOf, Child, Linked, Threaded, listed}
+use Rattle.walk.specs.Parts.{Part, test, repeat, chain, either, partOf, leafOf, Child, Linked, Threaded, listed}
 use Rattle.walk.specs.Walk.{Reached, Alive, EdgesJoinNodes}
 use Rattle.walk.proofs.Alive.{Says, forward, backward}
 use Rattle.walk.proofs.Expressions.{exprOf, expr-says, root-at}
@@ -38,7 +39,7 @@ next-within q t next n held threaded i l = from n i (omega arith) l
         (λ s. let r = threaded .root in let e : n - 1 ≡ i = omega arith in subst (λ y. listed next y ≤ n) e (omega arith))
 
 module _ (G : View) (whole : EdgesJoinNodes G) (q : Text) (t next : List ℕ) (n : ℕ) (held : HoldsQuery q t n) (threaded : Threaded (partOf t) (listed next) n) where
-  short : n ≤ 256
+  short : n ≤ maxParts
   short = let a = held .few in let b = held .query .fits in omega arith
 
   some : 0 < n

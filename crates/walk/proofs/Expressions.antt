@@ -2,14 +2,15 @@
 use lib.ListN.{length, take, drop, getD}
 use mathlib.Core.List.{List}
 use mathlib.Core.Logic.{inl, inr}
-use mathlib.Core.Path.{_≡_, refl, sym, ap, subst, _∙_}
+use mathlib.Core.Path.{_≡_, refl, ap, _∙_}
 use native.Mathlib.Omega.{arith}
 use Prim.Native.Nat.{ℕ, zero, suc, _+_, _-_, _≤_, _<_}
+use Rattle.meaning.specs.Limits.{maxParts, partRoom}
 use Rattle.meaning.specs.Pack.{Text}
-use Rattle.meaning.specs.Query.{Expr, stay, step, anyStep, atIri, atLiteral, nested, sequence, union, star}
+use Rattle.meaning.specs.Query.{Expr, stay, step, atIri, atLiteral, nested, sequence, union, star}
 use Rattle.query.proofs.TreeLaws.{holds-lt}
 use Rattle.query.specs.Tree.{part as number}
-use Rattle.query.specs.Tree.{At, Holds, h-stay, h-any, h-step, h-iri, h-literal, h-nested, h-star, h-sequence, h-union}
+use Rattle.query.specs.Tree.{Holds, h-stay, h-any, h-step, h-iri, h-literal, h-nested, h-star, h-sequence, h-union}
 use Rattle.walk.specs.Parts.{Part, leaf, test, repeat, chain, either, Child, partOf, leafBy, leafOf}
 use Rattle.walk.proofs.Alive.{Says}
 use Rattle.walk.proofs.Trees.{is-leaf, is-test, is-repeat, is-chain, is-either, leaf-is}
@@ -79,7 +80,7 @@ module _ (q : Text) (t : List ℕ) where
   at = exprAt (partOf t) (leafOf q t)
 
   -- At a part with no parts, and at one with some.
-  leaf-at : (n k a b : ℕ) → k < 5 → getD t n 0 ≡ number k a b → a < 256 → b < 256 → (f : ℕ) → n + 1 ≤ f → at f (n + 1 - 1) ≡ leafBy k (take b (drop a q))
+  leaf-at : (n k a b : ℕ) → k < 5 → getD t n 0 ≡ number k a b → a < partRoom → b < partRoom → (f : ℕ) → n + 1 ≤ f → at f (n + 1 - 1) ≡ leafBy k (take b (drop a q))
   unfolding exprAt
   leaf-at n k a b lk p la lb zero l = absurd (omega arith)
   leaf-at n k a b lk p la lb (suc f) l =
@@ -93,7 +94,7 @@ module _ (q : Text) (t : List ℕ) where
       let z : n + 1 - 1 ≡ n = omega arith in
       rw z (ap (λ (x : Part). made x (leafOf q t n) (at f)) h ∙ r f (omega arith))
 
-  pub root-at : {n m : ℕ} {e : Expr} → Holds q t n e m → m ≤ 256 → (f : ℕ) → m ≤ f → at f (m - 1) ≡ e
+  pub root-at : {n m : ℕ} {e : Expr} → Holds q t n e m → m ≤ maxParts → (f : ℕ) → m ≤ f → at f (m - 1) ≡ e
   unfolding leafBy
   root-at (h-stay {n = n} p) s f l = leaf-at n 0 0 0 (omega arith) p (omega arith) (omega arith) f l
   root-at (h-any {n = n} p) s f l = leaf-at n 1 0 0 (omega arith) p (omega arith) (omega arith) f l

@@ -5,7 +5,8 @@ use mathlib.Core.Path.{_≡_}
 use Prim.Native.Nat.{ℕ, _-_}
 use Rattle.meaning.specs.Pack.{Text}
 use Rattle.meaning.specs.Query.{stay, step, anyStep, atIri, atLiteral}
-use Rattle.walk.specs.Parts.{leaf, test, repeat, chain, either, kindOf, firstNumber, partBy, partOf, partText, leafBy, leafOf}
+use Rattle.query.specs.Tree.{firstNumber, kindOf}
+use Rattle.walk.specs.Parts.{leaf, test, repeat, chain, either, partBy, partOf, partText, leafBy, leafOf}
 
 module _ (t : List ℕ) (i : ℕ) where
   pub kind-test : kindOf t i ≡ 5 → partOf t i ≡ test (i - 1)

@@ -3,12 +3,14 @@ use lib.ListN.{length, getD, set, length-set}
 use lib.Seq.{getD-set-same, getD-set-other}
 use mathlib.Core.List.{List}
 use mathlib.Core.Logic.{inl, inr}
-use mathlib.Core.Path.{_≡_, refl, sym, ap, subst, _∙_}
+use mathlib.Core.Path.{_≡_, refl, sym, subst, _∙_}
 use native.Mathlib.Decide.{ℕ-discrete}
 use native.Mathlib.Omega.{arith}
-use Prim.Native.Nat.{ℕ, zero, suc, _+_, _-_, _≤_, _<_}
+use Prim.Native.Nat.{ℕ, _+_, _-_, _≤_, _<_}
+use Rattle.meaning.specs.Limits.{maxParts}
 use Rattle.query.proofs.TreeLaws.{holds-lt}
-use Rattle.walk.specs.Parts.{Part, leaf, test, repeat, chain, either, Child, Ordered, kindOf, firstNumber, partOf, Linked, Threaded, listed}
+use Rattle.query.specs.Tree.{firstNumber, kindOf}
+use Rattle.walk.specs.Parts.{Part, leaf, test, repeat, chain, either, Child, Ordered, partOf, Linked, Threaded, listed}
 use Rattle.walk.specs.Threading.{PartReady, PartLinked, Threadable}
 use Rattle.walk.proofs.KindLaws.{kind-leaf, kind-test, kind-repeat, kind-chain, kind-either}
 use Rattle.walk.proofs.Trees.{Nest, holds-nest}
@@ -64,15 +66,15 @@ module _ {t next : List ℕ} {n i : ℕ} (r : PartReady t next n i) where
             ∙ getD-set-other next a c u 0 (λ z. k (subst (λ p. Child p c) (sym e) (subst (Child p) (sym z) x)));
       }
 
-  pub link-chain : kindOf t i ≡ 7 → PartLinked t next (set (set next (firstNumber t i) (i - 1)) (i - 1) (getD next i 0)) n i
-  link-chain e =
-      two (chain (firstNumber t i) (i - 1)) (kind-chain t i e) (firstNumber t i) (i - 1) (i - 1) (getD next i 0) (subst Ordered (kind-chain t i e) (r .ordered)) (chain-before e .1) (inl refl) (inr refl)
-      (λ next′ x y z. (x, y ∙ sym z))
+  pub link-chain : kindOf t i ≡ 7 → (left : ℕ) → left ≡ firstNumber t i → PartLinked t next (set (set next left (i - 1)) (i - 1) (getD next i 0)) n i
+  link-chain e left l =
+      subst (λ a. PartLinked t next (set (set next a (i - 1)) (i - 1) (getD next i 0)) n i) (sym l) (two (chain (firstNumber t i) (i - 1)) (kind-chain t i e) (firstNumber t i) (i - 1) (i - 1) (getD next i 0) (subst Ordered (kind-chain t i e) (r .ordered)) (chain-before e .1) (inl refl) (inr refl)
+      (λ next′ x y z. (x, y ∙ sym z)))
 
-  pub link-either : kindOf t i ≡ 8 → PartLinked t next (set (set next (firstNumber t i) (getD next i 0)) (i - 1) (getD next i 0)) n i
-  link-either e =
-      two (either (firstNumber t i) (i - 1)) (kind-either t i e) (firstNumber t i) (i - 1) (getD next i 0) (getD next i 0) (subst Ordered (kind-either t i e) (r .ordered)) (either-before e .1) (inl refl) (inr refl)
-      (λ next′ x y z. (x ∙ sym z, y ∙ sym z))
+  pub link-either : kindOf t i ≡ 8 → (left : ℕ) → left ≡ firstNumber t i → PartLinked t next (set (set next left (getD next i 0)) (i - 1) (getD next i 0)) n i
+  link-either e left l =
+      subst (λ a. PartLinked t next (set (set next a (getD next i 0)) (i - 1) (getD next i 0)) n i) (sym l) (two (either (firstNumber t i) (i - 1)) (kind-either t i e) (firstNumber t i) (i - 1) (getD next i 0) (getD next i 0) (subst Ordered (kind-either t i e) (r .ordered)) (either-before e .1) (inl refl) (inr refl)
+      (λ next′ x y z. (x ∙ sym z, y ∙ sym z)))
 
 -- ---- from the root down
 
@@ -90,7 +92,7 @@ relinked next next′ n j (chain a b) e k (x, y) = (k a (inl refl) ∙ x, k b (i
 relinked next next′ n j (either a b) e k (x, y) = (k a (inl refl) ∙ x ∙ sym e, k b (inr refl) ∙ y ∙ sym e)
 
 -- What a tree that holds a query gives.
-pub some-part : {t next : List ℕ} {n : ℕ} → Threadable t next n → (1 ≤ n) × (n ≤ 256)
+pub some-part : {t next : List ℕ} {n : ℕ} → Threadable t next n → (1 ≤ n) × (n ≤ maxParts)
 some-part r = let a = holds-lt (r .held .holds) in let b = r .held .few in let c = r .held .query .fits in (omega arith, omega arith)
 
 nested-parts : {t next : List ℕ} {n : ℕ} → Threadable t next n → Nest t 0 n

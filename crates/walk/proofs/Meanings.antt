@@ -1,7 +1,6 @@
 -- What an expression joins: nodes, and step by step through a star. Assumes nothing.
 use mathlib.Core.Logic.{inl, inr}
-use mathlib.Core.Path.{_≡_, refl, sym, subst}
-use Prim.Native.Nat.{ℕ}
+use mathlib.Core.Path.{refl, sym, subst}
 use Rattle.meaning.specs.Query.{Expr, stay, step, anyStep, atIri, atLiteral, nested, sequence, union, star, View, Repeated, none, more, Joins}
 use Rattle.walk.specs.Walk.{EdgesJoinNodes}
 

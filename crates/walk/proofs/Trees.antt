@@ -1,35 +1,32 @@
 -- The parts of a tree that holds an expression: what each is, and that each but the root is a part of one other.
 -- Assumes nothing.
 use borrow.Author.Tests.{ne-eqb, ltb-true, ltb-false}
-use lib.Dec.{eqb, ltb}
+use lib.Dec.{ltb}
 use lib.ListN.{length, take, drop, getD}
 use mathlib.Core.Bool.{Bool, true, false}
 use mathlib.Core.List.{List}
 use mathlib.Core.Logic.{_⊎_, inl, inr}
-use mathlib.Core.Path.{_≡_, refl, sym, ap, subst, _∙_}
+use mathlib.Core.Path.{_≡_, refl, sym, subst, _∙_}
 use native.Mathlib.Omega.{arith}
-use Prim.Native.Nat.{ℕ, zero, suc, _+_, _-_, _*_, _/_, _%_, _≤_, _<_}
+use Prim.Native.Nat.{ℕ, _+_, _-_, _≤_, _<_}
+use Rattle.meaning.specs.Limits.{maxParts, partRoom}
 use Rattle.meaning.specs.Pack.{Text}
-use Rattle.meaning.specs.Query.{Expr, stay, step, anyStep, atIri, atLiteral, nested, sequence, union, star}
-use Rattle.query.proofs.TreeLaws.{holds-lt}
-use Rattle.query.specs.Tree.{At, Holds, h-stay, h-any, h-step, h-iri, h-literal, h-nested, h-star, h-sequence, h-union}
+use Rattle.meaning.specs.Query.{Expr}
+use Rattle.query.proofs.TreeLaws.{first-is, holds-lt, kind-is, second-is}
+use Rattle.query.specs.Tree.{h-any, h-iri, h-literal, h-nested, h-sequence, h-star, h-stay, h-step, h-union, Holds}
 use Rattle.query.specs.Tree.{part as number}
-use Rattle.walk.specs.Parts.{Part, leaf, test, repeat, chain, either, Child, Ordered, kindOf, firstNumber, secondNumber, partBy, partOf, leafBy, leafOf}
+use Rattle.walk.specs.Parts.{leaf, test, repeat, chain, either, Child, Ordered, partBy, partOf, leafBy, leafOf}
 
 -- ---- the numbers of a part
 
-module _ (t : List ℕ) (i k a b : ℕ) (e : getD t i 0 ≡ number k a b) (la : a < 256) (lb : b < 256) where
-  unpacked : (kindOf t i ≡ k) × (firstNumber t i ≡ a) × (secondNumber t i ≡ b)
-  unfolding number
-  unpacked = (omega arith, omega arith, omega arith)
-
+module _ (t : List ℕ) (i k a b : ℕ) (e : getD t i 0 ≡ number k a b) (la : a < partRoom) (lb : b < partRoom) where
   part-is : partOf t i ≡ partBy k a (i - 1)
   unfolding partOf
-  part-is = let u = unpacked in rw (u .0, u .1)
+  part-is = rw (kind-is t i k a b e la lb, first-is t i k a b e la lb)
 
   pub leaf-is : (q : Text) → leafOf q t i ≡ leafBy k (take b (drop a q))
   unfolding leafOf
-  leaf-is q = let u = unpacked in rw (u .0, u .1, u .2)
+  leaf-is q = rw (kind-is t i k a b e la lb, first-is t i k a b e la lb, second-is t i k a b e la lb)
 
 pub below : {P : Type 0} (a b : ℕ) → (a < b → P) → (b ≤ a → P) → P
 below {P} a b f g = go (ltb a b) refl
@@ -124,7 +121,7 @@ nest-two t n m k lm lk v w e own₁ own₂ o = record {
 -- ---- what a tree that holds an expression is
 
 module _ (t : List ℕ) (i : ℕ) where
-  pub is-leaf : (k a b : ℕ) → k < 5 → getD t i 0 ≡ number k a b → a < 256 → b < 256 → partOf t i ≡ leaf
+  pub is-leaf : (k a b : ℕ) → k < 5 → getD t i 0 ≡ number k a b → a < partRoom → b < partRoom → partOf t i ≡ leaf
   unfolding partBy
   is-leaf k a b l e la lb = part-is t i k a b e la lb ∙ rw (ne-eqb k 5 (λ z. omega arith), ne-eqb k 6 (λ z. omega arith), ne-eqb k 7 (λ z. omega arith), ne-eqb k 8 (λ z. omega arith))
 
@@ -136,15 +133,15 @@ module _ (t : List ℕ) (i : ℕ) where
   unfolding partBy
   is-repeat e = part-is t i 6 0 0 e (omega arith) (omega arith)
 
-  pub is-chain : (a : ℕ) → getD t i 0 ≡ number 7 a 0 → a < 256 → partOf t i ≡ chain a (i - 1)
+  pub is-chain : (a : ℕ) → getD t i 0 ≡ number 7 a 0 → a < partRoom → partOf t i ≡ chain a (i - 1)
   unfolding partBy
   is-chain a e l = part-is t i 7 a 0 e l (omega arith)
 
-  pub is-either : (a : ℕ) → getD t i 0 ≡ number 8 a 0 → a < 256 → partOf t i ≡ either a (i - 1)
+  pub is-either : (a : ℕ) → getD t i 0 ≡ number 8 a 0 → a < partRoom → partOf t i ≡ either a (i - 1)
   unfolding partBy
   is-either a e l = part-is t i 8 a 0 e l (omega arith)
 
-pub holds-nest : {q t : List ℕ} {n m : ℕ} {e : Expr} → Holds q t n e m → m ≤ 256 → Nest t n m
+pub holds-nest : {q t : List ℕ} {n m : ℕ} {e : Expr} → Holds q t n e m → m ≤ maxParts → Nest t n m
 holds-nest {t = t} (h-stay {n = n} p) s = nest-leaf t n (is-leaf t n 0 0 0 (omega arith) p (omega arith) (omega arith))
 holds-nest {t = t} (h-any {n = n} p) s = nest-leaf t n (is-leaf t n 1 0 0 (omega arith) p (omega arith) (omega arith))
 holds-nest {t = t} (h-step {n = n} {a = a} {s = u} r p) s = nest-leaf t n (is-leaf t n 2 a (length u) (omega arith) p (r .begins) (r .short))

@@ -5,9 +5,10 @@ use mathlib.Core.Bool.{cond}
 use mathlib.Core.List.{List}
 use mathlib.Core.Logic.{_⊎_}
 use mathlib.Core.Path.{_≡_}
-use Prim.Native.Nat.{ℕ, _-_, _/_, _%_, _<_}
+use Prim.Native.Nat.{ℕ, _-_, _<_}
 use Rattle.meaning.specs.Pack.{Text}
 use Rattle.meaning.specs.Query.{Expr, stay, step, anyStep, atIri, atLiteral}
+use Rattle.query.specs.Tree.{firstNumber, kindOf, secondNumber}
 
 -- What kind of part it is, and the roots of its own parts.
 pub data Part : Type 0 where
@@ -32,17 +33,6 @@ Ordered (test body) = Unit {0}
 Ordered (repeat body) = Unit {0}
 Ordered (chain left right) = left < right
 Ordered (either left right) = left < right
-
--- ---- the numbers of a part (query, specs/Tree.antt)
-
-abbrev pub kindOf : List ℕ → ℕ → ℕ
-kindOf t i = getD t i 0 / 65536
-
-abbrev pub firstNumber : List ℕ → ℕ → ℕ
-firstNumber t i = getD t i 0 / 256 % 256
-
-abbrev pub secondNumber : List ℕ → ℕ → ℕ
-secondNumber t i = getD t i 0 % 256
 
 unfoldable pub partBy : ℕ → ℕ → ℕ → Part
 partBy kind left right =

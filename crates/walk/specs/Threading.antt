@@ -3,7 +3,7 @@ use lib.ListN.{length, getD}
 use mathlib.Core.List.{List}
 use mathlib.Core.Path.{_≡_}
 use Prim.Native.Nat.{ℕ, _≤_, _<_}
-use Rattle.meaning.specs.Limits.{maxQueryBytes}
+use Rattle.meaning.specs.Limits.{maxParts}
 use Rattle.meaning.specs.Pack.{Text}
 use Rattle.query.specs.Answer.{HoldsQuery}
 use Rattle.walk.specs.Parts.{partOf, Child, Ordered, Linked, listed}
@@ -11,7 +11,7 @@ use Rattle.walk.specs.Parts.{partOf, Child, Ordered, Linked, listed}
 -- The part i is one of n, and its own parts stand before it.
 pub record PartReady (t next : List ℕ) (n i : ℕ) : Type 0 where
   pub inside : i < n
-  pub short : n ≤ maxQueryBytes
+  pub short : n ≤ maxParts
   pub parts : n ≤ length t
   pub room : n ≤ length next
   pub before : (c : ℕ) → Child (partOf t i) c → c < i

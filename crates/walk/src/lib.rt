@@ -2,15 +2,16 @@
 ghost use Rattle.walk.specs.Parts.{partOf, listed, Threaded};
 ghost use Rattle.walk.specs.Threading.{PartReady, PartLinked, Threadable};
 use query::kinds;
+use query::parts::first_number;
+use query::parts::kind_of;
 
 // Writes what is to be done after the parts of the part i, whose own place is written already.
 fn thread_part(tree: &[u32], n: usize, i: usize, next: &mut [u16])
     requires { ⌜ PartReady (now tree) (now next) n i ⌝ }
     ensures { λ _. ⌜ PartLinked (now (tree .entry)) (now (next .entry)) (now (next .exit)) n i ⌝ }
 {
-    let part = tree[i] as usize;
-    let kind = part / 65536;
-    let left = part / 256 % 256;
+    let kind = kind_of(tree, i);
+    let left = first_number(tree, i);
     let after = next[i];
     if kind == kinds::NESTED {
         next[i - 1] = n as u16;

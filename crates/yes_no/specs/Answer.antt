@@ -5,11 +5,11 @@ use mathlib.Core.List.{List, [], _∷_}
 use mathlib.Core.Logic.{_↔_}
 use mathlib.Core.Path.{_≡_}
 use Prim.Native.Nat.{ℕ}
-use Rattle.alive.specs.Worklist.{states}
 use Rattle.calls.specs.Call.{Call, Contents, Lent, _at-least_}
-use Rattle.construct.specs.Outcome.{headsLength, refusedAs, rowsLength}
+use Rattle.construct.specs.Outcome.{refusedAs}
 use Rattle.graph.specs.Fronts.{graphLists}
 use Rattle.meaning.specs.Certain.{CertainYes}
+use Rattle.meaning.specs.Limits.{headsLength, maxStates, rowsLength}
 use Rattle.meaning.specs.Pack.{Text}
 use Rattle.prepare.specs.Prepared as Prepared
 use Rattle.spelling.specs.Iri.{plain}
@@ -27,7 +27,7 @@ pub record Gives (pack query : Text) (r : YesNo) (fronts : List (List ℕ)) : Ty
 
 -- the working buffers
 abbrev pub buffers : Contents → Contents → Contents → Contents → List Lent
-buffers rows heads alive queue = rows at-least rowsLength ∷ heads at-least headsLength ∷ alive at-least states ∷ queue at-least states ∷ []
+buffers rows heads alive queue = rows at-least rowsLength ∷ heads at-least headsLength ∷ alive at-least maxStates ∷ queue at-least maxStates ∷ []
 
 -- 1 to 11, or the graph and the answer
 abbrev pub Answers : Text → Text → YesNo → Contents → Contents → Contents → Contents → Contents → Contents → Type 0

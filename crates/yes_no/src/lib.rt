@@ -2,15 +2,15 @@
 ghost use Rattle.calls.specs.Call.{lent};
 ghost use Rattle.yes_no.specs.Answer.{Answers};
 ghost use Rattle.yes_no.specs.Inner.{Comes, Room};
-use alive::STATES;
 use calls::long_enough;
 use construct::Constructed;
-use construct::HEADS_LENGTH;
-use construct::ROWS_LENGTH;
 use construct::refused;
 use evaluate::yes::yes;
+use meaning::HEADS_LENGTH;
 use meaning::MAX_QUERY_BYTES;
+use meaning::MAX_STATES;
 use meaning::NODE_LIST_LENGTH;
+use meaning::ROWS_LENGTH;
 use meaning::TRIPLE_LIST_LENGTH;
 use prepare::prepare;
 use sets::buffers::clear_u8;
@@ -79,8 +79,8 @@ pub fn yes_no(
         TRIPLE_LIST_LENGTH,
         ROWS_LENGTH,
         HEADS_LENGTH,
-        STATES, // alive
-        STATES, // queue
+        MAX_STATES, // alive
+        MAX_STATES, // queue
     ];
     let lengths = [
         nodes.len(),

@@ -6,7 +6,8 @@ use mir.Facts.{fits-widen}
 use native.Mathlib.Omega.{arith}
 use Prim.Native.Nat.{_-_}
 use Rattle.alive.specs.Lists.{lists}
-use Rattle.alive.specs.Worklist.{states}
+use Rattle.meaning.specs.Limits.{maxStates}
+use Rattle.states.proofs.Marking.{tail-within}
 use Rattle.alive.proofs.Growing.{Growing, grow-again, grow-done, grow-start, now-inside, now-marked}
 use Rattle.alive.proofs.mark_all.Statement.{statement}
 use Rattle.alive.proofs.mark_all.Tie as tie
@@ -15,7 +16,7 @@ abbrev Inv-loop : tie.InvT-loop
 Inv-loop sizes triples earlier last tree next wanted heads rest alive₀ queue₀ tail₀ head₀ alive queue tail head = (length alive ≡ length alive₀) × (length queue ≡ length queue₀) × Growing (lists sizes triples tree next wanted) alive queue head tail
 
 abbrev μ-loop : tie.MeasureT-loop
-μ-loop sizes triples earlier last tree next wanted heads rest alive₀ queue₀ tail₀ head₀ alive queue tail head = states - head
+μ-loop sizes triples earlier last tree next wanted heads rest alive₀ queue₀ tail₀ head₀ alive queue tail head = maxStates - head
 
 pub mark-all-spec : {M : Type 1} → statement M
 mark-all-spec =
@@ -26,11 +27,11 @@ mark-all-spec =
     (λ c κs. let a = c .before .before .before .before .before .before .before .before .before .before .before .before .pre .0 .0 .graph .few-nodes in let b = c .before .before .before .before .before .before .before .before .before .before .before .before .pre .0 .0 .query .few in ((omega arith, omega arith), c .before .before .before .before .before .before .before .before .before .before .before .before .pre .1))  -- mark-ends-requires
     (λ c. (refl, refl, grow-start (c .before .before .before .before .before .before .before .before .before .before .before .before .before .before .before .before .before .pre .0 .0) (c .before .before .before .before .before .before .before .before .before .before .before .before .before .before .before .before .before .pre .1) (c .before .before .before .before .mark-ends .ensures)))  -- loop-holds
     (λ c. search needs)  -- mul-s
-    (λ c. let a = c .before .before .loop .inv .2 .marks .count in let b = c .before .before .loop .inv .2 .marks .room in omega arith)  -- slice-read-s
+    (λ c. let a = tail-within (c .before .before .loop .inv .2 .marks) in let b = c .before .before .loop .inv .2 .marks .room in omega arith)  -- slice-read-s
     (λ c. fits-widen tt (c .slice-known5 .given _))  -- cast-s
     (λ c κs. (c .before .before .before .before .before .before .before .before .before .before .before .before .before .before .before .before .before .before .before .before .before .before .pre .0, (((c .before .before .before .before .loop .inv .2 .sound), (now-inside (c .before .before .before .before .before .before .before .before .before .before .before .before .before .before .before .before .before .before .before .before .before .before .pre .0 .0) (c .before .before .before .before .loop .inv .2) (c .before .before .before .loop-test .taken), now-marked (c .before .before .before .before .before .before .before .before .before .before .before .before .before .before .before .before .before .before .before .before .before .before .pre .0 .0) (c .before .before .before .before .loop .inv .2) (c .before .before .before .loop-test .taken))), c .before .before .before .before .loop .inv .2 .marks)))  -- mark-back-requires
     (λ c. search needs)  -- add-head
-    (λ c. let a = c .before .before .before .before .before .before .before .before .before .loop .inv .2 .marks .count in omega arith)  -- loop-less
+    (λ c. let a = tail-within (c .before .before .before .before .before .before .before .before .before .loop .inv .2 .marks) in omega arith)  -- loop-less
     (λ c. (c .before .before .before .before .mark-back .kept .1 .1 .1 .1 .1 .1 .1 .1 .1 .1 .0 ∙ c .before .before .before .before .before .before .before .before .before .loop .inv .0, c .before .before .before .before .mark-back .kept .1 .1 .1 .1 .1 .1 .1 .1 .1 .1 .1 .0 ∙ c .before .before .before .before .before .before .before .before .before .loop .inv .1, grow-again (c .before .before .before .before .before .before .before .before .before .before .before .before .before .before .before .before .before .before .before .before .before .before .before .before .before .before .before .pre .0 .0) (c .before .before .before .before .before .before .before .before .before .loop .inv .2) (c .before .before .before .before .before .before .before .before .loop-test .taken) (c .before .before .before .before .mark-back .ensures)))  -- loop-again
     (λ c. c .before .loop .inv .0 ∙ c .before .before .before .before .before .before .mark-ends .kept .1 .1 .0)  -- same-length
     (λ c. c .before .loop .inv .1 ∙ c .before .before .before .before .before .before .mark-ends .kept .1 .1 .1 .0)  -- same-length-2

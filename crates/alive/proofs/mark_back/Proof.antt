@@ -2,17 +2,19 @@
 use borrow.Author.Needs.{needs}
 use lib.ListN.{getD, length}
 use mathlib.Core.List.{List}
-use mathlib.Core.Path.{refl, _∙_, _≡_}
+use mathlib.Core.Path.{_∙_, _≡_, refl, subst, sym}
 use mir.Facts.{fits-widen}
 use native.Mathlib.Omega.{arith}
-use Prim.Native.Nat.{ℕ, _%_, _-_, _/_, _<_}
+use Prim.Native.Nat.{ℕ, _-_, _/_, _<_}
 use Rattle.alive.specs.declared.Sizes.{Sizes}
 use Rattle.alive.specs.Fits.{Fits}
 use Rattle.alive.specs.Links.{Caused}
 use Rattle.alive.specs.Lists.{lists}
 use Rattle.alive.specs.Steps.{AllAlive}
-use Rattle.alive.specs.Worklist.{Table, states}
 use Rattle.index.specs.Index.{ByObject}
+use Rattle.meaning.specs.Limits.{maxStates}
+use Rattle.states.proofs.States.{node-inside, part-inside}
+use Rattle.states.specs.Table.{Marked, Table}
 use Rattle.alive.proofs.Growing.{Backing, back-again, back-done, back-start, link-first}
 use Rattle.alive.proofs.States.{chain-ready, part-ready}
 use Rattle.alive.proofs.mark_back.Statement.{statement}
@@ -20,7 +22,7 @@ use Rattle.alive.proofs.mark_back.Tie as tie
 
 -- What the call requires. The loop does not know the sizes, so its invariant is said of any that are right.
 abbrev Ready : Sizes → (triples earlier last tree next wanted heads rest : List ℕ) (s : ℕ) (alive queue : List ℕ) (tail : ℕ) → Type 0
-Ready sizes triples earlier last tree next wanted heads rest s alive queue tail = (Fits (lists sizes triples tree next wanted) × (ByObject triples (sizes .edges) last earlier × Caused (lists sizes triples tree next wanted) heads rest)) × ((AllAlive (lists sizes triples tree next wanted) alive × ((s < states) × (getD alive s 0 ≡ 1))) × Table 1 states alive queue tail)
+Ready sizes triples earlier last tree next wanted heads rest s alive queue tail = (Fits (lists sizes triples tree next wanted) × (ByObject triples (sizes .edges) last earlier × Caused (lists sizes triples tree next wanted) heads rest)) × ((AllAlive (lists sizes triples tree next wanted) alive × ((s < maxStates) × (Marked 1 alive s))) × Table 1 maxStates alive queue tail)
 
 abbrev Inv-loop : tie.InvT-loop
 Inv-loop triples earlier last tree next wanted heads rest s alive₀ queue₀ tail j m end₀ at₀ alive queue end at = (length alive ≡ length alive₀) × (length queue ≡ length queue₀) × ((sizes : Sizes) → Ready sizes triples earlier last tree next wanted heads rest s alive₀ queue₀ tail → Backing (lists sizes triples tree next wanted) rest s alive₀ queue₀ tail alive queue end at)
@@ -34,18 +36,20 @@ mark-back-spec =
     (tie.spec
     Inv-loop
     μ-loop
-    (λ c. let y = c .before .before .before .before .before .before .before .before .before .before .pre .1 .0 .1 .0 in omega arith)  -- mul-at
-    (λ c. let z = c .before .before .before .before .before .before .before .before .before .before .before .pre .0 .1 .1 .begins in let y = c .before .before .before .before .before .before .before .before .before .before .before .pre .1 .0 .1 .0 in omega arith)  -- shared-slice-read-at
+    (λ c κs. search needs)  -- part-at-requires
+    (λ c κs. search needs)  -- node-at-requires
+    (λ c. let y = part-inside (c .before .before .before .before .before .before .before .before .before .before .before .before .args .s) (c .before .before .before .before .before .before .before .before .before .before .before .before .pre .1 .0 .1 .0) in let x = c .before .part-at .ensures in omega arith)  -- mul-at
+    (λ c. let y = part-inside (c .before .before .before .before .before .before .before .before .before .before .before .before .before .args .s) (c .before .before .before .before .before .before .before .before .before .before .before .before .before .pre .1 .0 .1 .0) in let x = c .before .before .part-at .ensures in let z = c .before .before .before .before .before .before .before .before .before .before .before .before .before .pre .0 .1 .1 .begins in omega arith)  -- shared-slice-read-at
     (λ c. fits-widen tt (c .shared-slice-known9 .given _))  -- cast-at
-    (λ c. (refl, refl, λ sizes r. back-start (r .0 .0) (r .0 .1 .1) (r .1 .0 .0 _ (r .1 .0 .1 .0) (r .1 .0 .1 .1)) (r .1 .1)))  -- loop-holds
+    (λ c. (refl, refl, λ sizes r. (subst (λ x. Backing (lists sizes (c .before .before .before .before .before .before .before .before .before .before .before .before .before .args .triples .now) (c .before .before .before .before .before .before .before .before .before .before .before .before .before .args .tree .now) (c .before .before .before .before .before .before .before .before .before .before .before .before .before .args .next .now) (c .before .before .before .before .before .before .before .before .before .before .before .before .before .args .wanted .now)) (c .before .before .before .before .before .before .before .before .before .before .before .before .before .args .rest .now) (c .before .before .before .before .before .before .before .before .before .before .before .before .before .args .s) (c .before .before .before .before .before .before .before .before .before .before .before .before .before .args .alive .now) (c .before .before .before .before .before .before .before .before .before .before .before .before .before .args .queue .now) (c .before .before .before .before .before .before .before .before .before .before .before .before .before .args .tail) (c .before .before .before .before .before .before .before .before .before .before .before .before .before .args .alive .now) (c .before .before .before .before .before .before .before .before .before .before .before .before .before .args .queue .now) (c .before .before .before .before .before .before .before .before .before .before .before .before .before .args .tail) (getD (c .before .before .before .before .before .before .before .before .before .before .before .before .before .args .heads .now) x 0)) (sym (c .before .before .part-at .ensures)) (back-start (r .0 .0) (r .0 .1 .1) (r .1 .0 .0 _ (r .1 .0 .1 .0) (r .1 .0 .1 .1)) (r .1 .1)))))  -- loop-holds
     (λ c. search needs)  -- sub-i
-    (λ c κs. let p = c .before .before .before .before .before .before .before .before .before .before .before .before .before .before .before .pre in let g = c .before .before .before .loop .inv .2 (c .before .before .before .before .before .before .before .before .before .before .before .before .before .before .before .args .sizes) p in let z = link-first g (c .before .before .loop-test .taken) in let y = p .0 .0 .query .in-wanted in ((chain-ready (p .0 .0) (p .0 .1 .0) (c .before .before .before .before .before .before .before .before .before .before .before .before .before .before .before .args .s % 1024) (omega arith), p .0 .1 .0 .heads), ((part-ready (p .0 .0) ((c .before .before .before .loop .at - 1) / 3) (omega arith), omega arith), (omega arith, g .adds .after))))  -- mark-part-requires
+    (λ c κs. let p = c .before .before .before .before .before .before .before .before .before .before .before .before .before .before .before .before .before .pre in let g = c .before .before .before .loop .inv .2 (c .before .before .before .before .before .before .before .before .before .before .before .before .before .before .before .before .before .args .sizes) p in let z = link-first g (c .before .before .loop-test .taken) in let y = p .0 .0 .query .in-wanted in let n = node-inside (c .before .before .before .before .before .before .before .before .before .before .before .before .before .before .before .before .before .args .s) in let w = c .before .before .before .before .before .node-at .ensures in ((chain-ready (p .0 .0) (p .0 .1 .0) (c .before .before .before .before .before .node-at .result) (omega arith), p .0 .1 .0 .heads), ((part-ready (p .0 .0) ((c .before .before .before .loop .at - 1) / 3) (omega arith), omega arith), (omega arith, g .adds .after))))  -- mark-part-requires
     (λ c. search needs)  -- sub-at
-    (λ c. let p = c .before .before .before .before .before .before .before .before .before .before .before .before .before .before .before .before .before .before .before .before .pre in let z = link-first (c .before .before .before .before .before .before .before .before .loop .inv .2 (c .before .before .before .before .before .before .before .before .before .before .before .before .before .before .before .before .before .before .before .before .args .sizes) p) (c .before .before .before .before .before .before .before .loop-test .taken) in let y = p .0 .0 .query .few in omega arith)  -- mul-at-2
-    (λ c. let p = c .before .before .before .before .before .before .before .before .before .before .before .before .before .before .before .before .before .before .before .before .before .pre in let z = link-first (c .before .before .before .before .before .before .before .before .before .loop .inv .2 (c .before .before .before .before .before .before .before .before .before .before .before .before .before .before .before .before .before .before .before .before .before .args .sizes) p) (c .before .before .before .before .before .before .before .before .loop-test .taken) in let y = p .0 .1 .1 .listed in omega arith)  -- shared-slice-read-at-2
+    (λ c. let p = c .before .before .before .before .before .before .before .before .before .before .before .before .before .before .before .before .before .before .before .before .before .before .pre in let z = link-first (c .before .before .before .before .before .before .before .before .loop .inv .2 (c .before .before .before .before .before .before .before .before .before .before .before .before .before .before .before .before .before .before .before .before .before .before .args .sizes) p) (c .before .before .before .before .before .before .before .loop-test .taken) in let y = p .0 .0 .query .few in omega arith)  -- mul-at-2
+    (λ c. let p = c .before .before .before .before .before .before .before .before .before .before .before .before .before .before .before .before .before .before .before .before .before .before .before .pre in let z = link-first (c .before .before .before .before .before .before .before .before .before .loop .inv .2 (c .before .before .before .before .before .before .before .before .before .before .before .before .before .before .before .before .before .before .before .before .before .before .before .args .sizes) p) (c .before .before .before .before .before .before .before .before .loop-test .taken) in let y = p .0 .1 .1 .listed in omega arith)  -- shared-slice-read-at-2
     (λ c. fits-widen tt (c .shared-slice-known10 .given _))  -- cast-at-2
-    (λ c. let p = c .before .before .before .before .before .before .before .before .before .before .before .before .before .before .before .before .before .before .before .before .before .pre in let z = link-first (c .before .before .before .before .before .before .before .before .before .loop .inv .2 (c .before .before .before .before .before .before .before .before .before .before .before .before .before .before .before .before .before .before .before .before .before .args .sizes) p) (c .before .before .before .before .before .before .before .before .loop-test .taken) in let y = p .0 .1 .1 .falls _ z in omega arith)  -- loop-less
-    (λ c. (c .before .before .before .before .before .mark-part .kept .1 .1 .1 .1 .1 .1 .1 .1 .1 .0 ∙ c .before .before .before .before .before .before .before .before .before .loop .inv .0, c .before .before .before .before .before .mark-part .kept .1 .1 .1 .1 .1 .1 .1 .1 .1 .1 .0 ∙ c .before .before .before .before .before .before .before .before .before .loop .inv .1, λ sizes r. back-again (c .before .before .before .before .before .before .before .before .before .loop .inv .2 sizes r) (r .0 .0) (r .0 .1 .0) (r .1 .1) (r .1 .0 .0) (r .1 .0 .0 _ (r .1 .0 .1 .0) (r .1 .0 .1 .1)) (c .before .before .before .before .before .before .before .before .loop-test .taken) (c .before .before .before .before .before .mark-part .ensures)))  -- loop-again
+    (λ c. let p = c .before .before .before .before .before .before .before .before .before .before .before .before .before .before .before .before .before .before .before .before .before .before .before .pre in let z = link-first (c .before .before .before .before .before .before .before .before .before .loop .inv .2 (c .before .before .before .before .before .before .before .before .before .before .before .before .before .before .before .before .before .before .before .before .before .before .before .args .sizes) p) (c .before .before .before .before .before .before .before .before .loop-test .taken) in let y = p .0 .1 .1 .falls _ z in omega arith)  -- loop-less
+    (λ c. (c .before .before .before .before .before .mark-part .kept .1 .1 .1 .1 .1 .1 .1 .1 .1 .0 ∙ c .before .before .before .before .before .before .before .before .before .loop .inv .0, c .before .before .before .before .before .mark-part .kept .1 .1 .1 .1 .1 .1 .1 .1 .1 .1 .0 ∙ c .before .before .before .before .before .before .before .before .before .loop .inv .1, λ sizes r. back-again (c .before .before .before .before .before .before .before .before .before .loop .inv .2 sizes r) (r .0 .0) (r .0 .1 .0) (r .1 .1) (r .1 .0 .0) (r .1 .0 .0 _ (r .1 .0 .1 .0) (r .1 .0 .1 .1)) (c .before .before .before .before .before .before .before .before .loop-test .taken) (c .before .before .before .before .before .before .before .before .before .before .before .before .part-at .ensures) (c .before .before .before .before .before .before .before .before .before .before .before .node-at .ensures) (c .before .before .before .before .before .mark-part .ensures)))  -- loop-again
     (λ c. c .before .loop .inv .0)  -- same-length
     (λ c. c .before .loop .inv .1)  -- same-length-2
-    (λ c. back-done (c .before .loop .inv .2 (c .before .before .before .before .before .before .before .before .before .before .before .before .before .args .sizes) (c .before .before .before .before .before .before .before .before .before .before .before .before .before .pre)) (omega arith)))  -- returns
+    (λ c. back-done (c .before .loop .inv .2 (c .before .before .before .before .before .before .before .before .before .before .before .before .before .before .before .args .sizes) (c .before .before .before .before .before .before .before .before .before .before .before .before .before .before .before .pre)) (omega arith)))  -- returns

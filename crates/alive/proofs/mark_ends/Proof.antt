@@ -21,12 +21,10 @@ mark-ends-spec =
     Inv-loop
     μ-loop
     (λ c. (refl, refl, end-start (c .before .before .pre .1)))  -- loop-holds
-    (λ c. search needs)  -- mul-mark
-    (λ c. search needs)  -- add-mark
-    (λ c κs. (omega arith, c .before .before .before .loop .inv .2 .adds .after))  -- mark-requires
+    (λ c κs. ((c .before .before .before .before .before .before .pre .0 .1, omega arith), c .before .before .before .loop .inv .2 .adds .after))  -- mark-requires
     (λ c. search needs)  -- add-n
     (λ c. search needs)  -- loop-less
-    (λ c. (c .before .before .before .before .mark .kept .1 .0 ∙ c .before .before .before .before .before .before .before .before .loop .inv .0, c .before .before .before .before .mark .kept .1 .1 .0 ∙ c .before .before .before .before .before .before .before .before .loop .inv .1, end-again (c .before .before .before .before .before .before .before .loop-test .taken) (c .before .before .before .before .before .before .before .before .loop .inv .2) (c .before .before .before .before .mark .ensures)))  -- loop-again
+    (λ c. (c .before .before .before .before .mark .kept .1 .1 .0 ∙ c .before .before .before .before .before .before .before .before .loop .inv .0, c .before .before .before .before .mark .kept .1 .1 .1 .0 ∙ c .before .before .before .before .before .before .before .before .loop .inv .1, end-again (c .before .before .before .before .before .before .before .loop-test .taken) (c .before .before .before .before .before .before .before .before .loop .inv .2) (c .before .before .before .before .mark .ensures)))  -- loop-again
     (λ c. c .before .loop .inv .0)  -- same-length
     (λ c. c .before .loop .inv .1)  -- same-length-2
     (λ c. end-done (omega arith) (c .before .loop .inv .2)))  -- returns

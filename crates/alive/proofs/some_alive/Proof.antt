@@ -1,15 +1,17 @@
 -- `alive::some_alive` meets its contract. Assumes nothing.
 use borrow.Author.Count.{below-more}
 use borrow.Author.Needs.{needs}
-use lib.ListN.{getD}
-use mathlib.Core.Path.{_≡_}
+use mathlib.Core.Path.{_∙_, sym}
 use native.Mathlib.Omega.{arith}
-use Prim.Native.Nat.{ℕ, _*_, _+_, _-_, _<_, _≤_}
+use Prim.Native.Nat.{ℕ, _-_, _<_, _≤_}
+use Rattle.states.proofs.Marking.{true-false}
+use Rattle.states.specs.State.{state}
+use Rattle.states.specs.Table.{Marked}
 use Rattle.alive.proofs.some_alive.Statement.{statement}
 use Rattle.alive.proofs.some_alive.Tie as tie
 
 abbrev Inv-loop : tie.InvT-loop
-Inv-loop nodes parts alive n₀ n = (n ≤ nodes) × ((k : ℕ) → k < n → getD alive ((parts - 1) * 1024 + k) 0 ≡ 1 → ⊥)
+Inv-loop nodes parts alive n₀ n = (n ≤ nodes) × ((k : ℕ) → k < n → Marked 1 alive (state (parts - 1) k) → ⊥)
 
 abbrev μ-loop : tie.MeasureT-loop
 μ-loop nodes parts alive n₀ n = nodes - n
@@ -21,12 +23,10 @@ some-alive-spec =
     Inv-loop
     μ-loop
     (λ c. (omega arith, λ k l e. omega arith))  -- loop-holds
-    (λ c. search needs)  -- sub-if1
-    (λ c. search needs)  -- mul-if1
-    (λ c. search needs)  -- add-if1
-    (λ c. search needs)  -- shared-slice-read-if1
-    (λ c. (c .before .before .before .loop .n, c .before .before .loop-test .taken, c .if1 .taken))  -- returns
+    (λ c. search needs)  -- sub-is-marked
+    (λ c κs. let a = c .before .before .before .pre .0 in ((omega arith, omega arith), c .before .before .before .pre .1))  -- is-marked-requires
+    (λ c. (c .before .before .before .loop .n, c .before .before .loop-test .taken, sym (c .before .is-marked .ensures) ∙ c .if1 .taken))  -- returns
     (λ c. search needs)  -- add-n
     (λ c. search needs)  -- loop-less
-    (λ c. (omega arith, below-more (λ k. getD (c .before .before .before .before .args .alive .now) ((c .before .before .before .before .args .parts - 1) * 1024 + k) 0 ≡ 1 → ⊥) (c .before .before .before .loop .n) (c .before .before .before .loop .inv .1) (c .if1 .left)))  -- loop-again
+    (λ c. (omega arith, below-more (λ k. Marked 1 (c .before .before .before .before .before .args .alive .now) (state (c .before .before .before .before .before .args .parts - 1) k) → ⊥) (c .before .before .before .loop .n) (c .before .before .before .loop .inv .1) (λ b. true-false (c .before .is-marked .ensures ∙ b) (c .if1 .left))))  -- loop-again
     (λ c. λ k l e. c .before .loop .inv .1 k (omega arith) e))  -- returns-2

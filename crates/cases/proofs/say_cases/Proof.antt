@@ -1,6 +1,5 @@
 -- `cases::say_cases` meets its contract: the place is within the input, and moves on. Assumes nothing.
 use lib.ListN.{length}
-use native.Mathlib.Omega.{arith}
 use Prim.Native.Nat.{_-_, _≤_}
 use borrow.Author.Needs.{needs}
 use Rattle.cases.proofs.say_cases.Statement.{statement}

@@ -5,8 +5,8 @@ use native.Mathlib.Omega.{arith}
 use Rattle.construct.proofs.FromCore.{clash-answer, clash-inside, graph-answer, mixed-answer}
 use Rattle.construct.proofs.from_core.Statement.{statement}
 use Rattle.construct.proofs.from_core.Tie as tie
-use Rattle.graph.proofs.MixedLaws.{keys-small}
-use Rattle.graph.proofs.Places.{input-codes, input-placed}
+use Rattle.mixed.proofs.MixedLaws.{keys-small}
+use Rattle.core_lists.proofs.Places.{input-codes, input-placed}
 
 pub from-core-spec : {M : Type 1} → statement M
 from-core-spec =

@@ -3,7 +3,6 @@ use borrow.Author.Needs.{needs}
 use lib.Seq.{length-take-le}
 use mathlib.Core.Path.{refl, sym}
 use native.Mathlib.Omega.{arith}
-use Rattle.access.specs.Places.{IsWellFormed}
 use Rattle.construct.proofs.FromHeads.{core-given, core-ready, large-answer, listed, small-answer}
 use Rattle.construct.proofs.from_heads.Statement.{statement}
 use Rattle.construct.proofs.from_heads.Tie as tie

@@ -6,8 +6,7 @@ use mathlib.Core.Path.{_≡_, _∙_}
 use native.Mathlib.Omega.{arith}
 use mathlib.Core.List.{List}
 use Prim.Native.Nat.{ℕ, _≤_}
-use Rattle.meaning.specs.Limits.{maxCoreTriples}
-use Rattle.core.specs.Bounds.{maxNodes}
+use Rattle.meaning.specs.Limits.{maxCoreNodes, maxCoreTriples}
 use Rattle.core.specs.Outcomes.{NodesListed, TriplesListed}
 use Rattle.core.proofs.Whole.{all-placed, core-listed, known-rules}
 use Rattle.core.proofs.core.Statement.{statement}
@@ -27,13 +26,13 @@ module _ (c : tie.After-known-told) where
   listed : NodesListed count (start .args .rules) (start .args .count) (start .args .heads .now) (start .args .counts) (start .args .nodes .now) nodes
   listed = rw (c .before .listed .given .1) at (c .before .before .before .before .before .nodes .ensures)
 
-  long : length nodes ≡ maxNodes
+  long : length nodes ≡ maxCoreNodes
   long = c .before .before .before .before .before .nodes .kept .1 .1 .1 .1 .0 ∙ start .pre .2
 
   exact : count ≡ length (take count nodes)
   exact = omega (arith, length-take count nodes, listed .grown .fits)
 
-  few : length (take count nodes) ≤ maxNodes
+  few : length (take count nodes) ≤ maxCoreNodes
   few = omega (arith, exact, listed .grown .fits, long)
 
 -- and the triples

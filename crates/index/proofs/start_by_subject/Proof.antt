@@ -3,16 +3,17 @@ use borrow.Author.Needs.{needs}
 use lib.ListN.{length, length-set}
 use mathlib.Core.Path.{refl, _≡_}
 use native.Mathlib.Omega.{arith}
-use Prim.Native.Nat.{_-_, _≤_}
+use Prim.Native.Nat.{_-_, _≤_, _+_}
+use Rattle.meaning.specs.Limits.{maxNodes}
 use Rattle.index.proofs.Ranges.{Counting, count-again, count-done, count-start}
 use Rattle.index.proofs.start_by_subject.Statement.{statement}
 use Rattle.index.proofs.start_by_subject.Tie as tie
 
 abbrev Inv-loop : tie.InvT-loop
-Inv-loop triples nodes edges first₀ k₀ n₀ first k n = (n ≤ 1025) × (length first ≡ length first₀) × Counting triples edges first k n
+Inv-loop triples nodes edges first₀ k₀ n₀ first k n = (n ≤ maxNodes + 1) × (length first ≡ length first₀) × Counting triples edges first k n
 
 abbrev μ-loop : tie.MeasureT-loop
-μ-loop triples nodes edges first₀ k₀ n₀ first k n = 1025 - n
+μ-loop triples nodes edges first₀ k₀ n₀ first k n = maxNodes + 1 - n
 
 pub start-by-subject-spec : {M : Type 1} → statement M
 start-by-subject-spec =

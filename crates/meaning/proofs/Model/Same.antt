@@ -5,7 +5,6 @@ use native.Mathlib.Decide.{ℕ-discrete}
 use Rattle.meaning.proofs.Lists.Members.{same-list}
 use Rattle.meaning.specs.Built.{BuiltNode, BuiltNode-discrete}
 use Rattle.meaning.specs.Core.{Node, Node-discrete}
-use Rattle.meaning.specs.Graph.{Name, Name-discrete}
 use Rattle.meaning.specs.Pack.{Target, Target-discrete, Text}
 use Rattle.meaning.specs.TypeSet.{TypeSet}
 
@@ -33,7 +32,3 @@ same-set X Y = go (Bool-discrete (X .literal) (Y .literal)) (ℕ-discrete (X .ma
 unfoldable pub same-built : Discrete BuiltNode
 unfolding same-node same-set
 same-built = BuiltNode-discrete same-node same-set
-
-unfoldable pub same-name : Discrete Name
-unfolding same-text ℕ-discrete
-same-name = Name-discrete same-text ℕ-discrete

@@ -1,6 +1,5 @@
 -- `readback::read_back` meets its contract: the tables hold the pack's values and constructors. Assumes nothing.
 use borrow.Author.Needs.{needs}
-use lib.ListN.{take}
 use lib.Seq.{length-take-le}
 use mathlib.Core.Path.{refl, sym, _∙_}
 use native.Mathlib.Omega.{arith}

@@ -1,4 +1,5 @@
 -- `report::numbers` meets its contract. Assumes nothing.
+use Rattle.meaning.specs.Limits.{clashWidth}
 use borrow.Author.Needs.{needs}
 use mathlib.Core.List.{_∷_}
 use mathlib.Core.Path.{ap}
@@ -21,4 +22,4 @@ numbers-spec =
     (λ c. search needs)  -- part-all-start
     (λ c. search needs)  -- part-all-end
     (λ c κs. search needs)  -- copy-front-requires
-    (λ c. ap (λ l. c .before .before .before .before .args .nodes ∷ c .before .before .before .before .args .triples ∷ c .before .before .before .before .args .answer ∷ l) (whole 22 _ (c .before .copy-front .last .1 .1 .0) (c .before .copy-front .ensures) (search needs))))  -- returns
+    (λ c. ap (λ l. c .before .before .before .before .args .nodes ∷ c .before .before .before .before .args .triples ∷ c .before .before .before .before .args .answer ∷ l) (whole clashWidth _ (c .before .copy-front .last .1 .1 .0) (c .before .copy-front .ensures) (search needs))))  -- returns

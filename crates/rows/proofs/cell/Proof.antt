@@ -1,4 +1,4 @@
--- `rows::cell` meets its contract: a cell that is there, or 65,535. Assumes nothing.
+-- `rows::cell` meets its contract: a cell that is there, or unused. Assumes nothing.
 use mir.Facts.{fits-widen}
 use Rattle.rows.proofs.Laws.{text-there, text-unused}
 use borrow.Author.Needs.{needs}

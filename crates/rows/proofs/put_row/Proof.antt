@@ -3,6 +3,7 @@ use lib.ListN.{length-set}
 use mir.Facts.{fits-widen}
 use native.Mathlib.Omega.{arith}
 use Prim.Native.Nat.{_-_, _≤_}
+use Rattle.meaning.specs.Limits.{maxColumns}
 use Rattle.pack.specs.Shown.{textAt}
 use Rattle.rows.proofs.Laws.{Cells, cells-start, cells-long, cells-again, cells-done}
 use borrow.Author.Needs.{needs}
@@ -10,10 +11,10 @@ use Rattle.rows.proofs.put_row.Statement.{statement}
 use Rattle.rows.proofs.put_row.Tie as tie
 
 abbrev Inv-loop : tie.InvT-loop
-Inv-loop s out₀ at start len first column₀ out column = (column ≤ 8) × Cells first (textAt s start len) column out₀ out
+Inv-loop s out₀ at start len first column₀ out column = (column ≤ maxColumns) × Cells first (textAt s start len) column out₀ out
 
 abbrev μ-loop : tie.MeasureT-loop
-μ-loop s out₀ at start len first column₀ out column = 8 - column
+μ-loop s out₀ at start len first column₀ out column = maxColumns - column
 
 pub put-row-spec : {M : Type 1} → statement M
 put-row-spec =

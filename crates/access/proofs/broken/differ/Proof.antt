@@ -1,6 +1,5 @@
 -- `broken::differ` meets its contract. Assumes nothing.
 use borrow.Author.Tests.{eq-eqb, ne-eqb}
-use borrow.Author.Needs.{needs}
 use Rattle.access.proofs.broken.differ.Statement.{statement}
 use Rattle.access.proofs.broken.differ.Tie as tie
 

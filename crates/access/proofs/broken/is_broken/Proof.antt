@@ -19,10 +19,11 @@ use Rattle.pack.proofs.Walks.{Asked, asked-start, asked-on, asked-stop, asked-d
 use Rattle.access.proofs.Keys.{even}
 use borrow.Author.Needs.{needs}
 use Rattle.access.proofs.broken.is_broken.Statement.{statement}
+use Rattle.meaning.specs.Limits.{maxRows}
 use Rattle.access.proofs.broken.is_broken.Tie as tie
 
 abbrev Inv-loop : tie.InvT-loop
-Inv-loop s lefts₀ rights₀ rows c₀ lefts rights c = Placed s c × ((P : Pack) → unpack s ≡ some P → Asked dependency s c₀ (any (λ d. anyTwo (breaks d) (P .rows))) c (any (λ d. anyTwo (breaks d) (P .rows)))) × (length lefts ≡ 1024) × (length rights ≡ 1024)
+Inv-loop s lefts₀ rights₀ rows c₀ lefts rights c = Placed s c × ((P : Pack) → unpack s ≡ some P → Asked dependency s c₀ (any (λ d. anyTwo (breaks d) (P .rows))) c (any (λ d. anyTwo (breaks d) (P .rows)))) × (length lefts ≡ maxRows) × (length rights ≡ maxRows)
 
 abbrev μ-loop : tie.MeasureT-loop
 μ-loop s lefts₀ rights₀ rows c₀ lefts rights c = c .end - c .at

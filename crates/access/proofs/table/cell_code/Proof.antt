@@ -8,8 +8,9 @@ pub cell-code-spec : {M : Type 1} → statement M
 cell-code-spec =
     tie.close
     (tie.spec
+    (λ c. search needs)  -- mul-result
     (λ c. search needs)  -- add-result
     (λ c. literal-code _ _ (c .if1 .taken))  -- returns
-    (λ c. search needs)  -- mul-result
+    (λ c. search needs)  -- mul-result-2
     (λ c. search needs)  -- add-result-2
     (λ c. type-code _ _ (c .if1 .left)))  -- returns-2

@@ -9,9 +9,7 @@ pub mark-leaf-spec : {M : Type 1} → statement M
 mark-leaf-spec =
     tie.close
     (tie.spec
-    (λ c. search needs)  -- mul-mark
-    (λ c. search needs)  -- add-mark
-    (λ c κs. (omega arith, c .before .before .before .before .before .before .before .pre .1 .1))  -- mark-requires
+    (λ c κs. ((omega arith, c .before .before .before .before .before .before .before .pre .1 .0 .1), c .before .before .before .before .before .before .before .pre .1 .1))  -- mark-requires
     (λ c. search needs)  -- same-length
     (λ c. search needs)  -- same-length-2
     (λ c. leaf-stay (c .before .before .before .before .before .before .before .if1 .taken) (c .before .before .before .before .mark .ensures))  -- returns
@@ -21,9 +19,7 @@ mark-leaf-spec =
     (λ c. leaf-step (c .before .before .before .before .before .before .before .before .if1 .left) (c .before .before .before .before .before .before .before .if2 .taken) (c .before .before .before .before .mark-subjects .ensures))  -- returns-2
     (λ c. leaf-none (c .before .before .if1 .left) (omega arith) (λ l e. omega arith) (c .before .before .before .before .before .before .before .pre .1 .1))  -- returns-3
     (λ c. leaf-none (c .before .before .before .if1 .left) (omega arith) (λ l e. c .if4 .taken e) (c .before .before .before .before .before .before .before .before .pre .1 .1))  -- returns-4
-    (λ c. search needs)  -- mul-mark-2
-    (λ c. search needs)  -- add-mark-2
-    (λ c κs. (omega arith, c .before .before .before .before .before .before .before .before .before .before .pre .1 .1))  -- mark-requires-2
+    (λ c κs. ((omega arith, c .before .before .before .before .before .before .before .before .before .before .pre .1 .0 .1), c .before .before .before .before .before .before .before .before .before .before .pre .1 .1))  -- mark-requires-2
     (λ c. search needs)  -- same-length-5
     (λ c. search needs)  -- same-length-6
     (λ c. leaf-label (omega arith) (omega arith) (c .before .before .before .before .before .before .before .if4 .left) (c .before .before .before .before .mark2 .ensures)))  -- returns-5

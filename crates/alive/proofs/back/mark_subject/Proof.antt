@@ -22,9 +22,7 @@ mark-subject-spec =
     (λ c. search needs)  -- mul-subject-2
     (λ c. search needs)  -- shared-slice-read-subject
     (λ c. fits-widen tt (c .shared-slice-known3 .given _))  -- cast-subject
-    (λ c. search needs)  -- mul-mark
-    (λ c. search needs)  -- add-mark
-    (λ c κs. (omega arith, c .before .before .before .before .before .before .before .before .before .pre .1 .1 .1))  -- mark-requires
+    (λ c κs. ((omega arith, omega arith), c .before .before .before .before .before .before .before .before .before .pre .1 .1 .1))  -- mark-requires
     (λ c. search needs)  -- same-length
     (λ c. search needs)  -- same-length-2
     (λ c. subject-one (sym (c .before .before .before .before .before .before .before .before .before .takes-predicate .ensures) ∙ not-false (c .before .before .before .before .before .before .before .before .before .takes-predicate .result) (c .before .before .before .before .before .before .before .before .if1 .left)) (c .before .before .before .before .mark .ensures)))  -- returns-2

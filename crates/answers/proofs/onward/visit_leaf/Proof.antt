@@ -9,9 +9,7 @@ pub visit-leaf-spec : {M : Type 1} → statement M
 visit-leaf-spec =
     tie.close
     (tie.spec
-    (λ c. search needs)  -- mul-visit
-    (λ c. search needs)  -- add-visit
-    (λ c κs. (omega arith, c .before .before .before .before .before .before .pre .1 .1))  -- visit-requires
+    (λ c κs. (c .before .before .before .before .before .before .pre .1 .0, c .before .before .before .before .before .before .pre .1 .1))  -- visit-requires
     (λ c. search needs)  -- same-length
     (λ c. search needs)  -- same-length-2
     (λ c. onward-stay (c .before .before .before .before .before .before .before .if1 .taken) (c .before .before .before .before .visit .ensures))  -- returns
@@ -20,9 +18,7 @@ visit-leaf-spec =
     (λ c. search needs)  -- same-length-4
     (λ c. onward-step (c .before .before .before .before .before .before .before .before .if1 .left) (c .before .before .before .before .before .before .before .if2 .taken) (c .before .before .before .before .visit-objects .ensures))  -- returns-2
     (λ c. onward-none (c .before .before .if1 .left) (omega arith) (c .if3 .taken) (c .before .before .before .before .before .before .pre .1 .1))  -- returns-3
-    (λ c. search needs)  -- mul-visit-2
-    (λ c. search needs)  -- add-visit-2
-    (λ c κs. (omega arith, c .before .before .before .before .before .before .before .before .pre .1 .1))  -- visit-requires-2
+    (λ c κs. (c .before .before .before .before .before .before .before .before .pre .1 .0, c .before .before .before .before .before .before .before .before .pre .1 .1))  -- visit-requires-2
     (λ c. search needs)  -- same-length-5
     (λ c. search needs)  -- same-length-6
     (λ c. onward-label (omega arith) (c .before .before .before .before .before .before .before .before .before .before .before .before .before .pre .0 .1) (c .before .before .before .before .before .before .before .if3 .left) (c .before .before .before .before .visit2 .ensures)))  -- returns-4

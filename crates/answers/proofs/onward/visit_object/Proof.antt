@@ -3,7 +3,6 @@ use borrow.Author.Needs.{needs}
 use borrow.Author.Tests.{not-false}
 use mathlib.Core.Path.{sym, _∙_}
 use mir.Facts.{fits-widen}
-use native.Mathlib.Omega.{arith}
 use Rattle.answers.proofs.Forward.{object-none, object-one}
 use Rattle.answers.proofs.onward.visit_object.Statement.{statement}
 use Rattle.answers.proofs.onward.visit_object.Tie as tie
@@ -23,9 +22,7 @@ visit-object-spec =
     (λ c. search needs)  -- mul-object-2
     (λ c. search needs)  -- shared-slice-read-object
     (λ c. fits-widen tt (c .shared-slice-known3 .given _))  -- cast-object
-    (λ c. search needs)  -- mul-visit
-    (λ c. search needs)  -- add-visit
-    (λ c κs. (omega arith, c .before .before .before .before .before .before .before .before .before .pre .1 .1 .1))  -- visit-requires
+    (λ c κs. ((c .before .before .before .before .before .before .before .before .before .pre .1 .1 .0, c .before .before .before .before .before .before .before .before .before .pre .1 .0), c .before .before .before .before .before .before .before .before .before .pre .1 .1 .1))  -- visit-requires
     (λ c. search needs)  -- same-length
     (λ c. search needs)  -- same-length-2
     (λ c. object-one (sym (c .before .before .before .before .before .before .before .before .before .takes-predicate .ensures) ∙ not-false (c .before .before .before .before .before .before .before .before .before .takes-predicate .result) (c .before .before .before .before .before .before .before .before .if1 .left)) (c .before .before .before .before .visit .ensures)))  -- returns-2

@@ -4,14 +4,15 @@ use lib.ListN.{length}
 use mathlib.Core.Path.{refl, _∙_, _≡_}
 use native.Mathlib.Omega.{arith}
 use Prim.Native.Nat.{_-_, _≤_}
-use Rattle.alive.specs.Worklist.{Adds, states}
 use Rattle.answers.specs.Steps.{ObjectIn}
+use Rattle.meaning.specs.Limits.{maxStates}
+use Rattle.states.specs.Table.{Adds}
 use Rattle.answers.proofs.Forward.{objects-again, objects-done, objects-start}
 use Rattle.answers.proofs.onward.visit_objects.Statement.{statement}
 use Rattle.answers.proofs.onward.visit_objects.Tie as tie
 
 abbrev Inv-loop : tie.InvT-loop
-Inv-loop triples lo hi kind want to stamp seen₀ queue₀ tail end₀ k₀ seen queue end k = (lo ≤ k) × (k ≤ hi) × (length seen ≡ length seen₀) × (length queue ≡ length queue₀) × Adds stamp states (ObjectIn triples lo k kind want to) (ObjectIn triples lo k kind want to) seen₀ queue₀ tail seen queue end
+Inv-loop triples lo hi kind want to stamp seen₀ queue₀ tail end₀ k₀ seen queue end k = (lo ≤ k) × (k ≤ hi) × (length seen ≡ length seen₀) × (length queue ≡ length queue₀) × Adds stamp maxStates (ObjectIn triples lo k kind want to) (ObjectIn triples lo k kind want to) seen₀ queue₀ tail seen queue end
 
 abbrev μ-loop : tie.MeasureT-loop
 μ-loop triples lo hi kind want to stamp seen₀ queue₀ tail end₀ k₀ seen queue end k = hi - k

@@ -2,15 +2,15 @@
 use borrow.Author.Needs.{needs}
 use lib.ListN.{length, length-set}
 use mathlib.Core.Logic.{⊎-elim}
-use mathlib.Core.Path.{refl, _≡_}
+use mathlib.Core.Path.{_∙_, _≡_, refl, sym}
 use native.Mathlib.Omega.{arith}
-use Prim.Native.Nat.{_*_, _-_}
+use Prim.Native.Nat.{_-_}
 use Rattle.answers.proofs.Listing.{Ends, ends-add, ends-done, ends-over, ends-skip, ends-start}
 use Rattle.answers.proofs.pairs.list_ends.Statement.{statement}
 use Rattle.answers.proofs.pairs.list_ends.Tie as tie
 
 abbrev Inv-loop : tie.InvT-loop
-Inv-loop named parts start stamp seen pairs₀ k listed₀ e₀ pairs listed e = (length pairs ≡ length pairs₀) × Ends seen (parts * 1024) stamp (start * 1024) named pairs₀ k pairs listed e
+Inv-loop named parts start stamp seen pairs₀ k listed₀ e₀ pairs listed e = (length pairs ≡ length pairs₀) × Ends seen parts stamp start named pairs₀ k pairs listed e
 
 abbrev μ-loop : tie.MeasureT-loop
 μ-loop named parts start stamp seen pairs₀ k listed₀ e₀ pairs listed e = named - e
@@ -21,24 +21,19 @@ list-ends-spec =
     (tie.spec
     Inv-loop
     μ-loop
-    (λ c. (refl, ends-start (c .pre .1 .0)))  -- loop-holds
-    (λ c. search needs)  -- mul-if1
-    (λ c. search needs)  -- add-if1
-    (λ c. search needs)  -- mul-if1-2
-    (λ c. search needs)  -- shared-slice-read-if1
-    (λ c. c .before .before .before .before .loop .inv .0)  -- same-length
-    (λ c. let a = c .before .before .before .before .loop .inv .0 in let b = c .before .before .before .before .before .pre .1 .1 in ends-over (c .before .before .before .before .loop .inv .1) (c .before .before .before .loop-test .taken) (c .if2 .taken) (omega arith) (c .before .if1 .taken))  -- returns
+    (λ c. (refl, ends-start (c .before .before .pre .1 .0)))  -- loop-holds
+    (λ c κs. let a = c .before .before .before .before .pre .0 .0 in (a .1, omega arith))  -- pair-key-requires
+    (λ c κs. let a = c .before .before .before .before .before .pre .0 in ((a .1 .0, omega arith), a .1 .1))  -- has-stamp-requires
+    (λ c. c .before .before .before .before .before .loop .inv .0)  -- same-length
+    (λ c. let a = c .before .before .before .before .before .loop .inv .0 in let b = c .before .before .before .before .before .before .before .before .pre .1 .1 in ends-over (c .before .before .before .before .before .loop .inv .1) (c .before .before .before .before .loop-test .taken) (c .if2 .taken) (omega arith) (sym (c .before .before .has-stamp .ensures) ∙ c .before .if1 .taken))  -- returns
     (λ c. search needs)  -- mul-pairs
-    (λ c. search needs)  -- add-pairs
-    (λ c. let a = c .before .before .before .before .before .pre .0 .0 in omega arith)  -- cast-pairs
-    (λ c. search needs)  -- mul-pairs-2
-    (λ c. let a = c .before .before .before .before .loop .inv .0 in let b = c .before .before .before .before .before .pre .1 .1 in let d = c .before .before .before .before .loop .inv .1 .few in omega arith)  -- slice-write-pairs
+    (λ c. let a = c .before .before .before .before .before .loop .inv .0 in let b = c .before .before .before .before .before .before .before .before .pre .1 .1 in let d = c .before .before .before .before .before .loop .inv .1 .few in omega arith)  -- slice-write-pairs
     (λ c. search needs)  -- add-listed
     (λ c. search needs)  -- add-e
     (λ c. search needs)  -- loop-less
-    (λ c. let l = c .before .before .loop-test .taken in let i = c .before .before .before .loop .inv in let b = c .before .before .before .before .pre .1 .1 in let d = i .1 .few in let a = i .0 in ⊎-elim
-    (λ w. let n = w .1 .left in rw (w .2, w .3) (simp length-set (i .0), ends-add (i .1) l (omega arith) (omega arith) (w .0 .taken)))
-    (λ w. rw (w .1, w .2) (i .0, ends-skip (i .1) l (w .0 .left)))
+    (λ c. let l = c .before .before .before .loop-test .taken in let i = c .before .before .before .before .loop .inv in let b = c .before .before .before .before .before .before .before .pre .1 .1 in let d = i .1 .few in let a = i .0 in ⊎-elim
+    (λ w. let n = w .1 .left in rw (w .2, w .3) (simp length-set (i .0), ends-add (i .1) l (omega arith) (omega arith) (sym (c .before .has-stamp .ensures) ∙ w .0 .taken) (c .before .before .pair-key .ensures)))
+    (λ w. rw (w .1, w .2) (i .0, ends-skip (i .1) l (sym (c .before .has-stamp .ensures) ∙ w .0 .left)))
     (c .if1 .came))  -- loop-again
     (λ c. c .before .loop .inv .0)  -- same-length-2
     (λ c. (c .before .loop .inv .1 .few, ends-done (c .before .loop .inv .1) (omega arith))))  -- returns-2

@@ -5,9 +5,9 @@ use mathlib.Core.Path.{refl, _∙_, _≡_}
 use mir.Facts.{fits-widen}
 use native.Mathlib.Omega.{arith}
 use Prim.Native.Nat.{_-_}
-use Rattle.alive.proofs.Marking.{nothing-marked}
 use Rattle.alive.specs.Lists.{lists}
-use Rattle.alive.specs.Worklist.{states}
+use Rattle.meaning.specs.Limits.{maxStates}
+use Rattle.states.proofs.Marking.{nothing-marked, tail-within}
 use Rattle.answers.proofs.Walking.{Walking, walk-again, walk-done, walk-start}
 use Rattle.answers.proofs.pairs.walk.Statement.{statement}
 use Rattle.answers.proofs.pairs.walk.Tie as tie
@@ -16,7 +16,7 @@ abbrev Inv-loop : tie.InvT-loop
 Inv-loop sizes triples first tree next wanted alive start stamp seen₀ queue₀ root tail₀ head₀ seen queue tail head = (length seen ≡ length seen₀) × (length queue ≡ length queue₀) × Walking (lists sizes triples tree next wanted) start stamp seen queue head tail
 
 abbrev μ-loop : tie.MeasureT-loop
-μ-loop sizes triples first tree next wanted alive start stamp seen₀ queue₀ root tail₀ head₀ seen queue tail head = states - head
+μ-loop sizes triples first tree next wanted alive start stamp seen₀ queue₀ root tail₀ head₀ seen queue tail head = maxStates - head
 
 pub walk-spec : {M : Type 1} → statement M
 walk-spec =
@@ -25,17 +25,15 @@ walk-spec =
     Inv-loop
     μ-loop
     (λ c. let a = c .before .before .before .before .before .before .before .before .before .pre .0 .0 .query .some in omega arith)  -- sub-root
-    (λ c. let a = c .before .before .before .before .before .before .before .before .before .pre .0 .0 .query .few in let b = c .before .before .before .before .before .before .before .before .before .pre .0 .0 .graph .few-nodes in let d = c .before .before .before .before .before .before .before .before .before .pre .1 .0 .1 in omega arith)  -- mul-visit
-    (λ c. let a = c .before .before .before .before .before .before .before .before .before .pre .0 .0 .query .few in let b = c .before .before .before .before .before .before .before .before .before .pre .0 .0 .graph .few-nodes in let d = c .before .before .before .before .before .before .before .before .before .pre .1 .0 .1 in omega arith)  -- add-visit
-    (λ c κs. let a = c .before .before .before .before .before .before .before .before .before .before .before .pre .0 .0 .query .few in let b = c .before .before .before .before .before .before .before .before .before .before .before .pre .0 .0 .graph .few-nodes in let d = c .before .before .before .before .before .before .before .before .before .before .before .pre .1 .0 .1 in (omega arith, nothing-marked (c .before .before .before .before .before .before .before .before .before .before .before .pre .1 .1)))  -- visit-requires
+    (λ c κs. let a = c .before .before .before .before .before .before .before .before .before .before .before .pre .0 .0 .query .few in let b = c .before .before .before .before .before .before .before .before .before .before .before .pre .0 .0 .graph .few-nodes in let d = c .before .before .before .before .before .before .before .before .before .before .before .pre .1 .0 .1 in ((omega arith, omega arith), nothing-marked (c .before .before .before .before .before .before .before .before .before .before .before .pre .1 .1)))  -- visit-requires
     (λ c. (refl, refl, walk-start (c .before .before .before .before .before .before .before .before .before .before .before .before .before .before .before .before .pre .0 .0) (c .before .before .before .before .before .before .before .before .before .before .before .before .before .before .before .before .pre .1 .0 .1) (c .before .before .before .before .visit .ensures)))  -- loop-holds
     (λ c. search needs)  -- mul-s
-    (λ c. let a = c .before .before .loop .inv .2 .marks .count in let b = c .before .before .loop .inv .2 .marks .room in omega arith)  -- slice-read-s
+    (λ c. let a = tail-within (c .before .before .loop .inv .2 .marks) in let b = c .before .before .loop .inv .2 .marks .room in omega arith)  -- slice-read-s
     (λ c. fits-widen tt (c .slice-known5 .given _))  -- cast-s
     (λ c κs. let s = c .before .before .before .before .loop .inv .2 .sound (c .before .before .before .before .loop .head) (c .before .before .before .loop-test .taken) in (c .before .before .before .before .before .before .before .before .before .before .before .before .before .before .before .before .before .before .before .before .before .pre .0, ((c .before .before .before .before .before .before .before .before .before .before .before .before .before .before .before .before .before .before .before .before .before .pre .1 .0 .0, record { part = s .part; node = s .node }), c .before .before .before .before .loop .inv .2 .marks)))  -- visit-onward-requires
     (λ c. search needs)  -- add-head
-    (λ c. let a = c .before .before .before .before .before .before .before .before .before .loop .inv .2 .marks .count in omega arith)  -- loop-less
+    (λ c. let a = tail-within (c .before .before .before .before .before .before .before .before .before .loop .inv .2 .marks) in omega arith)  -- loop-less
     (λ c. (c .before .before .before .before .visit-onward .kept .1 .1 .1 .1 .1 .1 .1 .1 .1 .0 ∙ c .before .before .before .before .before .before .before .before .before .loop .inv .0, c .before .before .before .before .visit-onward .kept .1 .1 .1 .1 .1 .1 .1 .1 .1 .1 .0 ∙ c .before .before .before .before .before .before .before .before .before .loop .inv .1, walk-again (c .before .before .before .before .before .before .before .before .before .before .before .before .before .before .before .before .before .before .before .before .before .before .before .before .before .before .pre .0 .0) (c .before .before .before .before .before .before .before .before .before .loop .inv .2) (c .before .before .before .before .before .before .before .before .loop-test .taken) (c .before .before .before .before .visit-onward .ensures)))  -- loop-again
-    (λ c. c .before .loop .inv .0 ∙ c .before .before .before .before .before .before .visit .kept .1 .1 .0)  -- same-length
-    (λ c. c .before .loop .inv .1 ∙ c .before .before .before .before .before .before .visit .kept .1 .1 .1 .0)  -- same-length-2
+    (λ c. c .before .loop .inv .0 ∙ c .before .before .before .before .before .before .visit .kept .1 .1 .1 .0)  -- same-length
+    (λ c. c .before .loop .inv .1 ∙ c .before .before .before .before .before .before .visit .kept .1 .1 .1 .1 .0)  -- same-length-2
     (λ c. walk-done (c .before .before .before .before .before .before .before .before .before .before .before .before .before .before .before .before .before .before .pre .0 .0) (c .before .before .before .before .before .before .before .before .before .before .before .before .before .before .before .before .before .before .pre .1 .0 .1) (c .before .loop .inv .2) (omega arith)))  -- returns

@@ -5,8 +5,10 @@ use mathlib.Core.Path.{_≡_, refl, _∙_}
 use native.Mathlib.Omega.{arith}
 use Prim.Native.Nat.{_-_}
 use Rattle.access.proofs.Found.{sought-on, sought-start}
+use Rattle.access.specs.Places.{OfPack}
 use Rattle.construct.proofs.Arity.{Below, below-again, below-all, below-stuck, room, size-good}
 use Rattle.construct.proofs.arities.arities.Statement.{statement}
+use Rattle.meaning.specs.Limits.{maxConstructors}
 use Rattle.construct.proofs.arities.arities.Tie as tie
 use Rattle.pack.proofs.Bodies.{shrinks-of}
 use Rattle.pack.proofs.Reading.{as-constructor, no-constructor}
@@ -14,10 +16,9 @@ use Rattle.pack.proofs.Walks.{less}
 use Rattle.pack.specs.Kinds.{Sought}
 use Rattle.pack.specs.Records.{constructor}
 use Rattle.pack.specs.declared.walk.Kind.the-variants as Of
-use Rattle.rules.specs.Answer.{OfPack}
 
 abbrev Inv-loop : tie.InvT-loop
-Inv-loop s arities₀ n₀ c₀ arities n c = (length arities ≡ 16) × Sought constructor s c₀ n c × OfPack s (λ P. Below P arities n)
+Inv-loop s arities₀ n₀ c₀ arities n c = (length arities ≡ maxConstructors) × Sought constructor s c₀ n c × OfPack s (λ P. Below P arities n)
 
 abbrev μ-loop : tie.MeasureT-loop
 μ-loop s arities₀ n₀ c₀ arities n c = c .end - c .at

@@ -2,7 +2,7 @@
 use borrow.Author.Needs.{needs}
 use borrow.Author.Tests.{not-true, not-false}
 use native.Mathlib.Omega.{arith}
-use Rattle.core.specs.Spread.{room}
+use Rattle.core.specs.Spread.{maskRoom}
 use Rattle.meaning.specs.Limits.{maxCoreTriples}
 use Rattle.core.proofs.Spreading.{Spreading, spread-start, spread-again, spread-done}
 use Rattle.core.proofs.typing.spread.Statement.{statement}
@@ -12,7 +12,7 @@ abbrev Inv-loop : tie.InvT-loop
 Inv-loop shapes triples masks₀ passed₀ masks passed = Spreading shapes triples passed masks₀ masks
 
 abbrev μ-loop : tie.MeasureT-loop
-μ-loop shapes triples masks₀ passed₀ masks passed = room masks
+μ-loop shapes triples masks₀ passed₀ masks passed = maskRoom masks
 
 pub spread-spec : {M : Type 1} → statement M
 spread-spec =

@@ -1,7 +1,6 @@
 -- `evaluate::named::named` meets its contract: in its loop, no node before is invented. Assumes nothing.
 use borrow.Author.Needs.{needs}
 use Prim.Native.Nat.{_-_}
-use native.Mathlib.Omega.{arith}
 use Rattle.evaluate.proofs.Searching.{Passed, passed-again, passed-all, passed-here, passed-start}
 use Rattle.evaluate.proofs.named.named.Statement.{statement}
 use Rattle.evaluate.proofs.named.named.Tie as tie

@@ -1,12 +1,13 @@
 -- `evaluate::pairs::pairs` meets its contract. Assumes nothing.
 use borrow.Author.Needs.{needs}
 use native.Mathlib.Omega.{arith}
+use Rattle.meaning.specs.Limits.{maxParts}
+use Rattle.sets.specs.Buffers.{zeros}
 use Rattle.evaluate.proofs.Answers.{lists-fit, pairs-answer}
 use Rattle.evaluate.proofs.Held.{subjects-rise}
 use Rattle.evaluate.proofs.Readied.{chain-ready, pack-formed, parts-few, roomy, threadable}
 use Rattle.evaluate.proofs.pairs.pairs.Statement.{statement}
 use Rattle.evaluate.proofs.pairs.pairs.Tie as tie
-use Rattle.sets.specs.Buffers.{zeros}
 
 pub pairs-spec : {M : Type 1} → statement M
 pairs-spec =
@@ -24,7 +25,7 @@ pairs-spec =
     (λ c. search needs)  -- slice-aggregate-joined-pairs-5
     (λ c κs. let r = c .before .before .before .before .before .before .before .before .before .before .before .before .before .before .before .before .before .before .before .before .before .before .before .before .before .pre in let few = parts-few (r .0) in ( -- joined-pairs-requires
       record {
-        fits = lists-fit (c .before .before .before .before .before .before .before .before .before .before .before .before .before .before .before .before .before .before .before .before .before .before .before .before .before .pre .0) (c .before .before .before .before .before .before .before .before .before .before .before .before .before .before .thread .last .1 .1 .0) (zeros 256) (c .before .before .before .before .before .before .before .before .before .before .before .resolve .last .1 .1 .1 .1 .1 .1 .0) (c .before .before .before .before .before .before .before .before .before .before .before .before .before .before .thread .ensures) (c .before .before .before .before .before .before .before .before .before .before .before .resolve .ensures) (omega (arith, c .before .before .before .before .before .before .before .before .before .before .before .before .before .before .thread .kept .1 .1 .0)) (omega (arith, c .before .before .before .before .before .before .before .before .before .before .before .resolve .kept .1 .1 .1 .1 .1 .1 .0));
+        fits = lists-fit (c .before .before .before .before .before .before .before .before .before .before .before .before .before .before .before .before .before .before .before .before .before .before .before .before .before .pre .0) (c .before .before .before .before .before .before .before .before .before .before .before .before .before .before .thread .last .1 .1 .0) (zeros maxParts) (c .before .before .before .before .before .before .before .before .before .before .before .resolve .last .1 .1 .1 .1 .1 .1 .0) (c .before .before .before .before .before .before .before .before .before .before .before .before .before .before .thread .ensures) (c .before .before .before .before .before .before .before .before .before .before .before .resolve .ensures) (omega (arith, c .before .before .before .before .before .before .before .before .before .before .before .before .before .before .thread .kept .1 .1 .0)) (omega (arith, c .before .before .before .before .before .before .before .before .before .before .before .resolve .kept .1 .1 .1 .1 .1 .1 .0));
         chains = chain-ready (r .0);
         unmarked = r .1;
       },
@@ -32,8 +33,7 @@ pairs-spec =
         rise = subjects-rise (r .0 .graph .graph);
         nodes = c .before .before .before .before .before .before .before .before .before .named .ensures .within;
         starts = omega arith;
-        long = r .2 .long;
-        unseen = λ x l. let h = r .2 .below x l in omega arith;
+        unseen = r .2 .clean;
         room = r .3;
       },
     ))
@@ -41,4 +41,4 @@ pairs-spec =
     (λ c. search needs)  -- same-length-2
     (λ c. search needs)  -- same-length-3
     (λ c. search needs)  -- same-length-4
-    (λ c. pairs-answer (c .before .before .before .before .before .before .before .before .before .before .before .before .before .before .before .before .before .before .before .before .before .before .before .before .before .before .before .before .before .before .before .before .before .before .before .before .before .pre .0) (c .before .before .before .before .before .before .before .before .before .before .before .before .before .before .before .before .before .before .before .before .before .before .before .before .before .before .thread .last .1 .1 .0) (zeros 256) (c .before .before .before .before .before .before .before .before .before .before .before .before .before .before .before .before .before .before .before .before .before .before .before .resolve .last .1 .1 .1 .1 .1 .1 .0) (c .before .before .before .before .before .before .before .before .before .before .before .before .before .before .before .before .before .before .before .before .before .before .before .before .before .before .thread .ensures) (c .before .before .before .before .before .before .before .before .before .before .before .before .before .before .before .before .before .before .before .before .before .before .before .resolve .ensures) (c .before .before .before .before .before .before .before .before .before .before .before .before .before .before .before .before .before .before .before .before .before .named .ensures) (c .before .before .before .before .before .before .before .before .before .before .before .joined-pairs .result) _ (c .before .before .before .before .before .before .before .before .before .before .before .joined-pairs .ensures)))  -- returns
+    (λ c. pairs-answer (c .before .before .before .before .before .before .before .before .before .before .before .before .before .before .before .before .before .before .before .before .before .before .before .before .before .before .before .before .before .before .before .before .before .before .before .before .before .pre .0) (c .before .before .before .before .before .before .before .before .before .before .before .before .before .before .before .before .before .before .before .before .before .before .before .before .before .before .thread .last .1 .1 .0) (zeros maxParts) (c .before .before .before .before .before .before .before .before .before .before .before .before .before .before .before .before .before .before .before .before .before .before .before .resolve .last .1 .1 .1 .1 .1 .1 .0) (c .before .before .before .before .before .before .before .before .before .before .before .before .before .before .before .before .before .before .before .before .before .before .before .before .before .before .thread .ensures) (c .before .before .before .before .before .before .before .before .before .before .before .before .before .before .before .before .before .before .before .before .before .before .before .resolve .ensures) (c .before .before .before .before .before .before .before .before .before .before .before .before .before .before .before .before .before .before .before .before .before .named .ensures) (c .before .before .before .before .before .before .before .before .before .before .before .joined-pairs .result) _ (c .before .before .before .before .before .before .before .before .before .before .before .joined-pairs .ensures)))  -- returns

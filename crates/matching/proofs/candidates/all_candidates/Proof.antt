@@ -6,10 +6,11 @@ use mathlib.Core.List.{List}
 use mathlib.Core.Path.{refl}
 use native.Mathlib.Omega.{arith}
 use Prim.Native.Nat.{_-_, _+_, _*_}
-use Rattle.matching.specs.Plan.{Among, Variables8, RowsBytes}
+use Rattle.matching.specs.Plan.{Among, KeyVariables, RowsBytes}
 use Rattle.matching.proofs.Prepare.{Preparing, prepare-start, counted-small, prepare-again, prepare-done}
 use Rattle.matching.proofs.Rows.{as-part}
 use Rattle.matching.proofs.candidates.all_candidates.Statement.{statement}
+use Rattle.meaning.specs.Limits.{atomWidth, maxRows}
 use Rattle.matching.proofs.candidates.all_candidates.Tie as tie
 
 abbrev Inv-loop : tie.InvT-loop
@@ -52,10 +53,10 @@ all-candidates-spec =
     (λ c. omega (arith, c .before .before .before .before .before .before .before .before .before .before .before .pre .0 .few, c .before .before .before .before .before .before .before .before .before .before .before .pre .0 .long, c .before .before .before .before .before .before .before .before .before .before .before .pre .1 .long, c .before .before .before .before .before .loop-test .taken, c .before .before .before .before .before .before .before .before .before .before .before .pre .0 .arity (c .before .before .before .before .before .before .loop .j) (c .before .before .before .before .before .loop-test .taken), c .before .before .before .before .before .before .before .before .before .before .before .pre .1 .arity (c .before .before .before .before .before .before .loop .j) (c .before .before .before .before .before .loop-test .taken), c .before .before .before .before .before .before .before .before .before .before .before .pre .6, c .before .before .before .before .before .before .loop .inv .long))  -- sub-candidates-3
     (λ c. omega (arith, c .before .before .before .before .before .before .before .before .before .before .before .pre .0 .few, c .before .before .before .before .before .before .before .before .before .before .before .pre .0 .long, c .before .before .before .before .before .before .before .before .before .before .before .pre .1 .long, c .before .before .before .before .before .loop-test .taken, c .before .before .before .before .before .before .before .before .before .before .before .pre .0 .arity (c .before .before .before .before .before .before .loop .j) (c .before .before .before .before .before .loop-test .taken), c .before .before .before .before .before .before .before .before .before .before .before .pre .1 .arity (c .before .before .before .before .before .before .loop .j) (c .before .before .before .before .before .loop-test .taken), c .before .before .before .before .before .before .before .before .before .before .before .pre .6, c .before .before .before .before .before .before .loop .inv .long))  -- part-candidates-start-3
     (λ c. omega (arith, c .before .before .before .before .before .before .before .before .before .before .before .pre .0 .few, c .before .before .before .before .before .before .before .before .before .before .before .pre .0 .long, c .before .before .before .before .before .before .before .before .before .before .before .pre .1 .long, c .before .before .before .before .before .loop-test .taken, c .before .before .before .before .before .before .before .before .before .before .before .pre .0 .arity (c .before .before .before .before .before .before .loop .j) (c .before .before .before .before .before .loop-test .taken), c .before .before .before .before .before .before .before .before .before .before .before .pre .1 .arity (c .before .before .before .before .before .before .loop .j) (c .before .before .before .before .before .loop-test .taken), c .before .before .before .before .before .before .before .before .before .before .before .pre .6, c .before .before .before .before .before .before .loop .inv .long))  -- part-candidates-end-3
-    (λ c κs. let s = c .before .before .before .before .before .before .before .before .before .before .before .before .args in let p = c .before .before .before .before .before .before .before .before .before .before .before .before .pre in let j = c .before .before .before .before .before .before .before .loop .j in let l = c .before .before .before .before .before .before .loop-test .taken in let a = j * 10 + 2 in let k = getD (s .atoms .now) (j * 10 + 1) 0 in let o = getD (s .orders .now) (j * 10 + 1) 0 in let own = drop a (s .atoms .now) in let order = drop a (s .orders .now) in (as-part Variables8 a k own (p .0 .variables j l), as-part Variables8 a o order (p .1 .variables j l), as-part (λ (x : List _). Among x (take (a + k - a) own)) a o order (as-part (λ (x : List _). Among (take o order) x) a k own (λ v. p .2 .same j l v .0)), p .3, as-part (λ (x : List _). RowsBytes (s .rows .now) (getD (s .atoms .now) (j * 10) 0) (length x)) a k own (p .4 j l), omega (arith, p .5, p .6, p .0 .few, l, c .before .before .before .before .before .before .before .loop .inv .long, length-take (j * 1024 + 1024 - j * 1024) (drop (j * 1024) (c .before .before .before .before .before .before .before .loop .out)), length-drop (j * 1024) (c .before .before .before .before .before .before .before .loop .out))))  -- candidates-requires
+    (λ c κs. let s = c .before .before .before .before .before .before .before .before .before .before .before .before .args in let p = c .before .before .before .before .before .before .before .before .before .before .before .before .pre in let j = c .before .before .before .before .before .before .before .loop .j in let l = c .before .before .before .before .before .before .loop-test .taken in let a = j * atomWidth + 2 in let k = getD (s .atoms .now) (j * atomWidth + 1) 0 in let o = getD (s .orders .now) (j * atomWidth + 1) 0 in let own = drop a (s .atoms .now) in let order = drop a (s .orders .now) in (as-part KeyVariables a k own (p .0 .variables j l), as-part KeyVariables a o order (p .1 .variables j l), as-part (λ (x : List _). Among x (take (a + k - a) own)) a o order (as-part (λ (x : List _). Among (take o order) x) a k own (λ v. p .2 .same j l v .0)), p .3, as-part (λ (x : List _). RowsBytes (s .rows .now) (getD (s .atoms .now) (j * atomWidth) 0) (length x)) a k own (p .4 j l), omega (arith, p .5, p .6, p .0 .few, l, c .before .before .before .before .before .before .before .loop .inv .long, length-take (j * maxRows + maxRows - j * maxRows) (drop (j * maxRows) (c .before .before .before .before .before .before .before .loop .out)), length-drop (j * maxRows) (c .before .before .before .before .before .before .before .loop .out))))  -- candidates-requires
     (λ c. omega (arith, counted-small (c .before .before .before .before .before .before .before .before .before .before .loop .inv) (c .before .before .before .before .before .before .before .before .before .loop-test .taken) (c .before .before .before .before .before .before .before .before .before .before .before .before .before .before .before .pre .0 .few) (c .before .before .before .before .before .before .before .before .before .before .before .before .before .before .before .pre .6) _ _ _ _ refl refl (c .before .before .candidates .ensures) (c .before .before .candidates .kept .1 .1 .1 .1 .1 .0)))  -- cast-counts
     (λ c. omega (arith, c .before .before .before .before .before .before .before .before .before .before .before .before .before .before .before .pre .0 .few, c .before .before .before .before .before .before .before .before .before .before .before .before .before .before .before .pre .0 .long, c .before .before .before .before .before .before .before .before .before .before .before .before .before .before .before .pre .1 .long, c .before .before .before .before .before .before .before .before .before .loop-test .taken, c .before .before .before .before .before .before .before .before .before .before .before .before .before .before .before .pre .0 .arity (c .before .before .before .before .before .before .before .before .before .before .loop .j) (c .before .before .before .before .before .before .before .before .before .loop-test .taken), c .before .before .before .before .before .before .before .before .before .before .before .before .before .before .before .pre .1 .arity (c .before .before .before .before .before .before .before .before .before .before .loop .j) (c .before .before .before .before .before .before .before .before .before .loop-test .taken), c .before .before .before .before .before .before .before .before .before .before .before .before .before .before .before .pre .6, c .before .before .before .before .before .before .before .before .before .before .loop .inv .long))  -- mul-counts
-    (λ c. omega (arith, c .before .before .before .before .before .before .before .before .before .before .before .before .before .before .before .pre .0 .few, c .before .before .before .before .before .before .before .before .before .loop-test .taken, c .before .before .before .before .before .before .before .before .before .before .loop .inv .three))  -- array-write-counts
+    (λ c. omega (arith, c .before .before .before .before .before .before .before .before .before .before .before .before .before .before .before .pre .0 .few, c .before .before .before .before .before .before .before .before .before .loop-test .taken, c .before .before .before .before .before .before .before .before .before .before .loop .inv .all))  -- array-write-counts
     (λ c. omega (arith, c .before .before .before .before .before .before .before .before .before .before .before .before .before .before .before .pre .0 .few, c .before .before .before .before .before .before .before .before .before .before .before .before .before .before .before .pre .0 .long, c .before .before .before .before .before .before .before .before .before .before .before .before .before .before .before .pre .1 .long, c .before .before .before .before .before .before .before .before .before .loop-test .taken, c .before .before .before .before .before .before .before .before .before .before .before .before .before .before .before .pre .0 .arity (c .before .before .before .before .before .before .before .before .before .before .loop .j) (c .before .before .before .before .before .before .before .before .before .loop-test .taken), c .before .before .before .before .before .before .before .before .before .before .before .before .before .before .before .pre .1 .arity (c .before .before .before .before .before .before .before .before .before .before .loop .j) (c .before .before .before .before .before .before .before .before .before .loop-test .taken), c .before .before .before .before .before .before .before .before .before .before .before .before .before .before .before .pre .6, c .before .before .before .before .before .before .before .before .before .before .loop .inv .long))  -- add-j
     (λ c. omega (arith, c .before .before .before .before .before .before .before .before .before .before .before .before .before .before .before .pre .0 .few, c .before .before .before .before .before .before .before .before .before .before .before .before .before .before .before .pre .0 .long, c .before .before .before .before .before .before .before .before .before .before .before .before .before .before .before .pre .1 .long, c .before .before .before .before .before .before .before .before .before .loop-test .taken, c .before .before .before .before .before .before .before .before .before .before .before .before .before .before .before .pre .0 .arity (c .before .before .before .before .before .before .before .before .before .before .loop .j) (c .before .before .before .before .before .before .before .before .before .loop-test .taken), c .before .before .before .before .before .before .before .before .before .before .before .before .before .before .before .pre .1 .arity (c .before .before .before .before .before .before .before .before .before .before .loop .j) (c .before .before .before .before .before .before .before .before .before .loop-test .taken), c .before .before .before .before .before .before .before .before .before .before .before .before .before .before .before .pre .6, c .before .before .before .before .before .before .before .before .before .before .loop .inv .long))  -- loop-less
     (λ c. prepare-again (c .before .before .before .before .before .before .before .before .before .before .loop .inv) (c .before .before .before .before .before .before .before .before .before .loop-test .taken) (c .before .before .before .before .before .before .before .before .before .before .before .before .before .before .before .pre .0 .few) (c .before .before .before .before .before .before .before .before .before .before .before .before .before .before .before .pre .6) _ _ _ _ refl refl (c .before .before .candidates .ensures) (c .before .before .candidates .kept .1 .1 .1 .1 .1 .0))  -- loop-again

@@ -7,6 +7,7 @@ use Prim.Native.Nat.{_-_, _/_}
 use Rattle.matching.proofs.Cells.{Cells, cells-start, cells-again, cells-differ, column-below, columns-bytes}
 use Rattle.matching.proofs.Collect.{Collected, collect-start, collect-other, collect-differ, collect-more, collect-done}
 use Rattle.matching.proofs.candidates.candidates.Statement.{statement}
+use Rattle.meaning.specs.Limits.{rowWidth}
 use Rattle.matching.proofs.candidates.candidates.Tie as tie
 
 abbrev Inv-loop : tie.InvT-loop
@@ -19,7 +20,7 @@ abbrev Inv-rows : tie.InvT-rows
 Inv-rows rows relation own order start out₀ firsts cols n₀ last₀ r₀ r-end out n last r = Collected rows relation own order start out₀ r n last out
 
 abbrev μ-rows : tie.MeasureT-rows
-μ-rows rows relation own order start out₀ firsts cols n₀ last₀ r₀ r-end out n last r = length rows / 9 - r
+μ-rows rows relation own order start out₀ firsts cols n₀ last₀ r₀ r-end out n last r = length rows / rowWidth - r
 
 pub candidates-spec : {M : Type 1} → statement M
 candidates-spec =

@@ -5,10 +5,11 @@ use mir.Facts.{fits-widen}
 use mathlib.Core.Path.{refl}
 use native.Mathlib.Omega.{arith}
 use Prim.Native.Nat.{_-_, _+_, _*_}
-use Rattle.matching.specs.Plan.{Below16}
+use Rattle.matching.specs.Plan.{AreVariables}
 use Rattle.matching.proofs.Marked.{Freshening, fresh-start, fresh-again, fresh-done}
 use Rattle.matching.proofs.Rows.{as-part}
 use Rattle.matching.proofs.marks.fresh.Statement.{statement}
+use Rattle.meaning.specs.Limits.{atomWidth}
 use Rattle.matching.proofs.marks.fresh.Tie as tie
 
 abbrev Inv-loop : tie.InvT-loop
@@ -34,7 +35,7 @@ fresh-spec =
     (λ c. omega (arith, c .before .before .before .before .before .pre .0 .few, c .before .before .before .before .before .pre .0 .long, c .before .loop-test .taken, c .before .before .before .before .before .pre .0 .arity (c .before .before .loop .j) (c .before .loop-test .taken)))  -- sub-mark
     (λ c. omega (arith, c .before .before .before .before .before .pre .0 .few, c .before .before .before .before .before .pre .0 .long, c .before .loop-test .taken, c .before .before .before .before .before .pre .0 .arity (c .before .before .loop .j) (c .before .loop-test .taken)))  -- part-mark-start
     (λ c. omega (arith, c .before .before .before .before .before .pre .0 .few, c .before .before .before .before .before .pre .0 .long, c .before .loop-test .taken, c .before .before .before .before .before .pre .0 .arity (c .before .before .loop .j) (c .before .loop-test .taken)))  -- part-mark-end
-    (λ c κs. let s = c .before .before .before .before .before .before .args in let j = c .before .before .before .loop .j in as-part Below16 (j * 10 + 2) (getD (s .atoms .now) (j * 10 + 1) 0) (drop (j * 10 + 2) (s .atoms .now)) (c .before .before .before .before .before .before .pre .0 .variables j (c .before .before .loop-test .taken) .below))  -- mark-requires
+    (λ c κs. let s = c .before .before .before .before .before .before .args in let j = c .before .before .before .loop .j in as-part AreVariables (j * atomWidth + 2) (getD (s .atoms .now) (j * atomWidth + 1) 0) (drop (j * atomWidth + 2) (s .atoms .now)) (c .before .before .before .before .before .before .pre .0 .variables j (c .before .before .loop-test .taken) .below))  -- mark-requires
     (λ c. omega (arith, c .before .before .before .before .before .before .before .pre .0 .few, c .before .before .before .before .before .before .before .pre .0 .long, c .before .before .before .loop-test .taken, c .before .before .before .before .before .before .before .pre .0 .arity (c .before .before .before .before .loop .j) (c .before .before .before .loop-test .taken)))  -- add-j
     (λ c. omega (arith, c .before .before .before .before .before .before .before .pre .0 .few, c .before .before .before .before .before .before .before .pre .0 .long, c .before .before .before .loop-test .taken, c .before .before .before .before .before .before .before .pre .0 .arity (c .before .before .before .before .loop .j) (c .before .before .before .loop-test .taken)))  -- loop-less
     (λ c. fresh-again (c .before .before .before .before .loop .inv) (c .before .before .before .loop-test .taken) _ _ refl refl _ (c .mark .ensures))  -- loop-again

@@ -1,5 +1,4 @@
 -- `matching::marks::noted` meets its contract. Assumes nothing.
-use borrow.Author.Needs.{needs}
 use Rattle.matching.proofs.Marked.{noted-first, noted-again}
 use Rattle.matching.proofs.marks.noted.Statement.{statement}
 use Rattle.matching.proofs.marks.noted.Tie as tie

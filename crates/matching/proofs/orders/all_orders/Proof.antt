@@ -4,10 +4,11 @@ use mathlib.Core.Path.{_≡_, refl, _∙_}
 use mir.Facts.{fits-widen}
 use native.Mathlib.Omega.{arith}
 use Prim.Native.Nat.{_-_, _+_, _*_}
-use Rattle.matching.specs.Plan.{Variables8}
+use Rattle.matching.specs.Plan.{KeyVariables}
 use Rattle.matching.proofs.Order.{Ordering, ordering-start, ordering-again, ordering-done, first-length, first-few}
 use Rattle.matching.proofs.Rows.{as-part}
 use Rattle.matching.proofs.orders.all_orders.Statement.{statement}
+use Rattle.meaning.specs.Limits.{atomWidth}
 use Rattle.matching.proofs.orders.all_orders.Tie as tie
 
 abbrev Inv-loop : tie.InvT-loop
@@ -33,15 +34,15 @@ all-orders-spec =
     (λ c. omega (arith, c .before .before .before .before .before .pre .0 .few, c .before .before .before .before .before .pre .0 .long, c .before .loop-test .taken, c .before .before .before .before .before .pre .0 .arity (c .before .before .loop .j) (c .before .loop-test .taken)))  -- sub-ranks
     (λ c. omega (arith, c .before .before .before .before .before .pre .0 .few, c .before .before .before .before .before .pre .0 .long, c .before .loop-test .taken, c .before .before .before .before .before .pre .0 .arity (c .before .before .loop .j) (c .before .loop-test .taken)))  -- part-ranks-start
     (λ c. omega (arith, c .before .before .before .before .before .pre .0 .few, c .before .before .before .before .before .pre .0 .long, c .before .loop-test .taken, c .before .before .before .before .before .pre .0 .arity (c .before .before .loop .j) (c .before .loop-test .taken)))  -- part-ranks-end
-    (λ c κs. (as-part Variables8 (c .before .before .before .before .loop .j * 10 + 2) (getD (c .before .before .before .before .before .before .before .args .atoms .now) (c .before .before .before .before .loop .j * 10 + 1) 0) (drop (c .before .before .before .before .loop .j * 10 + 2) (c .before .before .before .before .before .before .before .args .atoms .now)) (c .before .before .before .before .before .before .before .pre .0 .variables (c .before .before .before .before .loop .j) (c .before .before .before .loop-test .taken)), omega (arith, c .before .before .before .before .before .before .before .pre .1, c .before .before .before .before .loop .inv .0)))  -- ranks-requires
-    (λ c. omega (arith, c .before .before .ranks .ensures .0, (as-part Variables8 (c .before .before .before .before .before .before .before .loop .j * 10 + 2) (getD (c .before .before .before .before .before .before .before .before .before .before .args .atoms .now) (c .before .before .before .before .before .before .before .loop .j * 10 + 1) 0) (drop (c .before .before .before .before .before .before .before .loop .j * 10 + 2) (c .before .before .before .before .before .before .before .before .before .before .args .atoms .now)) (c .before .before .before .before .before .before .before .before .before .before .pre .0 .variables (c .before .before .before .before .before .before .before .loop .j) (c .before .before .before .before .before .before .loop-test .taken))) .short, c .before .before .before .before .before .before .before .before .before .before .pre .1, c .before .before .before .before .before .before .before .loop .inv .0, c .before .before .ranks .kept .1 .1 .0))  -- slice-reshare-prefix-written
-    (λ c. first-length _ _ (omega (arith, c .before .before .before .ranks .ensures .0, (as-part Variables8 (c .before .before .before .before .before .before .before .before .loop .j * 10 + 2) (getD (c .before .before .before .before .before .before .before .before .before .before .before .args .atoms .now) (c .before .before .before .before .before .before .before .before .loop .j * 10 + 1) 0) (drop (c .before .before .before .before .before .before .before .before .loop .j * 10 + 2) (c .before .before .before .before .before .before .before .before .before .before .before .args .atoms .now)) (c .before .before .before .before .before .before .before .before .before .before .before .pre .0 .variables (c .before .before .before .before .before .before .before .before .loop .j) (c .before .before .before .before .before .before .before .loop-test .taken))) .short, c .before .before .before .before .before .before .before .before .before .before .before .pre .1, c .before .before .before .before .before .before .before .before .loop .inv .0, c .before .before .before .ranks .kept .1 .1 .0)))  -- slice-aggregate-written
-    (λ c κs. (omega (arith, c .before .before .before .before .before .before .before .before .before .before .before .pre .0 .few, c .before .before .before .before .before .before .before .loop-test .taken), first-few (c .before .before .before .ranks .result) (c .before .before .before .ranks .last .1 .1 .0) (omega (arith, c .before .before .before .ranks .ensures .0, (as-part Variables8 (c .before .before .before .before .before .before .before .before .loop .j * 10 + 2) (getD (c .before .before .before .before .before .before .before .before .before .before .before .args .atoms .now) (c .before .before .before .before .before .before .before .before .loop .j * 10 + 1) 0) (drop (c .before .before .before .before .before .before .before .before .loop .j * 10 + 2) (c .before .before .before .before .before .before .before .before .before .before .before .args .atoms .now)) (c .before .before .before .before .before .before .before .before .before .before .before .pre .0 .variables (c .before .before .before .before .before .before .before .before .loop .j) (c .before .before .before .before .before .before .before .loop-test .taken))) .short))))  -- written-requires
+    (λ c κs. (as-part KeyVariables (c .before .before .before .before .loop .j * atomWidth + 2) (getD (c .before .before .before .before .before .before .before .args .atoms .now) (c .before .before .before .before .loop .j * atomWidth + 1) 0) (drop (c .before .before .before .before .loop .j * atomWidth + 2) (c .before .before .before .before .before .before .before .args .atoms .now)) (c .before .before .before .before .before .before .before .pre .0 .variables (c .before .before .before .before .loop .j) (c .before .before .before .loop-test .taken)), omega (arith, c .before .before .before .before .before .before .before .pre .1, c .before .before .before .before .loop .inv .0)))  -- ranks-requires
+    (λ c. omega (arith, c .before .before .ranks .ensures .0, (as-part KeyVariables (c .before .before .before .before .before .before .before .loop .j * atomWidth + 2) (getD (c .before .before .before .before .before .before .before .before .before .before .args .atoms .now) (c .before .before .before .before .before .before .before .loop .j * atomWidth + 1) 0) (drop (c .before .before .before .before .before .before .before .loop .j * atomWidth + 2) (c .before .before .before .before .before .before .before .before .before .before .args .atoms .now)) (c .before .before .before .before .before .before .before .before .before .before .pre .0 .variables (c .before .before .before .before .before .before .before .loop .j) (c .before .before .before .before .before .before .loop-test .taken))) .short, c .before .before .before .before .before .before .before .before .before .before .pre .1, c .before .before .before .before .before .before .before .loop .inv .0, c .before .before .ranks .kept .1 .1 .0))  -- slice-reshare-prefix-written
+    (λ c. first-length _ _ (omega (arith, c .before .before .before .ranks .ensures .0, (as-part KeyVariables (c .before .before .before .before .before .before .before .before .loop .j * atomWidth + 2) (getD (c .before .before .before .before .before .before .before .before .before .before .before .args .atoms .now) (c .before .before .before .before .before .before .before .before .loop .j * atomWidth + 1) 0) (drop (c .before .before .before .before .before .before .before .before .loop .j * atomWidth + 2) (c .before .before .before .before .before .before .before .before .before .before .before .args .atoms .now)) (c .before .before .before .before .before .before .before .before .before .before .before .pre .0 .variables (c .before .before .before .before .before .before .before .before .loop .j) (c .before .before .before .before .before .before .before .loop-test .taken))) .short, c .before .before .before .before .before .before .before .before .before .before .before .pre .1, c .before .before .before .before .before .before .before .before .loop .inv .0, c .before .before .before .ranks .kept .1 .1 .0)))  -- slice-aggregate-written
+    (λ c κs. (omega (arith, c .before .before .before .before .before .before .before .before .before .before .before .pre .0 .few, c .before .before .before .before .before .before .before .loop-test .taken), first-few (c .before .before .before .ranks .result) (c .before .before .before .ranks .last .1 .1 .0) (omega (arith, c .before .before .before .ranks .ensures .0, (as-part KeyVariables (c .before .before .before .before .before .before .before .before .loop .j * atomWidth + 2) (getD (c .before .before .before .before .before .before .before .before .before .before .before .args .atoms .now) (c .before .before .before .before .before .before .before .before .loop .j * atomWidth + 1) 0) (drop (c .before .before .before .before .before .before .before .before .loop .j * atomWidth + 2) (c .before .before .before .before .before .before .before .before .before .before .before .args .atoms .now)) (c .before .before .before .before .before .before .before .before .before .before .before .pre .0 .variables (c .before .before .before .before .before .before .before .before .loop .j) (c .before .before .before .before .before .before .before .loop-test .taken))) .short))))  -- written-requires
     (λ c. omega (arith, c .before .before .before .before .before .before .before .before .before .before .before .before .pre .0 .few, c .before .before .before .before .before .before .before .before .before .before .before .before .pre .0 .long, c .before .before .before .before .before .before .before .before .loop-test .taken, c .before .before .before .before .before .before .before .before .before .before .before .before .pre .0 .arity (c .before .before .before .before .before .before .before .before .before .loop .j) (c .before .before .before .before .before .before .before .before .loop-test .taken)))  -- add-mark
     (λ c. omega (arith, c .before .before .before .before .before .before .before .before .before .before .before .before .pre .0 .few, c .before .before .before .before .before .before .before .before .before .before .before .before .pre .0 .long, c .before .before .before .before .before .before .before .before .loop-test .taken, c .before .before .before .before .before .before .before .before .before .before .before .before .pre .0 .arity (c .before .before .before .before .before .before .before .before .before .loop .j) (c .before .before .before .before .before .before .before .before .loop-test .taken)))  -- sub-mark
     (λ c. omega (arith, c .before .before .before .before .before .before .before .before .before .before .before .before .pre .0 .few, c .before .before .before .before .before .before .before .before .before .before .before .before .pre .0 .long, c .before .before .before .before .before .before .before .before .loop-test .taken, c .before .before .before .before .before .before .before .before .before .before .before .before .pre .0 .arity (c .before .before .before .before .before .before .before .before .before .loop .j) (c .before .before .before .before .before .before .before .before .loop-test .taken)))  -- part-mark-start
     (λ c. omega (arith, c .before .before .before .before .before .before .before .before .before .before .before .before .pre .0 .few, c .before .before .before .before .before .before .before .before .before .before .before .before .pre .0 .long, c .before .before .before .before .before .before .before .before .loop-test .taken, c .before .before .before .before .before .before .before .before .before .before .before .before .pre .0 .arity (c .before .before .before .before .before .before .before .before .before .loop .j) (c .before .before .before .before .before .before .before .before .loop-test .taken)))  -- part-mark-end
-    (λ c κs. (as-part Variables8 (c .before .before .before .before .before .before .before .before .before .before .loop .j * 10 + 2) (getD (c .before .before .before .before .before .before .before .before .before .before .before .before .before .args .atoms .now) (c .before .before .before .before .before .before .before .before .before .before .loop .j * 10 + 1) 0) (drop (c .before .before .before .before .before .before .before .before .before .before .loop .j * 10 + 2) (c .before .before .before .before .before .before .before .before .before .before .before .before .before .args .atoms .now)) (c .before .before .before .before .before .before .before .before .before .before .before .before .before .pre .0 .variables (c .before .before .before .before .before .before .before .before .before .before .loop .j) (c .before .before .before .before .before .before .before .before .before .loop-test .taken))) .below)  -- mark-requires
+    (λ c κs. (as-part KeyVariables (c .before .before .before .before .before .before .before .before .before .before .loop .j * atomWidth + 2) (getD (c .before .before .before .before .before .before .before .before .before .before .before .before .before .args .atoms .now) (c .before .before .before .before .before .before .before .before .before .before .loop .j * atomWidth + 1) 0) (drop (c .before .before .before .before .before .before .before .before .before .before .loop .j * atomWidth + 2) (c .before .before .before .before .before .before .before .before .before .before .before .before .before .args .atoms .now)) (c .before .before .before .before .before .before .before .before .before .before .before .before .before .pre .0 .variables (c .before .before .before .before .before .before .before .before .before .before .loop .j) (c .before .before .before .before .before .before .before .before .before .loop-test .taken))) .below)  -- mark-requires
     (λ c. omega (arith, c .before .before .before .before .before .before .before .before .before .before .before .before .before .before .pre .0 .few, c .before .before .before .before .before .before .before .before .before .before .before .before .before .before .pre .0 .long, c .before .before .before .before .before .before .before .before .before .before .loop-test .taken, c .before .before .before .before .before .before .before .before .before .before .before .before .before .before .pre .0 .arity (c .before .before .before .before .before .before .before .before .before .before .before .loop .j) (c .before .before .before .before .before .before .before .before .before .before .loop-test .taken)))  -- add-j
     (λ c. omega (arith, c .before .before .before .before .before .before .before .before .before .before .before .before .before .before .pre .0 .few, c .before .before .before .before .before .before .before .before .before .before .before .before .before .before .pre .0 .long, c .before .before .before .before .before .before .before .before .before .before .loop-test .taken, c .before .before .before .before .before .before .before .before .before .before .before .before .before .before .pre .0 .arity (c .before .before .before .before .before .before .before .before .before .before .before .loop .j) (c .before .before .before .before .before .before .before .before .before .before .loop-test .taken)))  -- loop-less
     (λ c. (c .before .before .before .before .before .before .ranks .kept .1 .1 .0 ∙ c .before .before .before .before .before .before .before .before .before .before .before .loop .inv .0, ordering-again (c .before .before .before .before .before .before .before .before .before .before .before .loop .inv .1) (c .before .before .before .before .before .before .before .before .before .before .loop-test .taken) (c .before .before .before .before .before .before .before .before .before .before .before .before .before .before .pre .0) _ _ refl refl _ _ (c .before .before .before .before .before .before .ranks .ensures) (c .before .before .written .ensures) (omega arith)))  -- loop-again

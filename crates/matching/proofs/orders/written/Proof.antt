@@ -5,6 +5,7 @@ use native.Mathlib.Omega.{arith}
 use Prim.Native.Nat.{_+_, _*_, _-_}
 use Rattle.matching.proofs.Order.{Writing, writing-start, writing-again, writing-done}
 use Rattle.matching.proofs.orders.written.Statement.{statement}
+use Rattle.meaning.specs.Limits.{atomWidth}
 use Rattle.matching.proofs.orders.written.Tie as tie
 
 abbrev Inv-loop : tie.InvT-loop
@@ -33,5 +34,5 @@ written-spec =
     (λ c. omega (arith, c .before .before .before .pre .0, c .before .before .before .pre .1, c .before .loop-test .taken))  -- array-write-next-2
     (λ c. search needs)  -- add-i
     (λ c. search needs)  -- loop-less
-    (λ c. writing-again (c .before .before .loop .inv) (c .before .loop-test .taken) (c .before .before .before .pre .0) (c .before .before .before .pre .1) (omega (arith, length-set (c .before .before .before .args .orders) (c .before .before .before .args .j * 10 + 1) (length (c .before .before .before .args .set .now)))))  -- loop-again
+    (λ c. writing-again (c .before .before .loop .inv) (c .before .loop-test .taken) (c .before .before .before .pre .0) (c .before .before .before .pre .1) (omega (arith, length-set (c .before .before .before .args .orders) (c .before .before .before .args .j * atomWidth + 1) (length (c .before .before .before .args .set .now)))))  -- loop-again
     (λ c. writing-done (c .before .loop .inv) (c .loop-test .left) (c .before .before .pre .0) (omega arith)))  -- returns

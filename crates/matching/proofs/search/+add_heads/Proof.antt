@@ -1,12 +1,12 @@
 use borrow.Author.Needs.{needs}
-use lib.ListN.{length, getD, drop, length-take}
+use lib.ListN.{getD, drop, length-take}
 use mathlib.Core.Logic.{⊎-elim, inl, inr}
 use mathlib.Core.Path.{_≡_, refl}
 use mir.Facts.{fits-widen}
 use native.Mathlib.Omega.{arith}
 use Prim.Native.Nat.{ℕ, _<_, _+_, _*_, _-_}
 use Rattle.meaning.specs.Ordered.{InOrder}
-use Rattle.matching.specs.Plan.{variablesAt, candidatesAt, Variables8, SpanOf}
+use Rattle.matching.specs.Plan.{variablesAt, candidatesAt, KeyVariables, SpanOf}
 use Rattle.matching.proofs.Columns.{Columns, columns-start, columns-differ, columns-again}
 use Rattle.matching.proofs.Grown.{grown-by}
 use Rattle.matching.proofs.Rows.{own-length, own-at, own-small, row-small, span-counted, all-bound, leaf-iff, settled-same, Trying, trying-start, trying-done, trying-skip, trying-more, trying-over, reaches-next, as-part, span-parts}
@@ -20,6 +20,7 @@ use Rattle.matching.proofs.keys.settled.Reads as settled-reads
 use Rattle.matching.proofs.spans.rows_left.Reads as rows-left-reads
 use Rattle.matching.proofs.search.+add_heads.{statement}
 use Rattle.matching.proofs.search.+add_heads.Tie.{close}
+use Rattle.meaning.specs.Limits.{atomWidth, maxRows}
 
 abbrev μ-add-heads : Measures 4 add-heads-kinds.ps ℕ
 μ-add-heads κs a = a .1 .0 - a .1 .1 .1 .1 .1 .0
@@ -33,7 +34,7 @@ add-heads-below t =
 
 abbrev add-heads-Inv-loop : add-heads-lts.InvT-loop
 add-heads-Inv-loop atoms atom-count vars cands at env keys n counts arity own first count from to m r₀ rest₀ next₀ c₀ r rest next c =
-    (r ≡ r₀) × (r < to) × Columns (variablesAt atoms at) env (getD cands (at * 1024 + r) 0) c rest next
+    (r ≡ r₀) × (r < to) × Columns (variablesAt atoms at) env (getD cands (at * maxRows + r) 0) c rest next
 
 abbrev add-heads-μ-loop : add-heads-lts.MeasureT-loop
 add-heads-μ-loop atoms atom-count vars cands at env keys n counts arity own first count from to m r₀ rest₀ next₀ c₀ r rest next c =
@@ -91,8 +92,8 @@ pub +add-heads-spec : {M : Type 1} → statement M
     (λ c. let l : c .before .before .before .before .before .before .before .before .before .before .args .at < c .before .before .before .before .before .before .before .before .before .before .args .atom-count = omega (arith, c .before .before .before .before .before .before .before .before .before .before .pre .1 .1, c .before .before .before .before .before .if1 .left) in omega (arith, c .before .before .before .before .before .before .before .before .before .before .pre .1 .0 .few, c .before .before .before .before .before .before .before .before .before .before .pre .1 .1, c .before .before .before .before .before .before .before .before .before .before .pre .1 .0 .counted (c .before .before .before .before .before .before .before .before .before .before .args .at) l))  -- add-heads-sub-rows-left-2
     (λ c. omega arith)  -- add-heads-part-rows-left-start-2
     (λ c. let l : c .before .before .before .before .before .before .before .before .before .before .args .at < c .before .before .before .before .before .before .before .before .before .before .args .atom-count = omega (arith, c .before .before .before .before .before .before .before .before .before .before .pre .1 .1, c .before .before .before .before .before .if1 .left) in omega (arith, c .before .before .before .before .before .before .before .before .before .before .pre .1 .0 .few, c .before .before .before .before .before .before .before .before .before .before .pre .1 .1, c .before .before .before .before .before .if1 .left, c .before .before .before .before .before .before .before .before .before .before .pre .1 .0 .room, c .before .before .before .before .before .before .before .before .before .before .pre .1 .0 .counted (c .before .before .before .before .before .before .before .before .before .before .args .at) l))  -- add-heads-part-rows-left-end-2
-    (λ c κs. let l : c .before .before .before .before .before .before .before .before .before .before .before .args .at < c .before .before .before .before .before .before .before .before .before .before .before .args .atom-count = omega (arith, c .before .before .before .before .before .before .before .before .before .before .before .pre .1 .1, c .before .before .before .before .before .before .if1 .left) in let s = c .before .before .before .before .before .before .before .before .before .before .before .args in (as-part Variables8 (s .at * 10 + 2) (getD (s .atoms .now) (s .at * 10 + 1) 0) (drop (s .at * 10 + 2) (s .atoms .now)) (c .before .before .before .before .before .before .before .before .before .before .before .pre .1 .0 .variables _ l), c .before .before .before .before .before .before .before .before .before .before .before .pre .1 .2, as-part (InOrder _<_) (s .at * 1024) (getD (s .t5) (s .at) 0) (drop (s .at * 1024) (s .cands .now)) (c .before .before .before .before .before .before .before .before .before .before .before .pre .1 .0 .ascending _ l)))  -- add-heads-rows-left-requires
-    (λ c. let l : c .before .before .before .before .before .before .before .before .before .before .before .before .args .at < c .before .before .before .before .before .before .before .before .before .before .before .before .args .atom-count = omega (arith, c .before .before .before .before .before .before .before .before .before .before .before .before .pre .1 .1, c .before .before .before .before .before .before .before .if1 .left) in let s = c .before .before .before .before .before .before .before .before .before .before .before .before .args in let w = span-parts (c .rows-left .result) (s .at * 10 + 2) (getD (s .atoms .now) (s .at * 10 + 1) 0) (s .at * 1024) (getD (s .t5) (s .at) 0) (drop (s .at * 10 + 2) (s .atoms .now)) (s .env) (drop (s .at * 1024) (s .cands .now)) (c .rows-left .ensures) in (w, trying-start (c .before .before .before .before .before .before .before .before .before .before .before .before .pre .1 .0) l _ _ (c .before .before .before .before .before .before .before .before .before .before .before .before .pre .1 .4) (c .before .before .before .before .before .before .before .before .before .before .before .before .pre .1 .5) w))  -- add-heads-rows-holds
+    (λ c κs. let l : c .before .before .before .before .before .before .before .before .before .before .before .args .at < c .before .before .before .before .before .before .before .before .before .before .before .args .atom-count = omega (arith, c .before .before .before .before .before .before .before .before .before .before .before .pre .1 .1, c .before .before .before .before .before .before .if1 .left) in let s = c .before .before .before .before .before .before .before .before .before .before .before .args in (as-part KeyVariables (s .at * atomWidth + 2) (getD (s .atoms .now) (s .at * atomWidth + 1) 0) (drop (s .at * atomWidth + 2) (s .atoms .now)) (c .before .before .before .before .before .before .before .before .before .before .before .pre .1 .0 .variables _ l), c .before .before .before .before .before .before .before .before .before .before .before .pre .1 .2, as-part (InOrder _<_) (s .at * maxRows) (getD (s .t5) (s .at) 0) (drop (s .at * maxRows) (s .cands .now)) (c .before .before .before .before .before .before .before .before .before .before .before .pre .1 .0 .ascending _ l)))  -- add-heads-rows-left-requires
+    (λ c. let l : c .before .before .before .before .before .before .before .before .before .before .before .before .args .at < c .before .before .before .before .before .before .before .before .before .before .before .before .args .atom-count = omega (arith, c .before .before .before .before .before .before .before .before .before .before .before .before .pre .1 .1, c .before .before .before .before .before .before .before .if1 .left) in let s = c .before .before .before .before .before .before .before .before .before .before .before .before .args in let w = span-parts (c .rows-left .result) (s .at * atomWidth + 2) (getD (s .atoms .now) (s .at * atomWidth + 1) 0) (s .at * maxRows) (getD (s .t5) (s .at) 0) (drop (s .at * atomWidth + 2) (s .atoms .now)) (s .env) (drop (s .at * maxRows) (s .cands .now)) (c .rows-left .ensures) in (w, trying-start (c .before .before .before .before .before .before .before .before .before .before .before .before .pre .1 .0) l _ _ (c .before .before .before .before .before .before .before .before .before .before .before .before .pre .1 .4) (c .before .before .before .before .before .before .before .before .before .before .before .before .pre .1 .5) w))  -- add-heads-rows-holds
     (λ c. let l : c .before .before .before .before .before .before .before .before .before .before .before .before .before .before .args .at < c .before .before .before .before .before .before .before .before .before .before .before .before .before .before .args .atom-count = omega (arith, c .before .before .before .before .before .before .before .before .before .before .before .before .before .before .pre .1 .1, c .before .before .before .before .before .before .before .before .before .if1 .left) in omega (arith, c .before .before .before .before .before .before .before .before .before .before .before .before .before .before .pre .1 .0 .few, c .before .before .before .before .before .before .before .before .before .before .before .before .before .before .pre .1 .1, c .before .before .before .before .before .before .before .before .before .before .before .before .before .before .pre .1 .0 .counted (c .before .before .before .before .before .before .before .before .before .before .before .before .before .before .args .at) l, (span-counted (c .before .before .before .before .before .before .before .before .before .before .before .before .before .before .pre .1 .0) l (c .before .rows .inv .0) (c .rows-test .taken))))  -- add-heads-add-rest
     (λ c. let l : c .before .before .before .before .before .before .before .before .before .before .before .before .before .before .args .at < c .before .before .before .before .before .before .before .before .before .before .before .before .before .before .args .atom-count = omega (arith, c .before .before .before .before .before .before .before .before .before .before .before .before .before .before .pre .1 .1, c .before .before .before .before .before .before .before .before .before .if1 .left) in omega (arith, c .before .before .before .before .before .before .before .before .before .before .before .before .before .before .pre .1 .0 .few, c .before .before .before .before .before .before .before .before .before .before .before .before .before .before .pre .1 .1, c .before .before .before .before .before .before .before .before .before .before .before .before .before .before .pre .1 .0 .counted (c .before .before .before .before .before .before .before .before .before .before .before .before .before .before .args .at) l, (span-counted (c .before .before .before .before .before .before .before .before .before .before .before .before .before .before .pre .1 .0) l (c .before .rows .inv .0) (c .rows-test .taken))))  -- add-heads-mul-rest
     (λ c. let l : c .before .before .before .before .before .before .before .before .before .before .before .before .before .before .before .args .at < c .before .before .before .before .before .before .before .before .before .before .before .before .before .before .before .args .atom-count = omega (arith, c .before .before .before .before .before .before .before .before .before .before .before .before .before .before .before .pre .1 .1, c .before .before .before .before .before .before .before .before .before .before .if1 .left) in omega (arith, c .before .before .before .before .before .before .before .before .before .before .before .before .before .before .before .pre .1 .0 .few, c .before .before .before .before .before .before .before .before .before .before .before .before .before .before .before .pre .1 .1, c .before .before .before .before .before .before .before .before .before .before .if1 .left, c .before .before .before .before .before .before .before .before .before .before .before .before .before .before .before .pre .1 .0 .room, c .before .before .before .before .before .before .before .before .before .before .before .before .before .before .before .pre .1 .0 .counted (c .before .before .before .before .before .before .before .before .before .before .before .before .before .before .before .args .at) l, (span-counted (c .before .before .before .before .before .before .before .before .before .before .before .before .before .before .before .pre .1 .0) l (c .before .before .rows .inv .0) (c .before .rows-test .taken))))  -- add-heads-shared-slice-read-rest

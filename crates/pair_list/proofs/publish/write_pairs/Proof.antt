@@ -1,8 +1,8 @@
 -- `pair_list::publish::write_pairs` meets its contract: in its loop, the pairs before are written. Assumes nothing.
 use borrow.Author.Needs.{needs}
-use lib.ListN.{getD, length-set}
+use lib.ListN.{length-set}
 use native.Mathlib.Omega.{arith}
-use Prim.Native.Nat.{_-_, _*_, _/_, _≤_}
+use Prim.Native.Nat.{_-_, _*_, _≤_}
 use Rattle.pair_list.proofs.Publishing.{Publishing, published, publishing-again, publishing-start, small-at}
 use Rattle.pair_list.proofs.publish.write_pairs.Statement.{statement}
 use Rattle.pair_list.proofs.publish.write_pairs.Tie as tie
@@ -22,17 +22,17 @@ write-pairs-spec =
     (λ c. (search needs, publishing-start))  -- loop-holds
     (λ c. search needs)  -- mul-x
     (λ c. search needs)  -- shared-slice-read-x
-    (λ c. let p = c .before .before .before .pre in let s = small-at _ _ _ (p .2) (p .0) (c .before .loop-test .taken) in omega arith)  -- cast-pairs
+    (λ c κs. small-at _ _ _ (c .before .before .before .before .before .pre .2) (c .before .before .before .before .before .pre .0) (c .before .loop-test .taken))  -- pair-from-requires
     (λ c. search needs)  -- mul-pairs
     (λ c. search needs)  -- mul-pairs-2
-    (λ c. let p = c .before .before .before .pre in omega (arith, p .1, c .before .loop-test .taken, c .before .before .loop .inv .1 .long))  -- slice-write-pairs
-    (λ c. search needs)  -- cast-pairs-2
+    (λ c. omega (arith, c .before .before .before .before .before .before .pre .1, c .before .before .loop-test .taken, c .before .before .before .loop .inv .1 .long))  -- slice-write-pairs
+    (λ c κs. search needs)  -- pair-to-requires
     (λ c. search needs)  -- mul-pairs-3
     (λ c. search needs)  -- add-pairs
     (λ c. search needs)  -- mul-pairs-4
-    (λ c. let p = c .before .before .before .pre in let l = c .before .before .loop in omega (arith, p .1, c .before .loop-test .taken, l .inv .1 .long, length-set (l .pairs) (2 * l .i) (getD (c .before .before .before .args .found .now) (l .i) 0 / 1024)))  -- slice-write-pairs-2
+    (λ c. omega (arith, c .before .before .before .before .before .before .before .pre .1, c .before .before .before .loop-test .taken, c .before .before .before .before .loop .inv .1 .long, length-set (c .before .before .before .before .loop .pairs) (2 * c .before .before .before .before .loop .i) (c .before .pair-from .result)))  -- slice-write-pairs-2
     (λ c. search needs)  -- add-i
     (λ c. search needs)  -- loop-less
-    (λ c. let p = c .before .before .before .pre in (search needs, publishing-again (p .0) (p .1) (c .before .loop-test .taken) (c .before .before .loop .inv .1)))  -- loop-again
+    (λ c. (search needs, publishing-again (c .before .before .before .before .before .before .before .pre .0) (c .before .before .before .before .before .before .before .pre .1) (c .before .before .before .loop-test .taken) (c .before .before .before .before .loop .inv .1) (c .before .pair-from .ensures) (c .pair-to .ensures)))  -- loop-again
     (λ c. c .before .loop .inv .1 .long)  -- same-length
-    (λ c. published {k = c .before .before .args .k} (omega (arith, c .loop-test .left, c .before .loop .inv .0)) (c .before .loop .inv .1)))  -- returns
+    (λ c. published {k = c .before .before .before .before .args .k} (omega (arith, c .loop-test .left, c .before .loop .inv .0)) (c .before .loop .inv .1)))  -- returns

@@ -1,13 +1,10 @@
 -- `query::leaves::read_label` meets its contract. Assumes nothing.
 use borrow.Author.Needs.{needs}
-use mathlib.Core.Path.{_≡_, refl, sym, _∙_}
+use mathlib.Core.Path.{sym, _∙_}
 use mathlib.Core.Logic.{⊎-elim, inl, inr}
-use Prim.Native.Nat.{ℕ, _≤_, _<_}
+use Prim.Native.Nat.{_<_}
 use native.Mathlib.Omega.{arith}
-use lib.ListN.{length, drop, getD}
-use Rattle.grammar.specs.Parse.{run}
-use Rattle.query.specs.Reading.{class}
-use Rattle.grammar.proofs.Bytes.{run-le}
+use lib.ListN.{length}
 use Rattle.grammar.proofs.Bytes.{getD-within}
 use Rattle.query.proofs.LeafLaws.{Kind, label-refused, label-stored}
 use Rattle.query.proofs.leaves.read_label.Statement.{statement}

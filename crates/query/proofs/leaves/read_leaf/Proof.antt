@@ -1,14 +1,14 @@
 -- `query::leaves::read_leaf` meets its contract: it passes on what the byte chooses. Assumes nothing.
-use mathlib.Core.Path.{_≡_, sym, _∙_}
-use Prim.Native.Nat.{ℕ, _<_, _+_}
+use mathlib.Core.Path.{sym, _∙_}
+use Prim.Native.Nat.{_+_}
 use native.Mathlib.Omega.{arith}
 use lib.Dec.{lit<}
-use lib.ListN.{length, drop}
-use Rattle.meaning.specs.Query.{anyStep}
-use Rattle.query.specs.Tree.{h-any}
-use Rattle.grammar.specs.Parse.{leaf, name}
-use Rattle.query.specs.Reading.{labelled}
+use lib.ListN.{drop}
 use Rattle.grammar.proofs.Bytes.{getD-within}
+use Rattle.grammar.specs.Parse.{leaf, name}
+use Rattle.meaning.specs.Query.{anyStep}
+use Rattle.query.specs.Reading.{labelled}
+use Rattle.query.specs.Tree.{h-any}
 use Rattle.query.proofs.LeafLaws.{reread, store, leaf-iri, leaf-literal, leaf-any, leaf-name}
 use borrow.Author.Needs.{needs}
 use Rattle.query.proofs.leaves.read_leaf.Statement.{statement}

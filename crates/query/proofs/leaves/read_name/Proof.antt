@@ -1,6 +1,6 @@
 -- `query::leaves::read_name` meets its contract. Assumes nothing.
 use borrow.Author.Needs.{needs}
-use Prim.Native.Nat.{ℕ, _≤_}
+use Prim.Native.Nat.{_≤_}
 use native.Mathlib.Omega.{arith}
 use lib.ListN.{length, length-drop, drop}
 use Rattle.grammar.proofs.Bytes.{run-le}

@@ -7,33 +7,33 @@ use lib.Dec.{lit<}
 use lib.ListN.{length, length-set, length-drop, drop}
 use mathlib.Core.Path.{_≡_, refl, sym, _∙_}
 use native.Mathlib.Omega.{arith}
-use Prim.Native.Nat.{_+_, _-_, _*_}
+use Prim.Native.Nat.{_+_, _-_, _*_, _<_}
+use Rattle.grammar.proofs.Bytes.{getD-within, run-le}
 use Rattle.meaning.specs.Query.{nested}
 use Rattle.query.specs.Reading.{class}
 use Rattle.query.specs.Tree.{h-sequence, h-union}
-use Rattle.grammar.proofs.Bytes.{getD-within, run-le}
 use Rattle.query.proofs.PartLaws.{is-stored, since, Sequences, Steps, union-refused, union-start, sequence-refused, sequence-start, partly-refused, partly-more, partly-done, step-refused, step-read, no-round, no-square, stay-read, leaf-read, inside-refused, not-closed, group-read, test-read, atom-round, atom-square}
 use Prim.Native.Nat.{ℕ, _<_}
 use borrow.Fn.Kinds.{In}
 use borrow.Fn.PlainCycle.{Measures, is, falls, and}
-use Rattle.query.proofs.readers.read_atom.Reads as read-atom
-use Rattle.query.proofs.readers.read_atom.Kinds as read-atom-kinds
-use Rattle.query.proofs.readers.+read_atom+read_sequence+read_step+read_union.Lts-read_atom as read-atom-lts
-use Rattle.query.proofs.readers.read_sequence.Reads as read-sequence
-use Rattle.query.proofs.readers.read_sequence.Kinds as read-sequence-kinds
-use Rattle.query.proofs.readers.+read_atom+read_sequence+read_step+read_union.Lts-read_sequence as read-sequence-lts
-use Rattle.query.proofs.readers.read_step.Reads as read-step
-use Rattle.query.proofs.readers.read_step.Kinds as read-step-kinds
-use Rattle.query.proofs.readers.+read_atom+read_sequence+read_step+read_union.Lts-read_step as read-step-lts
-use Rattle.query.proofs.readers.read_union.Reads as read-union
-use Rattle.query.proofs.readers.read_union.Kinds as read-union-kinds
-use Rattle.query.proofs.readers.+read_atom+read_sequence+read_step+read_union.Lts-read_union as read-union-lts
-use Rattle.query.proofs.leaves.pack.Reads as pack-reads
 use Rattle.query.proofs.leaves.put_stars.Reads as put-stars-reads
 use Rattle.query.proofs.leaves.read_leaf.Reads as read-leaf-reads
+use Rattle.query.proofs.parts.pack.Reads as pack-reads
+use Rattle.query.proofs.readers.+read_atom+read_sequence+read_step+read_union.{statement}
+use Rattle.query.proofs.readers.+read_atom+read_sequence+read_step+read_union.Lts-read_atom as read-atom-lts
+use Rattle.query.proofs.readers.+read_atom+read_sequence+read_step+read_union.Lts-read_sequence as read-sequence-lts
+use Rattle.query.proofs.readers.+read_atom+read_sequence+read_step+read_union.Lts-read_step as read-step-lts
+use Rattle.query.proofs.readers.+read_atom+read_sequence+read_step+read_union.Lts-read_union as read-union-lts
+use Rattle.query.proofs.readers.read_atom.Kinds as read-atom-kinds
+use Rattle.query.proofs.readers.read_atom.Reads as read-atom
+use Rattle.query.proofs.readers.read_sequence.Kinds as read-sequence-kinds
+use Rattle.query.proofs.readers.read_sequence.Reads as read-sequence
+use Rattle.query.proofs.readers.read_step.Kinds as read-step-kinds
+use Rattle.query.proofs.readers.read_step.Reads as read-step
+use Rattle.query.proofs.readers.read_union.Kinds as read-union-kinds
+use Rattle.query.proofs.readers.read_union.Reads as read-union
 use Rattle.query.proofs.scan.peek.Reads as peek-reads
 use Rattle.query.proofs.scan.run_end.Reads as run-end-reads
-use Rattle.query.proofs.readers.+read_atom+read_sequence+read_step+read_union.{statement}
 use Rattle.query.proofs.readers.+read_atom+read_sequence+read_step+read_union.Tie.{close}
 
 abbrev μ-read-atom : Measures 2 read-atom-kinds.ps ℕ

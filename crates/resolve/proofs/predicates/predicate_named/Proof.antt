@@ -2,15 +2,16 @@
 use borrow.Author.Needs.{needs}
 use native.Mathlib.Omega.{arith}
 use Prim.Native.Nat.{_-_, _≤_}
+use Rattle.meaning.specs.Limits.{maxPredicates}
 use Rattle.resolve.proofs.Names.{NotBefore, before-start, before-on, named, unnamed}
 use Rattle.resolve.proofs.predicates.predicate_named.Statement.{statement}
 use Rattle.resolve.proofs.predicates.predicate_named.Tie as tie
 
 abbrev Inv-loop : tie.InvT-loop
-Inv-loop pack text p₀ p = (p ≤ 12) × NotBefore pack text p
+Inv-loop pack text p₀ p = (p ≤ maxPredicates) × NotBefore pack text p
 
 abbrev μ-loop : tie.MeasureT-loop
-μ-loop pack text p₀ p = 12 - p
+μ-loop pack text p₀ p = maxPredicates - p
 
 pub predicate-named-spec : {M : Type 1} → statement M
 predicate-named-spec =

@@ -2,6 +2,7 @@
 use mathlib.Core.Path.{refl}
 use native.Mathlib.Omega.{arith}
 use Prim.Native.Nat.{_-_}
+use Rattle.meaning.specs.Limits.{maxHeadVariables}
 use Rattle.rules.proofs.Putting.{PutVariables, variables-start, variables-on, variables-done}
 use borrow.Author.Needs.{needs}
 use Rattle.rules.proofs.numbers.head_variables.Statement.{statement}
@@ -11,7 +12,7 @@ abbrev Inv-loop : tie.InvT-loop
 Inv-loop s kind subject object vars₀ i₀ vars i = PutVariables kind s subject object i vars₀ vars
 
 abbrev μ-loop : tie.MeasureT-loop
-μ-loop s kind subject object vars₀ i₀ vars i = 8 - i
+μ-loop s kind subject object vars₀ i₀ vars i = maxHeadVariables - i
 
 pub head-variables-spec : {M : Type 1} → statement M
 head-variables-spec =

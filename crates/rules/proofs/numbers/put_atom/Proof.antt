@@ -1,6 +1,7 @@
 -- `numbers::put_atom` meets its contract: the first i numbers are put. Assumes nothing.
 use native.Mathlib.Omega.{arith}
 use Prim.Native.Nat.{_-_}
+use Rattle.meaning.specs.Limits.{atomWidth}
 use Rattle.rules.proofs.Putting.{PutAtom, put-start, put-on, put-done}
 use borrow.Author.Needs.{needs}
 use Rattle.rules.proofs.numbers.put_atom.Statement.{statement}
@@ -10,7 +11,7 @@ abbrev Inv-loop : tie.InvT-loop
 Inv-loop s atom at out₀ i₀ out i = PutAtom s atom at i out₀ out
 
 abbrev μ-loop : tie.MeasureT-loop
-μ-loop s atom at out₀ i₀ out i = 10 - i
+μ-loop s atom at out₀ i₀ out i = atomWidth - i
 
 pub put-atom-spec : {M : Type 1} → statement M
 put-atom-spec =

@@ -1,4 +1,5 @@
 -- `Cursor::atom` meets its contract. Assumes nothing.
+use Rattle.meaning.specs.Limits.{maxColumns}
 use Rattle.pack.specs.Records.{atom, atomOf, variable}
 use Rattle.pack.proofs.Reading.{tuple-as}
 use borrow.Author.Needs.{needs}
@@ -12,4 +13,4 @@ atom-spec =
     (tie.spec
     (λ c. search needs)  -- cast-tuple
     (λ c κs. search needs)  -- tuple-requires
-    (λ c. tuple-as atomOf variable 8 (c .before .before .args .s .now) (c .before .before .args .self) (c .tuple .result) (c .tuple .ensures)))  -- returns
+    (λ c. tuple-as atomOf variable maxColumns (c .before .before .args .s .now) (c .before .before .args .self) (c .tuple .result) (c .tuple .ensures)))  -- returns

@@ -1,4 +1,5 @@
 -- `Cursor::row` meets its contract. Assumes nothing.
+use Rattle.meaning.specs.Limits.{maxColumns}
 use Rattle.pack.specs.Records.{row, rowOf, anyByte}
 use Rattle.pack.proofs.Reading.{tuple-as}
 use borrow.Author.Needs.{needs}
@@ -12,4 +13,4 @@ row-spec =
     (tie.spec
     (λ c. search needs)  -- cast-tuple
     (λ c κs. search needs)  -- tuple-requires
-    (λ c. tuple-as rowOf anyByte 8 (c .before .before .args .s .now) (c .before .before .args .self) (c .tuple .result) (c .tuple .ensures)))  -- returns
+    (λ c. tuple-as rowOf anyByte maxColumns (c .before .before .args .s .now) (c .before .before .args .self) (c .tuple .result) (c .tuple .ensures)))  -- returns

@@ -1,4 +1,5 @@
 -- `Cursor::term` meets its contract. Assumes nothing.
+use Rattle.meaning.specs.Limits.{maxArguments}
 use Rattle.pack.specs.Records.{term, termOf, variable}
 use Rattle.pack.proofs.Reading.{tuple-as}
 use borrow.Author.Needs.{needs}
@@ -12,4 +13,4 @@ term-spec =
     (tie.spec
     (λ c. search needs)  -- cast-tuple
     (λ c κs. search needs)  -- tuple-requires
-    (λ c. tuple-as termOf variable 4 (c .before .before .args .s .now) (c .before .before .args .self) (c .tuple .result) (c .tuple .ensures)))  -- returns
+    (λ c. tuple-as termOf variable maxArguments (c .before .before .args .s .now) (c .before .before .args .self) (c .tuple .result) (c .tuple .ensures)))  -- returns

@@ -1,0 +1,4 @@
+pub mod SetNumbers
+pub mod Marks
+pub mod Rounds
+pub mod Invented

@@ -1,0 +1,21 @@
+-- `invent::seed_edge` meets its contract. Assumes nothing.
+use borrow.Author.Needs.{needs}
+use Rattle.core.specs.Keys.{originAt}
+use Rattle.core_lists.proofs.Origin.{origin-none, origin-some}
+use Rattle.invent.proofs.Rounds.{edge-missing, edge-there}
+use Rattle.invent.proofs.seed_edge.Statement.{statement}
+use Rattle.invent.proofs.seed_edge.Tie as tie
+
+pub seed-edge-spec : {M : Type 1} → statement M
+seed-edge-spec =
+    tie.close
+    (tie.spec
+    (λ c. search needs)  -- mul-after
+    (λ c. search needs)  -- add-after
+    (λ c κs. search needs)  -- after-requires
+    (λ c. let s = c .before .before .before .before in let a = s .args in let m = c .before .after in  -- returns
+    (edge-there (a .shapes .now) (a .triples .now) (a .subject) (a .mask) (a .p) (origin-some (a .triples .now) (originAt (a .subject) (a .p)) (a .from) (m .result) (s .pre .3) (m .ensures) (c .if1 .taken)) (a .flags .now), m .ensures))
+    (λ c κs. search needs)  -- mark-targets-requires
+    (λ c. search needs)  -- same-length
+    (λ c. let s = c .before .before .before .before .before .before .before .before in let a = s .args in let m = c .before .before .before .before .before .after in  -- returns-2
+    (edge-missing (a .shapes .now) (a .triples .now) (a .subject) (a .mask) (a .p) (origin-none (a .triples .now) (originAt (a .subject) (a .p)) (a .from) (m .result) (s .pre .3) (m .ensures) (c .before .before .before .before .if1 .left)) (a .flags .now) _ (c .before .before .mark-targets .ensures .1), m .ensures)))

@@ -1,0 +1,23 @@
+-- `node_list::write_set` meets its contract. Assumes nothing.
+use borrow.Author.Needs.{needs}
+use Prim.Native.Nat.{_*_}
+use Rattle.node_list.proofs.SetList.{set-literal, set-other}
+use Rattle.node_list.proofs.Written.{written-as}
+use Rattle.node_list.proofs.write_set.Statement.{statement}
+use Rattle.meaning.specs.Limits.{nodeWidth}
+use Rattle.node_list.proofs.write_set.Tie as tie
+
+pub write-set-spec : {M : Type 1} → statement M
+write-set-spec =
+    tie.close
+    (tie.spec
+    (λ c. search needs)  -- mul-at
+    (λ c. search needs)  -- cast-types
+    (λ c κs. search needs)  -- write-node-requires
+    (λ c. search needs)  -- same-length
+    (λ c. let s = c .before .before .before .before .before .before .args in  -- returns
+    written-as (s .node * nodeWidth) (s .out .now) _ _ _ (c .before .before .write-node .ensures) (set-literal (s .set) (c .before .before .before .before .if1 .taken)))
+    (λ c κs. search needs)  -- write-node-requires-2
+    (λ c. search needs)  -- same-length-2
+    (λ c. let s = c .before .before .before .before .before .before .args in  -- returns-2
+    written-as (s .node * nodeWidth) (s .out .now) _ _ _ (c .before .before .write-node2 .ensures) (set-other (s .set) (c .before .before .before .before .if1 .left))))

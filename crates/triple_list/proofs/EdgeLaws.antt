@@ -1,0 +1,188 @@
+-- The edges of one subject and predicate, and the order of edges. Assumes nothing.
+use borrow.Author.Tests.{eqb-true}
+use lib.Dec.{T, eqb}
+use lib.ListN.{getD, length, length-map}
+use mathlib.Core.Bool.{Bool, true, false, cond}
+use mathlib.Core.List.{List, [], _∷_, map, Memᴰ·map as ∈-map, flatten}
+use mathlib.Core.Path.{_≡_, refl, sym, ap, subst, subst₂, _∙_}
+use native.Mathlib.Omega.{arith}
+use Prim.Native.Nat.{ℕ, _+_, _*_, _-_, _^_, _<_, _≤_}
+use Rattle.core.specs.Keys.{objectOf, originAt, originOf}
+use Rattle.invent.specs.Invent.{Upto, numberOf}
+use Rattle.node_list.specs.Records.{overwritten}
+use Rattle.triple_list.specs.Triples.{EdgeFrom, EdgesListed, Listed, SetEdge, SetsPlaced, SubjectEdge, edgeRecord, edgeRecords, gotten, present}
+use Rattle.triple_list.proofs.ListedLaws.{listed-iff, listed-none, nothing-written}
+use Rattle.invent.proofs.Marks.{only, targets-set}
+use Rattle.core_lists.proofs.Origin.{group-in, group-only, keys-all, keys-le, keys-mono, keys-next, origin-none, origin-some}
+use Rattle.invent.proofs.SetNumbers.{number-lt}
+use Rattle.core_lists.proofs.Shaped.{requires-shape}
+use Rattle.core_lists.specs.Origin.{group, HasOrigin, keysBefore}
+use Rattle.meaning.proofs.Lists.Members.{∈-map⁻¹}
+use Rattle.meaning.specs.Limits.{maxCoreTriples, maxIris, maxPredicates, maxTriples, typeSets}
+use Rattle.meaning.specs.Member.{_∈_, here, there}
+use Rattle.meaning.specs.Ordered.{InOrder, _≺_, before, empty, equal, less}
+use Rattle.meaning.specs.Pack.{Pack, requires}
+use Rattle.shapes.specs.Shapes.{SomePasses, Tabled, TargetsOf}
+
+-- ---- room: each origin has the core's edges, or one more
+
+module _ (ks : List ℕ) (s p triple at first from : ℕ) (h : p < maxPredicates) (l : triple + from ≤ first + p + at) (room : first + maxPredicates + keysBefore (originAt s maxPredicates) ks ≤ maxTriples + from) where
+  pub origin-room : triple + keysBefore (originAt s p + 1) ks + 1 ≤ maxTriples + at
+  origin-room = let m = keys-mono (originAt s p + 1) (originAt s maxPredicates) (omega arith) ks in omega arith
+
+  pub origin-number : at ≡ keysBefore (originAt s p) ks → triple ≤ maxTriples
+  origin-number e = let m = keys-mono (originAt s p) (originAt s maxPredicates) (omega arith) ks in omega arith
+
+module _ (ks : List ℕ) (few : length ks ≤ maxCoreTriples) (s triple at : ℕ) (l : triple ≤ s * maxPredicates + at) where
+  pub iri-room : s < maxIris → triple + maxPredicates + keysBefore (originAt s maxPredicates) ks ≤ maxTriples + at
+  iri-room h = let k = keys-le (originAt s maxPredicates) ks in omega arith
+
+  pub iri-end : s ≤ maxIris → at ≡ keysBefore (originAt s 0) ks → triple ≤ maxCoreTriples + maxIris * maxPredicates
+  iri-end h e = let k = keys-le (originAt s 0) ks in omega arith
+
+-- an invented subject has none of the core's
+module _ {triples flags places : List ℕ} (pl : SetsPlaced triples flags places) (j : ℕ) (p : 0 < j) (h : j < typeSets) (m : getD flags j 0 ≡ 1) where
+  pub set-at : length triples ≡ keysBefore (originAt (getD places j 0) 0) triples
+  set-at = sym (keys-all (originAt (getD places j 0) 0) triples (λ k i. let s = pl .above j k p h m i in omega arith))
+
+-- ---- order
+
+module _ {P : Pack} {triples places : List ℕ} where
+  edge-form : {s mask p : ℕ} {x : List ℕ} → EdgeFrom P triples places s mask p x → (o : ℕ) × (x ≡ s ∷ p ∷ o ∷ [])
+  edge-form (present k m e q) = (objectOf k, q)
+  edge-form (gotten j l q) = (getD places j 0, q)
+
+  pub by-predicate : {s mask p r : ℕ} → p < r → (x y : List ℕ) → EdgeFrom P triples places s mask p x → EdgeFrom P triples places s mask r y → x ≺ y
+  by-predicate h x y e f = let a = edge-form e in let b = edge-form f in subst₂ _≺_ (sym (a .1)) (sym (b .1)) (equal refl (less h))
+
+  pub by-subject : {s t m n : ℕ} → s < t → (x y : List ℕ) → SubjectEdge P triples places s m x → SubjectEdge P triples places t n y → x ≺ y
+  by-subject h x y e f = let a = edge-form (e .holds) in let b = edge-form (f .holds) in subst₂ _≺_ (sym (a .1)) (sym (b .1)) (less h)
+
+-- ---- the core's edges
+
+edges-ascend : (s p : ℕ) (ks : List ℕ) → InOrder _<_ ks → InOrder _≺_ (edgeRecords s p ks)
+unfolding group
+edges-ascend s p [] a = empty
+edges-ascend s p (k ∷ ks) (before f a) = go (eqb (originOf k) (originAt s p)) refl (edges-ascend s p ks a)
+  where
+    above : originOf k ≡ originAt s p → (y : List ℕ) → y ∈ edgeRecords s p ks → edgeRecord s p k ≺ y
+    above e y m =
+        let r = ∈-map⁻¹ (edgeRecord s p) (group (originAt s p) ks) m in
+        let g = group-only (originAt s p) ks (r .0) (r .1) in
+        let l = f (r .0) (g .0) in
+        let o = g .1 in
+        let h : objectOf k < objectOf (r .0) = omega arith in
+        subst (λ z. edgeRecord s p k ≺ z) (sym (r .2)) (equal refl (equal refl (less h)))
+
+    go : (b : Bool) → eqb (originOf k) (originAt s p) ≡ b → InOrder _≺_ (edgeRecords s p ks)
+        → InOrder _≺_ (map (edgeRecord s p) (cond b (k ∷ group (originAt s p) ks) (group (originAt s p) ks)))
+    go true e i = before (above (eqb-true (originOf k) (originAt s p) e)) i
+    go false e i = i
+
+edges-flat : (s p : ℕ) (ks : List ℕ) → length (flatten (map (edgeRecord s p) ks)) ≡ length (map (edgeRecord s p) ks) * 3
+unfolding flatten
+edges-flat s p [] = refl
+edges-flat s p (k ∷ ks) = let r = edges-flat s p ks in omega arith
+
+module _ (table : List (List ℕ)) (triples places : List ℕ) (a : InOrder _<_ triples) (s mask p from first : ℕ) (f : from ≡ keysBefore (originAt s p) triples) (out out₁ : List ℕ) (at : ℕ) (e : EdgesListed triples s p from first out out₁ at) where
+  abbrev Edge : Pack → List ℕ → Type 0
+  Edge P = EdgeFrom P triples places s mask p
+
+  passed : at ≡ keysBefore (originAt s p + 1) triples
+  passed = let c = e .count in let k = keys-next (originAt s p) triples in omega arith
+
+  -- there are some
+  pub origin-present : (at ≡ from → ⊥) → Listed table Edge first out out₁ (first + (at - from)) × (first + (at - from) + from ≤ first + 1 + at) × (at ≡ keysBefore (originAt s p + 1) triples)
+  origin-present n = (
+    record {
+      records = edgeRecords s p triples;
+      are = λ P h. record {
+        ascending = edges-ascend s p triples a;
+        members = λ x. (
+          λ m. let r = ∈-map⁻¹ (edgeRecord s p) (group (originAt s p) triples) m in let g = group-only (originAt s p) triples (r .0) (r .1) in present (r .0) (g .0) (g .1) (r .2),
+          back P x,
+        );
+      };
+      long = edges-flat s p (group (originAt s p) triples);
+      count = let c = e .count in let n = length-map (group (originAt s p) triples) (edgeRecord s p) in omega arith;
+      written = e .edges;
+    },
+    (let c = e .count in omega arith),
+    passed,
+  )
+    where
+      back : (P : Pack) (x : List ℕ) → Edge P x → x ∈ edgeRecords s p triples
+      back P x (present k m o q) = subst (λ y. y ∈ edgeRecords s p triples) (sym q) (∈-map (edgeRecord s p) (group-in (originAt s p) m o))
+      back P x (gotten j l q) = absurd (l .none (origin-some triples (originAt s p) from at f passed n))
+
+  -- there are none
+  module _ (n : at ≡ from) where
+    no-origin : ¬ HasOrigin triples (originAt s p)
+    no-origin = origin-none triples (originAt s p) from at f passed n
+
+    out-same : out₁ ≡ out
+    unfolding flatten
+    out-same = e .edges ∙ go (group (originAt s p) triples) (let c = e .count in omega arith)
+      where
+        go : (g : List ℕ) → length g ≡ 0 → overwritten (first * 3) (flatten (map (edgeRecord s p) g)) out ≡ out
+        go [] z = sym (nothing-written (first * 3) out)
+        go (x ∷ xs) z = absurd (let y : ⊥ = omega arith in y)
+
+    pub origin-free : (r : Bool) → r ≡ false → SomePasses requires table mask p r → Listed table Edge first out out₁ first × (first + from ≤ first + 1 + from) × (from ≡ keysBefore (originAt s p + 1) triples)
+    origin-free r f shown = (subst (λ o. Listed table Edge first out o first) (sym out-same) (listed-none first out none), omega arith, sym n ∙ passed)
+      where
+        none : (P : Pack) → Tabled (P .setting) table → (x : List ℕ) → ¬ Edge P x
+        none P h x (present k m o q) = no-origin (record { key = k; listed = m; is = o })
+        none P h x (gotten j l q) = subst T f (shown (P .setting) h .1 (requires-shape P mask p .1 (l .leads .needs)))
+
+    pub origin-gets : (r : Bool) → r ≡ true → SomePasses requires table mask p r → (m : ℕ) → m < 2 ^ 16 → TargetsOf table mask p m → (set : ℕ) → set ≡ numberOf m
+        → (out₂ : List ℕ) → out₂ ≡ overwritten (first * 3) (s ∷ p ∷ getD places set 0 ∷ []) out₁
+        → Listed table Edge first out out₂ (first + 1) × (first + 1 + from ≤ first + 1 + at) × (at ≡ keysBefore (originAt s p + 1) triples)
+    unfolding flatten
+    origin-gets r t shown m small ts set is out₂ w = (
+      record {
+        records = (s ∷ p ∷ getD places set 0 ∷ []) ∷ [];
+        are = λ P h. record { ascending = before {x = s ∷ p ∷ getD places set 0 ∷ []} {xs = []} (λ y i. elim i [ ]) empty; members = λ x. (forth P h x, λ q. here (back P h x q)) };
+        long = refl;
+        count = refl;
+        written = w ∙ rw out-same refl;
+      },
+      omega arith,
+      passed,
+    )
+      where
+        forth : (P : Pack) → Tabled (P .setting) table → (x : List ℕ) → x ∈ ((s ∷ p ∷ getD places set 0 ∷ []) ∷ []) → Edge P x
+        forth P h x (here q) =
+            gotten (numberOf m) (record {
+              none = no-origin;
+              leads = record {
+                small = number-lt m small;
+                needs = requires-shape P mask p .0 (shown (P .setting) h .0 (subst T (sym t) tt));
+                targets = targets-set table mask p [] r t shown m small ts P h;
+              };
+            })
+            (q ∙ ap (λ (j : ℕ). s ∷ p ∷ getD places j 0 ∷ []) is)
+        forth P h x (there i) = elim i [ ]
+
+        back : (P : Pack) → Tabled (P .setting) table → (x : List ℕ) → Edge P x → x ≡ s ∷ p ∷ getD places set 0 ∷ []
+        back P h x (present k i o q) = absurd (no-origin (record { key = k; listed = i; is = o }))
+        back P h x (gotten j l q) =
+            let n = only table mask p [] r t shown m small ts P h j (l .leads) in
+            q ∙ ap (λ (i : ℕ). s ∷ p ∷ getD places i 0 ∷ []) (n ∙ sym is)
+
+-- ---- the edges of a set
+
+module _ (table : List (List ℕ)) (triples flags places : List ℕ) (j first : ℕ) where
+  pub set-unmarked : (out : List ℕ) → (getD flags j 0 ≡ 1 → ⊥) → Listed table (λ P. SetEdge triples flags places P j) first out out first × (first ≤ first + maxPredicates)
+  set-unmarked out n = (listed-none first out (λ P h x e. n (e .marked)), omega arith)
+
+  pub set-marked : {out out′ : List ℕ} {r : ℕ} → 0 < j → getD flags j 0 ≡ 1 → Listed table (λ P. SubjectEdge P triples places (getD places j 0) j) first out out′ r
+      → Listed table (λ P. SetEdge triples flags places P j) first out out′ r
+  set-marked p m l = listed-iff (λ P x. (λ e. record { some-type = p; marked = m; edge = e }, λ (e : SetEdge triples flags places P j x). e .edge)) l
+
+  pub sets-start : (out : List ℕ) → Listed table (λ P. Upto (SetEdge triples flags places P) 1) first out out first
+  sets-start out = listed-none first out (λ P h x u. let b = u .below in let s = u .holds .some-type in omega arith)
+
+pub by-set : {triples flags places : List ℕ} → SetsPlaced triples flags places → (P : Pack) (j : ℕ) → j < typeSets → (i : ℕ) → i < j → (x y : List ℕ)
+    → SetEdge triples flags places P i x → SetEdge triples flags places P j y → x ≺ y
+by-set pl P j h i l x y e f = by-subject (pl .ascend i j (e .some-type) l h (e .marked) (f .marked)) x y (e .edge) (f .edge)

@@ -1,0 +1,5 @@
+pub mod GroupLaws
+pub mod ListedLaws
+pub mod EdgeLaws
+pub mod SetOrder
+pub mod TripleLaws

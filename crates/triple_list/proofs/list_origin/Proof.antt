@@ -1,0 +1,37 @@
+-- `triple_list::list_origin` meets its contract. Assumes nothing.
+use borrow.Author.Needs.{needs}
+use borrow.Author.Tests.{not-true, not-false}
+use native.Mathlib.Omega.{arith}
+use Rattle.core.specs.Keys.{originAt}
+use Rattle.triple_list.proofs.EdgeLaws.{origin-free, origin-gets, origin-present}
+use Rattle.core_lists.proofs.Origin.{keys-next}
+use Rattle.invent.proofs.SetNumbers.{number-lt}
+use Rattle.triple_list.proofs.list_origin.Statement.{statement}
+use Rattle.triple_list.proofs.list_origin.Tie as tie
+
+pub list-origin-spec : {M : Type 1} → statement M
+list-origin-spec =
+    tie.close
+    (tie.spec
+    (λ c κs. search needs)  -- list-edges-requires
+    (λ c. search needs)  -- sub-t16
+    (λ c. let s = c .before .before .before .before .before .before .before .before in omega (arith, s .pre .4, s .pre .5, c .before .before .before .list-edges .ensures .count, keys-next (originAt (s .args .subject) (s .args .p)) (s .args .triples .now)))  -- add-t17
+    (λ c. search needs)  -- same-length
+    (λ c. let s = c .before .before .before .before .before .before .before .before in let a = s .args in  -- returns
+    origin-present (a .shapes .now) (a .triples .now) (a .places .now) (s .pre .0) (a .subject) (a .mask) (a .p) (a .next .at) (a .next .triple) (s .pre .4) (a .out .now) _ _ (c .before .before .before .list-edges .ensures) (c .if1 .taken))
+    (λ c κs. search needs)  -- required-requires
+    (λ c. search needs)  -- same-length-2
+    (λ c. let s = c .before .before .before .before .before .before .before .before .before .before in let a = s .args in let q = c .before .required in  -- returns-2
+    origin-free (a .shapes .now) (a .triples .now) (a .places .now) (s .pre .0) (a .subject) (a .mask) (a .p) (a .next .at) (a .next .triple) (s .pre .4) (a .out .now) _ _ (c .before .before .before .before .before .list-edges .ensures) (c .before .before .if1 .left) (q .result) (not-true (q .result) (c .if2 .taken)) (q .ensures))
+    (λ c κs. search needs)  -- targets-requires
+    (λ c κs. search needs)  -- set-number-requires
+    (λ c. search needs)  -- cast-write-triple
+    (λ c. search needs)  -- cast-write-triple-2
+    (λ c. omega (arith, c .before .set-number .ensures, number-lt (c .before .before .targets .result) (omega arith)))  -- mul-write-triple
+    (λ c. omega (arith, c .before .before .set-number .ensures, number-lt (c .before .before .before .targets .result) (omega arith), c .before .before .before .before .before .before .before .before .before .before .before .before .before .before .pre .1))  -- shared-slice-read-write-triple
+    (λ c κs. let s = c .before .before .before .before .before .before .before .before .before .before .before .before .before .before in (omega (arith, s .pre .4, s .pre .5, keys-next (originAt (s .args .subject) (s .args .p)) (s .args .triples .now)), search needs))  -- write-triple-requires
+    (λ c. let s = c .before .before .before .before .before .before .before .before .before .before .before .before .before .before .before .before .before in omega (arith, s .pre .4, s .pre .5, keys-next (originAt (s .args .subject) (s .args .p)) (s .args .triples .now)))  -- add-t24
+    (λ c. search needs)  -- same-length-3
+    (λ c. let s = c .before .before .before .before .before .before .before .before .before .before .before .before .before .before .before .before .before in let a = s .args in  -- returns-3
+    let q = c .before .before .before .before .before .before .before .before .required in let t = c .before .before .before .before .before .before .targets in
+    origin-gets (a .shapes .now) (a .triples .now) (a .places .now) (s .pre .0) (a .subject) (a .mask) (a .p) (a .next .at) (a .next .triple) (s .pre .4) (a .out .now) _ _ (c .before .before .before .before .before .before .before .before .before .before .before .before .list-edges .ensures) (c .before .before .before .before .before .before .before .before .before .if1 .left) (q .result) (not-false (q .result) (c .before .before .before .before .before .before .before .if2 .left)) (q .ensures) (t .result) (omega arith) (t .ensures) _ (c .before .before .before .before .before .set-number .ensures) _ (c .before .before .write-triple .ensures)))

@@ -1,0 +1,47 @@
+-- `triple_list::list_subject` meets its contract: the predicates below p are done. Assumes nothing.
+use borrow.Author.Needs.{needs}
+use lib.ListN.{length}
+use mathlib.Core.Path.{_≡_}
+use native.Mathlib.Omega.{arith}
+use Prim.Native.Nat.{_+_, _-_, _≤_}
+use Rattle.core.specs.Keys.{originAt}
+use Rattle.invent.specs.Invent.{Upto}
+use Rattle.triple_list.specs.Triples.{EdgeFrom, Listed}
+use Rattle.triple_list.proofs.EdgeLaws.{by-predicate, origin-number, origin-room}
+use Rattle.triple_list.proofs.ListedLaws.{listed-again, listed-start}
+use Rattle.core_lists.proofs.Origin.{next-predicate}
+use Rattle.core_lists.specs.Origin.{keysBefore}
+use Rattle.triple_list.proofs.list_subject.Statement.{statement}
+use Rattle.meaning.specs.Limits.{maxPredicates}
+use Rattle.triple_list.proofs.list_subject.Tie as tie
+
+abbrev Inv-loop : tie.InvT-loop
+Inv-loop shapes triples places subject mask out₀ next₀ p₀ out next p =
+    (p ≤ maxPredicates) × (length out ≡ length out₀) × (next .triple + next₀ .at ≤ next₀ .triple + p + next .at) × (next .at ≡ keysBefore (originAt subject p) triples)
+    × Listed shapes (λ P. Upto (EdgeFrom P triples places subject mask) p) (next₀ .triple) out₀ out (next .triple)
+
+abbrev μ-loop : tie.MeasureT-loop
+μ-loop shapes triples places subject mask out₀ next₀ p₀ out next p = maxPredicates - p
+
+pub list-subject-spec : {M : Type 1} → statement M
+list-subject-spec =
+    tie.close
+    (tie.spec
+    Inv-loop
+    μ-loop
+    (λ c. let s = c .before .before .before in let a = s .args in  -- loop-holds
+    (search needs, search needs, omega arith, s .pre .3, listed-start (λ P. EdgeFrom P (a .triples .now) (a .places .now) (a .subject) (a .mask)) _ _))
+    (λ c κs. let s = c .before .before .before .before .before .before in let l = c .before .before .loop in let a = s .args in  -- list-origin-requires
+    (s .pre .0, s .pre .1, s .pre .2, omega arith, l .inv .3, origin-room (a .triples .now) (a .subject) (l .p) (l .next .triple) (l .next .at) (a .first .triple) (a .first .at) (omega arith) (l .inv .2) (s .pre .4), omega (arith, s .pre .5, l .inv .1), s .pre .6))
+    (λ c. search needs)  -- add-p
+    (λ c. search needs)  -- loop-less
+    (λ c. let s = c .before .before .before .before .before .before .before .before .before in let l = c .before .before .before .before .before .loop in let m = c .before .before .list-origin in let a = s .args in  -- loop-again
+    (
+      search needs,
+      search needs,
+      omega (arith, l .inv .2, m .ensures .1),
+      next-predicate (a .triples .now) (a .subject) (m .result .at) (l .p) (m .ensures .2),
+      listed-again (λ P. EdgeFrom P (a .triples .now) (a .places .now) (a .subject) (a .mask)) (l .inv .4) (m .ensures .0) (omega (arith, s .pre .5, origin-number (a .triples .now) (a .subject) (l .p) (l .next .triple) (l .next .at) (a .first .triple) (a .first .at) (omega arith) (l .inv .2) (s .pre .4) (l .inv .3))) (λ P k h. by-predicate h),
+    ))
+    (λ c. search needs)  -- same-length
+    (λ c. let l = c .before .loop in let e : l .p ≡ maxPredicates = omega arith in (rw e at (l .inv .4), rw e at (l .inv .2), rw e at (l .inv .3))))  -- returns

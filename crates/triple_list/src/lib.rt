@@ -1,0 +1,211 @@
+// Triple records, written into a lent slice.
+ghost use lib.ListN.{length};
+ghost use mathlib.Core.List.{[], _∷_};
+ghost use mathlib.Core.Path.{_≡_};
+ghost use Prim.Native.Nat.{_+_, _*_, _<_, _≤_};
+ghost use Rattle.core.specs.Keys.{originAt};
+ghost use Rattle.core_lists.specs.Input.{Placed};
+ghost use Rattle.core_lists.specs.Origin.{keysBefore};
+ghost use Rattle.invent.specs.Invent.{Upto};
+ghost use Rattle.node_list.specs.Records.{SetPlaces, overwritten};
+ghost use Rattle.triple_list.specs.Triples.{EdgeFrom, EdgesListed, IriEdge, Listed, SetEdge, SetsPlaced, SubjectEdge, TriplesShown};
+ghost use Rattle.meaning.specs.Limits.{maxCoreTriples, maxIris, maxNodes, maxPredicates, maxTriples, memberSets, tripleListLength, tripleWidth, typeSets};
+ghost use Rattle.meaning.specs.Ordered.{InOrder};
+ghost use Rattle.shapes.specs.Shapes.{CodesFit};
+use core_lists::PREDICATES;
+use invent::set_number;
+use meaning::FIRST_LITERAL;
+use meaning::MAX_PREDICATES;
+use meaning::PLACE_ROOM;
+use meaning::ShapeTable;
+use meaning::TRIPLE_WIDTH;
+use meaning::TYPE_SETS;
+use sets::ordered::rank;
+use shapes::required;
+use shapes::targets;
+
+// Writes a triple's three numbers at its place.
+fn write_triple(out: &mut [u16], triple: usize, subject: u16, predicate: u16, object: u16)
+    requires { ⌜ (triple < maxTriples) × (tripleListLength ≤ length (now out)) ⌝ }
+    ensures { λ _. ⌜ now (out .exit) ≡ overwritten (triple * tripleWidth) (subject ∷ predicate ∷ object ∷ []) (now (out .entry)) ⌝ }
+{
+    let at = triple * TRIPLE_WIDTH;
+    out[at] = subject;
+    out[at + 1] = predicate;
+    out[at + 2] = object;
+}
+
+// Where the next triple is written, and how far the core's triples are passed.
+pub struct Next {
+    pub triple: usize,
+    pub at: usize,
+}
+
+// Writes the core's edges of a subject and a predicate, which stand from place `from` on, from a triple number on; returns the
+// place after them.
+fn list_edges(
+    triples: &[u64],
+    subject: usize,
+    p: usize,
+    from: usize,
+    first: usize,
+    out: &mut [u16],
+) -> usize
+    requires { ⌜ InOrder _<_ (now triples) × (subject < maxNodes) × (p < maxPredicates) × (from ≡ keysBefore (originAt subject p) (now triples)) × (first + keysBefore (originAt subject p + 1) (now triples) ≤ maxTriples + from) × (tripleListLength ≤ length (now out)) ⌝ }
+    ensures { λ r. ⌜ EdgesListed (now (triples .entry)) subject p from first (now (out .entry)) (now (out .exit)) r ⌝ }
+{
+    let origin = (subject * PREDICATES + p) as u64;
+    let mut at = from;
+    while at < triples.len() {
+        let key = triples[at];
+        if key / PLACE_ROOM != origin {
+            return at;
+        }
+        write_triple(
+            out,
+            first + (at - from),
+            subject as u16,
+            p as u16,
+            (key % PLACE_ROOM) as u16,
+        );
+        at += 1;
+    }
+    at
+}
+
+// Writes the edges of a subject and a predicate: the core's, or else the one to the invented node of its p-targets.
+fn list_origin(
+    shapes: &ShapeTable,
+    triples: &[u64],
+    places: &[u16],
+    subject: usize,
+    mask: u16,
+    p: usize,
+    next: Next,
+    out: &mut [u16],
+) -> Next
+    requires { ⌜ InOrder _<_ (now triples) × (memberSets ≤ length (now places)) × (subject < maxNodes) × (p < maxPredicates) × (next .at ≡ keysBefore (originAt subject p) (now triples)) × (next .triple + keysBefore (originAt subject p + 1) (now triples) + 1 ≤ maxTriples + next .at) × (tripleListLength ≤ length (now out)) × CodesFit (now shapes) ⌝ }
+    ensures { λ r. ⌜ Listed (now (shapes .entry)) (λ P. EdgeFrom P (now (triples .entry)) (now (places .entry)) subject mask p) (next .triple) (now (out .entry)) (now (out .exit)) (r .triple) × (r .triple + next .at ≤ next .triple + 1 + r .at) × (r .at ≡ keysBefore (originAt subject p + 1) (now (triples .entry))) ⌝ }
+{
+    let first = next.triple;
+    let from = next.at;
+    let at = list_edges(triples, subject, p, from, first, out);
+    if at != from {
+        return Next {
+            triple: first + (at - from),
+            at,
+        };
+    }
+    if !required(shapes, mask, p) {
+        return next;
+    }
+    let set = set_number(targets(shapes, mask, p));
+    write_triple(out, first, subject as u16, p as u16, places[set]);
+    Next {
+        triple: first + 1,
+        at,
+    }
+}
+
+// The same for every predicate.
+fn list_subject(
+    shapes: &ShapeTable,
+    triples: &[u64],
+    places: &[u16],
+    subject: usize,
+    mask: u16,
+    first: Next,
+    out: &mut [u16],
+) -> Next
+    requires { ⌜ InOrder _<_ (now triples) × (memberSets ≤ length (now places)) × (subject < maxNodes) × (first .at ≡ keysBefore (originAt subject 0) (now triples)) × (first .triple + maxPredicates + keysBefore (originAt subject maxPredicates) (now triples) ≤ maxTriples + first .at) × (tripleListLength ≤ length (now out)) × CodesFit (now shapes) ⌝ }
+    ensures { λ r. ⌜ Listed (now (shapes .entry)) (λ P. SubjectEdge P (now (triples .entry)) (now (places .entry)) subject mask) (first .triple) (now (out .entry)) (now (out .exit)) (r .triple) × (r .triple + first .at ≤ first .triple + maxPredicates + r .at) × (r .at ≡ keysBefore (originAt subject maxPredicates) (now (triples .entry))) ⌝ }
+{
+    let mut next = first;
+    for p in 0..MAX_PREDICATES {
+        let more = list_origin(shapes, triples, places, subject, mask, p, next, out);
+        next = more;
+    }
+    next
+}
+
+// Those of every IRI: literals come after all IRIs and have no edges.
+fn list_iris(
+    shapes: &ShapeTable,
+    nodes: &[u64],
+    triples: &[u64],
+    masks: &[u16],
+    places: &[u16],
+    out: &mut [u16],
+) -> usize
+    requires { ⌜ Placed (now nodes) (now triples) (now masks) × (memberSets ≤ length (now places)) × (tripleListLength ≤ length (now out)) × CodesFit (now shapes) ⌝ }
+    ensures { λ r. ⌜ Listed (now (shapes .entry)) (IriEdge (now (nodes .entry)) (now (triples .entry)) (now (masks .entry)) (now (places .entry))) 0 (now (out .entry)) (now (out .exit)) r × (r ≤ maxCoreTriples + maxIris * maxPredicates) ⌝ }
+{
+    let iris = rank(nodes, FIRST_LITERAL);
+    let mut next = Next { triple: 0, at: 0 };
+    for s in 0..iris {
+        let more = list_subject(shapes, triples, places, s, masks[s], next, out);
+        next = more;
+    }
+    next.triple
+}
+
+// Those of a set of types, if it is marked: its node comes after all subjects of the core.
+fn list_set_edges(
+    shapes: &ShapeTable,
+    triples: &[u64],
+    flags: &[u16],
+    places: &[u16],
+    set: usize,
+    first: usize,
+    out: &mut [u16],
+) -> usize
+    requires { ⌜ SetsPlaced (now triples) (now flags) (now places) × InOrder _<_ (now triples) × (memberSets ≤ length (now flags)) × (memberSets ≤ length (now places)) × (0 < set) × (set < typeSets) × (first + maxPredicates ≤ maxTriples) × (tripleListLength ≤ length (now out)) × CodesFit (now shapes) ⌝ }
+    ensures { λ r. ⌜ Listed (now (shapes .entry)) (λ P. SetEdge (now (triples .entry)) (now (flags .entry)) (now (places .entry)) P set) first (now (out .entry)) (now (out .exit)) r × (r ≤ first + maxPredicates) ⌝ }
+{
+    if flags[set] != 1 {
+        return first;
+    }
+    let subject = places[set] as usize;
+    let from = Next {
+        triple: first,
+        at: triples.len(),
+    };
+    let next = list_subject(shapes, triples, places, subject, set as u16, from, out);
+    next.triple
+}
+
+// Those of every marked set of types: the invented literal has no edges.
+fn list_sets_edges(
+    shapes: &ShapeTable,
+    triples: &[u64],
+    flags: &[u16],
+    places: &[u16],
+    first: usize,
+    out: &mut [u16],
+) -> usize
+    requires { ⌜ SetsPlaced (now triples) (now flags) (now places) × InOrder _<_ (now triples) × (memberSets ≤ length (now flags)) × (memberSets ≤ length (now places)) × (first ≤ maxCoreTriples + maxIris * maxPredicates) × (tripleListLength ≤ length (now out)) × CodesFit (now shapes) ⌝ }
+    ensures { λ r. ⌜ Listed (now (shapes .entry)) (λ P. Upto (SetEdge (now (triples .entry)) (now (flags .entry)) (now (places .entry)) P) typeSets) first (now (out .entry)) (now (out .exit)) r × (r ≤ maxTriples) ⌝ }
+{
+    let mut next = first;
+    for j in 1..TYPE_SETS {
+        next = list_set_edges(shapes, triples, flags, places, j, next, out);
+    }
+    next
+}
+
+// Writes the records of all edges, ascending; returns how many there are.
+pub fn list_triples(
+    shapes: &ShapeTable,
+    nodes: &[u64],
+    triples: &[u64],
+    masks: &[u16],
+    flags: &[u16],
+    places: &[u16],
+    out: &mut [u16],
+) -> usize
+    requires { ⌜ Placed (now nodes) (now triples) (now masks) × SetPlaces (now flags) (length (now nodes)) (now places) × (memberSets ≤ length (now flags)) × (memberSets ≤ length (now places)) × (tripleListLength ≤ length (now out)) × CodesFit (now shapes) ⌝ }
+    ensures { λ r. ⌜ TriplesShown (now (shapes .entry)) (now (nodes .entry)) (now (triples .entry)) (now (masks .entry)) (now (flags .entry)) (now (places .entry)) (now (out .entry)) (now (out .exit)) r ⌝ }
+{
+    let next = list_iris(shapes, nodes, triples, masks, places, out);
+    list_sets_edges(shapes, triples, flags, places, next, out)
+}
