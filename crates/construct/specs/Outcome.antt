@@ -30,8 +30,6 @@ clashing subject predicate first second =
 abbrev pub counted : ℕ → ℕ → Constructed
 counted nodes triples = record { refusal = 0; nodes = nodes; triples = triples; clash = replicate clashWidth 0 }
 
--- ---- the working buffers: nine numbers a row, 1,024 heads a rule
-
 -- ---- which finite graphs obey the pack, by document 01's spelling
 
 abbrev pub SomeObeys : Pack → Type 0

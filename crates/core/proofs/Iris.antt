@@ -31,12 +31,12 @@ module _ {P : Pack} (b : Bounded P) where
       go (iriNode c vs) i e = ((c, vs), i, e)
       go (literalNode v) i e = absurd (omega (arith, literal-key v, e))
 
-  pub iris-over : (ks : List ℕ) → InOrder _<_ ks → ((k : ℕ) → k ∈ ks → NodeKey P k) → maxIris < rankOf (firstLiteral) ks → Over maxIris (CoreIri P)
+  pub iris-over : (ks : List ℕ) → InOrder _<_ ks → ((k : ℕ) → k ∈ ks → NodeKey P k) → maxIris < rankOf firstLiteral ks → Over maxIris (CoreIri P)
   iris-over ks a h l =
       over-of maxIris
-      (choose iriKey (CoreIri P) (take (rankOf (firstLiteral) ks) ks) (front-ascending (rankOf (firstLiteral) ks) a)
-      (λ k m. is-iri k (h k (take-in (rankOf (firstLiteral) ks) m)) (low-part (firstLiteral) ks k m)))
-      (omega (arith, length-take (rankOf (firstLiteral) ks) ks, rank-le (firstLiteral) ks))
+      (choose iriKey (CoreIri P) (take (rankOf firstLiteral ks) ks) (front-ascending (rankOf firstLiteral ks) a)
+      (λ k m. is-iri k (h k (take-in (rankOf firstLiteral ks) m)) (low-part firstLiteral ks k m)))
+      (omega (arith, length-take (rankOf firstLiteral ks) ks, rank-le firstLiteral ks))
 
   key-high : (k : ℕ) → NodeKey P k → k < firstLiteral + maxValues
   key-high k n = go (n .node) (n .is) (core-proper b (n .inCore))
@@ -49,15 +49,15 @@ module _ {P : Pack} (b : Bounded P) where
   pub many-over : (ks : List ℕ) → InOrder _<_ ks → ((k : ℕ) → k ∈ ks → NodeKey P k) → maxIris + maxValues < length ks → Over maxIris (CoreIri P)
   many-over ks a h l = iris-over ks a h (omega (arith, most-low firstLiteral maxValues ks a (λ k m. key-high k (h k m))))
 
-  pub iris-within : (ks : List ℕ) → ListOf _<_ (NodeKey P) ks → rankOf (firstLiteral) ks ≤ maxIris → ¬ Over maxIris (CoreIri P)
+  pub iris-within : (ks : List ℕ) → ListOf _<_ (NodeKey P) ks → rankOf firstLiteral ks ≤ maxIris → ¬ Over maxIris (CoreIri P)
   iris-within ks l h o =
-      let r = pigeonhole iriKey (o .some) (take (rankOf (firstLiteral) ks) ks) (o .differ) place one in
-      omega (arith, r, length-take (rankOf (firstLiteral) ks) ks, o .over)
+      let r = pigeonhole iriKey (o .some) (take (rankOf firstLiteral ks) ks) (o .differ) place one in
+      omega (arith, r, length-take (rankOf firstLiteral ks) ks, o .over)
     where
-      place : (t : ℕ × List ℕ) → t ∈ o .some → iriKey t ∈ take (rankOf (firstLiteral) ks) ks
+      place : (t : ℕ × List ℕ) → t ∈ o .some → iriKey t ∈ take (rankOf firstLiteral ks) ks
       place t m =
           let c = o .members t m in
-          low-in (firstLiteral) ks (iriKey t) (l .ascending) (l .members (iriKey t) .1 (record { node = iriNode (t .0) (t .1); inCore = c; is = refl }))
+          low-in firstLiteral ks (iriKey t) (l .ascending) (l .members (iriKey t) .1 (record { node = iriNode (t .0) (t .1); inCore = c; is = refl }))
           (iri-low (t .0) (t .1) (core-proper b c))
 
       one : (t u : ℕ × List ℕ) → t ∈ o .some → u ∈ o .some → iriKey t ≡ iriKey u → t ≡ u

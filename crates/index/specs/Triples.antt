@@ -26,7 +26,7 @@ pub record TripleIn (triples : List ℕ) (edges s p o : ℕ) : Type 0 where
 
 -- ---- their bounds
 
--- As many nodes and triples as there may be, and the triples join nodes.
+-- No more nodes and triples than a graph has, and the triples join nodes.
 pub record GraphFits (nodes edges : ℕ) (triples : List ℕ) : Type 0 where
   pub few-nodes : nodes ≤ maxNodes
   pub few-edges : edges ≤ maxTriples

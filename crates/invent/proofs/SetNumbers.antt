@@ -28,12 +28,12 @@ number-lt m h = omega arith
 
 pub number-set : (m : ℕ) → m < 2 ^ 16 → m % literalWeight < typeSets → setOfMask m ≡ setAt (numberOf m)
 unfolding setOfMask setAt
-number-set m h b = same-set (both-leb (literalWeight) m typeSets (numberOf m) (λ k. omega arith) (λ k. omega arith)) (omega arith)
+number-set m h b = same-set (both-leb literalWeight m typeSets (numberOf m) (λ k. omega arith) (λ k. omega arith)) (omega arith)
 
 module _ (j : ℕ) (h : j < memberSets) where
   pub mask-set : setOfMask (maskOf j) ≡ setAt j
   unfolding setOfMask setAt
-  mask-set = same-set (both-leb (literalWeight) (maskOf j) typeSets j (λ k. omega arith) (λ k. omega arith)) (omega arith)
+  mask-set = same-set (both-leb literalWeight (maskOf j) typeSets j (λ k. omega arith) (λ k. omega arith)) (omega arith)
 
 -- a set has one number
 pub number-one : (i j : ℕ) → i < memberSets → j < memberSets → setAt i ≡ setAt j → i ≡ j

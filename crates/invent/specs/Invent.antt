@@ -16,7 +16,7 @@ use Rattle.meaning.specs.Tables.{setOfMask}
 use Rattle.meaning.specs.TypeSet.{TypeSet}
 use Rattle.shapes.specs.Shapes.{Tabled}
 
--- Set number j: its types by their weights, and as many as there are sets of types more where Literal is a member.
+-- Set number j: its types by their weights, and as many more as there are sets of types where Literal is a member.
 unfoldable pub setAt : ℕ → TypeSet
 setAt j = record { literal = leb typeSets j; mask = j % typeSets }
 

@@ -28,7 +28,7 @@ const SETS: u16 = TYPE_SETS as u16;
 
 const LITERAL: usize = LITERAL_WEIGHT as usize;
 
-// The number of a mask's set: its types by their weights, and those of all types more where Literal is a member.
+// The number of a mask's set: its types by their weights, and as many more as there are sets of types where Literal is a member.
 pub fn set_number(mask: u16) -> usize
     ensures { λ r. ⌜ r ≡ numberOf mask ⌝ }
 {

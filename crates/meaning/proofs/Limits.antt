@@ -19,7 +19,7 @@ triples-30684 = refl
 pub pairs-8192 : pairListLength ≡ 8192
 pairs-8192 = refl
 
--- Places of nodes, predicates; types below Literal.
+-- Places of core nodes and predicates are below their rooms, types below Literal.
 pub places-fit : maxCoreNodes ≤ placeRoom
 places-fit = omega arith
 

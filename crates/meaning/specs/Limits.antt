@@ -1,6 +1,6 @@
 -- The limits of document 01 and the lengths that follow from them, each named once for the definitions; `src/lib.rt` has
--- the same names for code. What the document states as a number and follows from others is computed in
--- proofs/Computed/Limits.antt. Assumes nothing.
+-- the same names for code. What the document states as a number and follows from others is computed in proofs/Limits.antt.
+-- Assumes nothing.
 use Prim.Native.Nat.{ℕ, _*_, _+_, _-_, _^_}
 
 -- ---- "The pack": its size, how many records each body holds, and the bounds of their parts

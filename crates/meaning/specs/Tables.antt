@@ -12,6 +12,7 @@ use Rattle.meaning.specs.TypeSet.{TypeSet}
 
 -- ---- "Shapes form a table of 8 types by 12 predicates": target and multiplicity packed per cell
 
+-- Literal counts as a type: in a pack that is not refused, every type's number is lower.
 abbrev pub targetCode : Target → ℕ
 targetCode Literal = literalBit
 targetCode (type t) = t

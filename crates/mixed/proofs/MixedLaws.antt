@@ -50,13 +50,13 @@ found-none n k h = (λ t. absurd t, λ s. k .none (s .at) (let b = s .below in o
 
 -- ---- the core
 
-pub mixed-iri : (key mask : ℕ) → key < firstLiteral → leb (literalWeight) mask ≡ mixedNode key mask
+pub mixed-iri : (key mask : ℕ) → key < firstLiteral → leb literalWeight mask ≡ mixedNode key mask
 unfolding mixedNode
-mixed-iri key mask h = sym (rw (lt-ltb key (firstLiteral) h) refl)
+mixed-iri key mask h = sym (rw (lt-ltb key firstLiteral h) refl)
 
 pub mixed-literal : (key mask : ℕ) → firstLiteral ≤ key → not (eqb (mask % literalWeight) 0) ≡ mixedNode key mask
 unfolding mixedNode
-mixed-literal key mask h = sym (rw (le-ltb key (firstLiteral) h) refl)
+mixed-literal key mask h = sym (rw (le-ltb key firstLiteral h) refl)
 
 T-not-eq : (x : ℕ) → T (not (eqb x 0)) → 0 < x
 T-not-eq x t = go (ℕ-discrete x 0)

@@ -15,7 +15,7 @@ use Rattle.sets.proofs.Cases.{case-on}
 
 pub numbers-long : (arities : List ℕ) (key mask : ℕ) → length (coreNumbers arities key mask) ≡ nodeWidth
 unfolding coreNumbers iriNumbers literalNumbers
-numbers-long arities key mask = case-on (ltb key (firstLiteral)) (λ e. rw e refl) (λ e. rw e refl)
+numbers-long arities key mask = case-on (ltb key firstLiteral) (λ e. rw e refl) (λ e. rw e refl)
 
 -- records of w numbers each, from the first-th on: those written, and those still to come, are all
 pub record Records (w first i : ℕ) (rest all : List (List ℕ)) (out₀ out : List ℕ) : Type 0 where

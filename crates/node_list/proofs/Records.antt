@@ -64,7 +64,7 @@ module _ (P : Pack) (b : Bounded P) (arities : List ℕ) (ar : Arities P arities
   core-record (iriNode c vs) x m = record {
     types = mask % literalWeight;
     weigh = λ t. m .types (type t);
-    are = rw (lt-ltb (keyOf (iriNode c vs)) (firstLiteral) (iri-key-lt P b c vs x), ec, en) (ap (λ (l : List ℕ). 0 ∷ c ∷ (mask % literalWeight) ∷ l) args);
+    are = rw (lt-ltb (keyOf (iriNode c vs)) firstLiteral (iri-key-lt P b c vs x), ec, en) (ap (λ (l : List ℕ). 0 ∷ c ∷ (mask % literalWeight) ∷ l) args);
   }
     where
       small : Small vs
