@@ -8,6 +8,7 @@ use construct::refused;
 use meaning::HEADS_LENGTH;
 use meaning::NODE_LIST_LENGTH;
 use meaning::ROWS_LENGTH;
+use meaning::SETTING_LENGTH;
 use meaning::TRIPLE_LIST_LENGTH;
 use sets::buffers::clear_u16;
 use sets::buffers::clear_u64;
@@ -32,7 +33,9 @@ pub fn build(
     if !long_enough(&asked, &lengths) {
         return refused(1);
     }
-    let answer = construct(pack, nodes, triples, rows, heads);
+    let mut numbers = [0u16; SETTING_LENGTH];
+    let made = construct(pack, &mut numbers, nodes, triples, rows, heads);
+    let answer = made.graph;
     clear_u16(rows);
     clear_u64(heads);
     answer

@@ -8,7 +8,7 @@ use mathlib.Core.Option.{Option, none, some}
 use mathlib.Core.Path.{_≡_, refl, sym, ap, subst}
 use native.Mathlib.Omega.{arith}
 use Prim.Native.Nat.{ℕ, _≤_}
-use Rattle.access.proofs.Accepted.{WellFormed, well-formed}
+use Rattle.pack.proofs.Accepted.{WellFormed, well-formed}
 use Rattle.cases.proofs.Bounds.{is-term, not-large, not-many}
 use Rattle.cases.proofs.Run.{asked, graphOf, isTerm, listed, ofPack, onPack, onQuery, onTerm, onlyIf, refusesAs, run, shortLists, shownClash, smallCore, unless, unlessClash, withGraph}
 use Rattle.cases.specs.Says.{Call, Outcome, Says, answer, ask, ask-gives, ask-refused, build, build-gives, build-refused, check, is-fine, is-refused, read, read-gives, read-refused, refused, refuses, spell, spelled}
@@ -18,6 +18,7 @@ use Rattle.construct.specs.declared.Constructed.{Constructed}
 use Rattle.grammar.proofs.Agree.{reading}
 use Rattle.grammar.specs.Grammar.{IsQuery}
 use Rattle.grammar.specs.Parse.{expressionOf}
+use Rattle.iris.specs.Read.{iriRead}
 use Rattle.meaning.proofs.Computed.Certain.{graph-there, pairRecords, pairs-listed, walkBuilt, yes-computed-certain}
 use Rattle.meaning.proofs.Computed.Evaluate.{answersYes}
 use Rattle.meaning.proofs.Lists.Members.{both}
@@ -42,7 +43,6 @@ use Rattle.readback.proofs.Answered.{found-answer}
 use Rattle.readback.specs.Answer.{not-well-formed}
 use Rattle.spelling.proofs.CoreTerms.{plain-distinct, plain?}
 use Rattle.spelling.specs.Iri.{plain}
-use Rattle.spelling.specs.Places.{iriRead}
 use Rattle.spelling.specs.ReadBack.{readBack}
 
 -- ---- one test after another

@@ -1,9 +1,10 @@
 -- A call on a pack has one outcome: of two cases of the same call on the same pack, only one outcome is so. Assumes nothing.
+use Rattle.pack.proofs.Order.{not-both, one-number, one-pack}
 use mathlib.Core.List.{List, _∷_}
 use mathlib.Core.Path.{_≡_, refl, sym, ap, _∙_}
 use native.Mathlib.Omega.{arith}
 use Prim.Native.Nat.{ℕ}
-use Rattle.access.proofs.Accepted.{well-formed, zero-accepted}
+use Rattle.pack.proofs.Accepted.{well-formed, zero-accepted}
 use Rattle.cases.specs.Says.{Call, Outcome, Says, answer, ask-gives, ask-refused, build-gives, build-refused, graph, iri, is-fine, is-refused, read-gives, read-refused, refused, refuses, spelled, term}
 use Rattle.construct.proofs.Once.{not-given, one-records, one-refusal}
 use Rattle.meaning.proofs.Lists.Places.{inside}
@@ -12,7 +13,7 @@ use Rattle.meaning.specs.Pack.{Text}
 use Rattle.pack.proofs.Unpacking.{unpacked}
 use Rattle.pack.specs.Checked.{numberOf}
 use Rattle.pairs.proofs.Once.{one-list}
-use Rattle.readback.proofs.Once.{answers-once, not-both, one-number, one-pack}
+use Rattle.readback.proofs.Once.{answers-once}
 use Rattle.readback.specs.Answer.{Answers, iri as reads, no-iri, not-well-formed, unreadAs}
 use Rattle.readback.specs.declared.ReadBack.{ReadBack}
 use Rattle.spelling.specs.Iri.{iriOf}

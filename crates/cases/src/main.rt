@@ -2,7 +2,10 @@
 // and texts. Standard input has a case after another: two 16-bit lengths, lowest byte first, then a pack and a text. For
 // each the program writes the first refusal of the pack from 3 to 8, or 0, and what read-back answers.
 ghost use Prim.Native.Nat.{_≤_, _+_};
-use access::check::first_of_all;
+use checks::check;
+use depends::is_broken;
+use meaning::ROWS_LENGTH;
+use meaning::SETTING_LENGTH;
 use readback::read_back;
 
 // A space and a number.
@@ -11,8 +14,23 @@ fn say_number(n: u16) {
     io::print_decimal(1, n as u64);
 }
 
+// The first refusal of 3 to 8, or 0.
+fn first_refusal(pack: &[u8]) -> u8 {
+    let mut numbers = [0u16; SETTING_LENGTH];
+    let mut rows = [0u16; ROWS_LENGTH];
+    let checked = check(pack, &mut numbers, &mut rows);
+    let counts = checked.counts;
+    if checked.refusal != 0 {
+        return checked.refusal;
+    }
+    if is_broken(counts, &numbers[..], &rows[..]) {
+        return 8;
+    }
+    0
+}
+
 fn say(pack: &[u8], text: &[u8]) {
-    io::print_decimal(1, first_of_all(pack) as u64);
+    io::print_decimal(1, first_refusal(pack) as u64);
     let r = read_back(pack, text);
     if r.refusal != 0 {
         io::write_all(1, b" refused ");

@@ -22,7 +22,7 @@ use Rattle.meaning.specs.Listing.{NodesInOrder}
 use Rattle.meaning.specs.Ordered.{InOrder, _≺_, before, empty}
 use Rattle.meaning.specs.Pack.{Pack}
 use Rattle.meaning.specs.Query.{Expr}
-use Rattle.sets.proofs.Cases.{case-on}
+use Rattle.meaning.proofs.Cases.{case-on}
 
 -- what ascends is all different
 different : {xs : List (List ℕ)} → InOrder _≺_ xs → InOrder _≢_ xs

@@ -5,7 +5,7 @@ use mathlib.Core.Option.{Option, none, some}
 use mathlib.Core.Path.{_≡_, refl, sym, ap, _∙_}
 use native.Mathlib.Omega.{arith}
 use Prim.Native.Nat.{ℕ}
-use Rattle.access.proofs.Accepted.{WellFormed}
+use Rattle.pack.proofs.Accepted.{WellFormed}
 use Rattle.meaning.proofs.Theory.Theorem.{has-graph, none-obeys}
 use Rattle.meaning.specs.NoGraph.{NoGraph}
 use Rattle.meaning.specs.Pack.{Pack}

@@ -1,35 +1,42 @@
 -- From what the steps say to what a pack comes to. Assumes nothing.
-use lib.ListN.{take}
+use mathlib.Core.Bool.{false}
 use mathlib.Core.List.{List}
 use mathlib.Core.Logic.{inl, inr, ⊎-elim}
 use mathlib.Core.Path.{_≡_, refl, sym, ap, subst, _∙_}
 use native.Mathlib.Omega.{arith}
-use Prim.Native.Nat.{ℕ, _*_, _≤_}
-use Rattle.access.proofs.Accepted.{WellFormed, well-formed}
-use Rattle.access.specs.Places.{IsWellFormed}
+use Prim.Native.Nat.{ℕ}
+use Rattle.checks.specs.Checked.{Accepted, CheckedAs, SettingLoaded}
+use Rattle.checks.specs.declared.Checked.{Checked}
+use Rattle.pack.proofs.Accepted.{WellFormed, keeps-dependencies, refused-8, refused-before, well-formed}
 use Rattle.construct.proofs.Accepted.{Accepts, none-obey, some-obeys}
 use Rattle.calls.specs.Call.{gives, refuses, _becomes_}
 use Rattle.construct.specs.Outcome.{Constructs, Gives, HasGraph, counted, mixed-kinds, not-accepted, refusedAs, too-large, two-objects}
-use Rattle.construct.specs.Steps.{FromCore, FromHeads, clash, graph, large, mixed, small}
+use Rattle.construct.specs.Steps.{FromCore, FromHeads, FromRows, clash, dependency, graph, kept, large, mixed, small}
 use Rattle.construct.specs.declared.Constructed.{Constructed}
-use Rattle.meaning.specs.Limits.{maxRows, rowWidth}
 use Rattle.meaning.specs.NoGraph.{TooLarge}
 use Rattle.meaning.specs.Pack.{Pack, Text}
-use Rattle.pack.proofs.Unpacking.{unpacked}
-use Rattle.pack.specs.Checked.{Checked, accepted, firstRefusal, numberOf, refused}
-use Rattle.rows.specs.Loaded.{LoadedFrom}
-use Rattle.rules.specs.Answer.{RowsFrom}
+use Rattle.meaning.specs.WellFormed.{broken}
+use Rattle.pack.specs.Checked.{Checked as Found, accepted, firstRefusal, numberOf, refused}
+use Rattle.names.specs.Given.{ForResolved, IsResolved, Resolved}
 
--- ---- the pack is accepted, and its rows are loaded
+-- ---- the pack is well formed, and the numbers hold it
 
-pub is-formed : {s : List ℕ} → Accepts s → IsWellFormed s
-is-formed a = record { pack = a .pack; is = a .formed }
+module _ {s counts numbers rows : List ℕ} (a : Accepted s counts numbers rows) where
+  pack-formed : WellFormed s (a .pack)
+  pack-formed = well-formed s (a .pack) (a .is)
 
-pub rows-few : (s : List ℕ) (n : ℕ) (out out′ : List ℕ) → Accepts s → LoadedFrom s n out out′ → n ≤ maxRows
-rows-few s n out out′ a l = omega (arith, l (a .pack) (a .formed) .count, unpacked s (a .pack) (well-formed s (a .pack) (a .formed) .read) .rows .1)
+  resolved-of : Resolved (a .pack) counts numbers rows
+  resolved-of = record { given = a .given; resolved = pack-formed .named }
 
-pub rows-from : (s : List ℕ) (n : ℕ) (out out′ : List ℕ) → LoadedFrom s n out out′ → RowsFrom s (take (rowWidth * n) out′)
-rows-from s n out out′ l P e = l P e .held
+  pub is-resolved : IsResolved counts numbers rows
+  is-resolved = record { pack = a .pack; is = resolved-of }
+
+  setting-loaded : SettingLoaded s counts numbers
+  setting-loaded = record { pack = a .pack; is = a .is; held = a .held .setting; given = a .given .setting }
+
+  -- and it keeps its dependencies
+  abbrev keeps : broken (a .pack) ≡ false → Accepts s
+  keeps e = record { pack = a .pack; all = keeps-dependencies s (a .pack) pack-formed e; formed = a .is }
 
 -- ---- the answers
 
@@ -44,16 +51,17 @@ module _ {pack : Text} {r : Constructed} where
 
 module _ {pack : Text} {r : Constructed} {nodes nodes′ triples triples′ : List ℕ} where
   -- 3 to 8
-  pub refused-answer : (k : ℕ) → k ≡ numberOf (firstRefusal pack) → (k ≡ 0 → ⊥) → r ≡ refusedAs k → nodes′ ≡ nodes → triples′ ≡ triples → Constructs pack r (nodes becomes nodes′) (triples becomes triples′)
+  refused-answer : (k : ℕ) → k ≡ numberOf (firstRefusal pack) → (k ≡ 0 → ⊥) → r ≡ refusedAs k → nodes′ ≡ nodes → triples′ ≡ triples
+      → Constructs pack r (nodes becomes nodes′) (triples becomes triples′)
   refused-answer k e n h x y = go (firstRefusal pack) refl e
     where
-      go : (c : Checked) → firstRefusal pack ≡ c → k ≡ numberOf c → Constructs pack r (nodes becomes nodes′) (triples becomes triples′)
+      go : (c : Found) → firstRefusal pack ≡ c → k ≡ numberOf c → Constructs pack r (nodes becomes nodes′) (triples becomes triples′)
       go (refused m) w q = refuses (not-accepted m w (h ∙ ap refusedAs q)) (x, (y, tt))
       go (accepted P) w q = absurd (n q)
 
   module _ (a : Accepts pack) where
-    -- 9, by the heads of one rule
-    pub large-heads : TooLarge (a .pack) → r ≡ refusedAs 9 → nodes′ ≡ nodes → triples′ ≡ triples → Constructs pack r (nodes becomes nodes′) (triples becomes triples′)
+    -- 9
+    large-heads : TooLarge (a .pack) → r ≡ refusedAs 9 → nodes′ ≡ nodes → triples′ ≡ triples → Constructs pack r (nodes becomes nodes′) (triples becomes triples′)
     large-heads h q x y = refuses (too-large (a .pack) (a .all) h q) (x, (y, tt))
 
     -- 10, 11, or the graph
@@ -64,6 +72,23 @@ module _ {pack : Text} {r : Constructed} {nodes nodes′ triples triples′ : Li
         let o = some-obeys (formed a) (λ h. ⊎-elim (w .not-10) (w .not-11) h) in
         gives (w .fronts) (counted-graph (a .pack) k t q (record { is = a .all; small = n; obeyed = o; graph = w .graph })) (w .written)
 
-    pub heads-answer : FromHeads (a .pack) r nodes nodes′ triples triples′ → Constructs pack r (nodes becomes nodes′) (triples becomes triples′)
+    heads-answer : FromHeads (a .pack) r nodes nodes′ triples triples′ → Constructs pack r (nodes becomes nodes′) (triples becomes triples′)
     heads-answer (large h q x y) = large-heads h q x y
     heads-answer (small n c) = core-answer n c
+
+  -- 3 to 7
+  pub checked-answer : {c : Checked} {numbers rows : List ℕ} → CheckedAs pack c numbers rows → (c .refusal ≡ 0 → ⊥) → r ≡ refusedAs (c .refusal) → nodes′ ≡ nodes → triples′ ≡ triples
+      → Constructs pack r (nodes becomes nodes′) (triples becomes triples′) × (r .refusal ≡ 0 → SettingLoaded pack (c .counts) numbers)
+  checked-answer {c} k n q x y = (
+    refused-answer (c .refusal) (refused-before pack (c .refusal) (k .first) n) n q x y,
+    λ z. absurd (n (sym (ap (λ (a : Constructed). a .refusal) q) ∙ z)),
+  )
+
+  -- 8 to 11, or the graph
+  pub rows-answer : {counts numbers rows : List ℕ} → Accepted pack counts numbers rows → ForResolved counts numbers rows (λ P. FromRows P r nodes nodes′ triples triples′)
+      → Constructs pack r (nodes becomes nodes′) (triples becomes triples′) × (r .refusal ≡ 0 → SettingLoaded pack counts numbers)
+  rows-answer a f = (go (f (a .pack) (resolved-of a)), λ z. setting-loaded a)
+    where
+      go : FromRows (a .pack) r nodes nodes′ triples triples′ → Constructs pack r (nodes becomes nodes′) (triples becomes triples′)
+      go (dependency b q x y) = refused-answer 8 (refused-8 pack (a .pack) (pack-formed a) b) (λ z. omega arith) q x y
+      go (kept b h) = heads-answer (keeps a b) h

@@ -15,7 +15,7 @@ use Rattle.meaning.specs.Listing.{GraphLists}
 use Rattle.meaning.specs.NoGraph.{TooLarge, TwoObjects}
 use Rattle.meaning.specs.Pack.{Pack, Text}
 use Rattle.pack.specs.Checked.{accepted, firstRefusal}
-use Rattle.readback.proofs.Once.{not-both, one-number, one-pack}
+use Rattle.pack.proofs.Order.{not-both, one-number, one-pack}
 
 -- ---- one pack
 

@@ -1,4 +1,5 @@
--- The outcomes of the steps from a pack to its graph: from its heads, from its core. Assumes nothing.
+-- The outcomes of the steps from a pack to its graph: from its rows, from its heads, from its core. Assumes nothing.
+use mathlib.Core.Bool.{true, false}
 use mathlib.Core.List.{List}
 use mathlib.Core.Path.{_≡_}
 use Prim.Native.Nat.{ℕ}
@@ -11,9 +12,10 @@ use Rattle.node_list.specs.Records.{Arities}
 use Rattle.meaning.specs.Clash.{ClashGiven}
 use Rattle.meaning.specs.NoGraph.{MixedKinds, TooLarge, TwoObjects}
 use Rattle.meaning.specs.Pack.{Pack}
-use Rattle.pack.specs.Checked.{accepted, wellFormed}
-use Rattle.rules.specs.Answer.{HeadsFound}
-use Rattle.rules.specs.declared.heads.AllHeads.{AllHeads}
+use Rattle.meaning.specs.WellFormed.{broken, dangling}
+use Rattle.names.specs.Given.{SettingGiven}
+use Rattle.rule_heads.specs.Answer.{HeadsFound}
+use Rattle.rule_heads.specs.declared.AllHeads.{AllHeads}
 
 module _ (P : Pack) (r : Constructed) (nodes nodes′ triples triples′ : List ℕ) where
   -- 10, 11 or the graph, of a pack whose core is small
@@ -28,6 +30,11 @@ module _ (P : Pack) (r : Constructed) (nodes nodes′ triples triples′ : List 
     large : TooLarge P → r ≡ refusedAs 9 → nodes′ ≡ nodes → triples′ ≡ triples → FromHeads
     small : ¬ TooLarge P → FromCore → FromHeads
 
+  -- "8. Rows break a dependency"; or the pack "keeps its dependencies", and one of these
+  pub data FromRows : Type 0 where
+    dependency : broken P ≡ true → r ≡ refusedAs 8 → nodes′ ≡ nodes → triples′ ≡ triples → FromRows
+    kept : broken P ≡ false → FromHeads → FromRows
+
 -- The core's numbers are those of some pack; what is answered is true of each.
 pub record CoreGiven (table : List (List ℕ)) (arities nodes triples masks : List ℕ) : Type 0 where
   pub pack : Pack
@@ -37,11 +44,16 @@ pub record CoreGiven (table : List (List ℕ)) (arities nodes triples masks : Li
 abbrev pub OfCore : List (List ℕ) → List ℕ → List ℕ → List ℕ → List ℕ → (Pack → Type 0) → Type 0
 OfCore table arities nodes triples masks Q = (P : Pack) → Input P table nodes triples masks → Arities P arities → Q P
 
--- The same of the heads.
-pub record HeadsGiven (s : List ℕ) (a : AllHeads) (heads : List ℕ) : Type 0 where
-  pub pack : Pack
-  pub is : wellFormed s ≡ accepted pack
-  pub found : HeadsFound pack a heads
+-- The setting's numbers and the heads are those of this pack, of which refusal 7 is false.
+pub record HeadsOf (P : Pack) (counts numbers : List ℕ) (a : AllHeads) (heads : List ℕ) : Type 0 where
+  pub given : SettingGiven P counts numbers
+  pub resolved : dangling P ≡ false
+  pub found : HeadsFound P a heads
 
-abbrev pub OfHeads : List ℕ → AllHeads → List ℕ → (Pack → Type 0) → Type 0
-OfHeads s a heads Q = (P : Pack) → wellFormed s ≡ accepted P → HeadsFound P a heads → Q P
+-- They are those of some pack; what is answered is true of each.
+pub record HeadsGiven (counts numbers : List ℕ) (a : AllHeads) (heads : List ℕ) : Type 0 where
+  pub pack : Pack
+  pub is : HeadsOf pack counts numbers a heads
+
+abbrev pub OfHeads : List ℕ → List ℕ → AllHeads → List ℕ → (Pack → Type 0) → Type 0
+OfHeads counts numbers a heads Q = (P : Pack) → HeadsOf P counts numbers a heads → Q P

@@ -1,32 +1,32 @@
-// From a pack's bytes to its graph.
-mod arities; // the constructors' arities
-
-use crate::arities::arities;
-use access::check::first_of_all;
-use access::table::shape_table;
+// From a pack's bytes to its graph: its records are loaded as numbers and checked, and the graph is built from the numbers.
+use checks::check;
 use clash::clash_records;
 use core::Outcome;
+use depends::is_broken;
 use graph::Built;
 use graph::build;
 use meaning::Arities;
+use meaning::BODIES;
 use meaning::CANDIDATES_LENGTH;
 use meaning::CLASH_WIDTH;
 use meaning::MAX_CORE_NODES;
 use meaning::MAX_CORE_TRIPLES;
 use meaning::MEMBER_SETS;
-use meaning::ROW_WIDTH;
 use meaning::ShapeTable;
-use rows::load_rows;
-use rules::heads::AllHeads;
-use rules::heads::all_heads;
-use rules::heads::head_table;
+use rule_heads::AllHeads;
+use rule_heads::all_heads;
+use tables::arities::arities;
+use tables::heads::head_table;
+use tables::shapes::shape_table;
 ghost use lib.ListN.{length};
 ghost use mathlib.Core.Path.{_≡_};
 ghost use Prim.Native.Nat.{_≤_};
 ghost use Rattle.calls.specs.Call.{lent};
+ghost use Rattle.construct.specs.Loaded.{LoadedIf};
 ghost use Rattle.construct.specs.Outcome.{Constructs, refusedAs};
-ghost use Rattle.construct.specs.Steps.{CoreGiven, FromCore, FromHeads, HeadsGiven, OfCore, OfHeads};
-ghost use Rattle.meaning.specs.Limits.{headsLength, nodeListLength, rowsLength, tripleListLength};
+ghost use Rattle.construct.specs.Steps.{CoreGiven, FromCore, FromHeads, FromRows, HeadsGiven, OfCore, OfHeads};
+ghost use Rattle.meaning.specs.Limits.{headsLength, nodeListLength, rowsLength, settingLength, tripleListLength};
+ghost use Rattle.names.specs.Given.{ForResolved, IsResolved};
 
 // What a pack comes to: a refusal's number, with the clash of 10; or 0 and the two counts.
 pub struct Constructed {
@@ -34,6 +34,12 @@ pub struct Constructed {
     pub nodes: usize,
     pub triples: usize,
     pub clash: [u16; CLASH_WIDTH],
+}
+
+// What a pack comes to, and how many records each of its bodies has.
+pub struct PackGraph {
+    pub graph: Constructed,
+    pub counts: [usize; BODIES],
 }
 
 // A refusal other than 10.
@@ -96,26 +102,27 @@ fn from_core(
 
 // From the heads: 9, or what the core comes to.
 fn from_heads(
-    pack: &[u8],
+    counts: [usize; BODIES],
+    numbers: &[u16],
     found: AllHeads,
     heads: &[u64],
     nodes: &mut [u16],
     triples: &mut [u16],
 ) -> Constructed
-    requires { ⌜ HeadsGiven (now pack) found (now heads) × (headsLength ≤ length (now heads)) × (nodeListLength ≤ length (now nodes)) × (tripleListLength ≤ length (now triples)) ⌝ }
-    ensures { λ r. ⌜ OfHeads (now (pack .entry)) found (now (heads .entry)) (λ P. FromHeads P r (now (nodes .entry)) (now (nodes .exit)) (now (triples .entry)) (now (triples .exit))) ⌝ }
+    requires { ⌜ HeadsGiven counts (now numbers) found (now heads) × (headsLength ≤ length (now heads)) × (nodeListLength ≤ length (now nodes)) × (tripleListLength ≤ length (now triples)) ⌝ }
+    ensures { λ r. ⌜ OfHeads counts (now (numbers .entry)) found (now (heads .entry)) (λ P. FromHeads P r (now (nodes .entry)) (now (nodes .exit)) (now (triples .entry)) (now (triples .exit))) ⌝ }
 {
-    let shapes = shape_table(pack);
-    let counts = found.counts;
+    let shapes = shape_table(counts, numbers);
+    let each = found.counts;
     let mut keys = [0u64; MAX_CORE_NODES];
     let mut edges = [0u64; MAX_CORE_TRIPLES];
     let mut masks = [0u16; MAX_CORE_NODES];
     match core::core(
         shapes,
-        head_table(pack),
+        head_table(counts, numbers),
         found.count,
         heads,
-        counts,
+        each,
         &mut keys,
         &mut edges,
         &mut masks,
@@ -123,7 +130,7 @@ fn from_heads(
         Outcome::TooLarge => refused(9),
         Outcome::Held(n, t) => from_core(
             shapes,
-            arities(pack),
+            arities(counts, numbers),
             &keys[..n],
             &edges[..t],
             &masks[..],
@@ -133,26 +140,51 @@ fn from_heads(
     }
 }
 
+// From a setting's numbers and rows, which need no pack's bytes: 8 to 11, or the graph.
+pub fn from_rows(
+    counts: [usize; BODIES],
+    numbers: &[u16],
+    rows: &[u16],
+    nodes: &mut [u16],
+    triples: &mut [u16],
+    heads: &mut [u64],
+) -> Constructed
+    requires { ⌜ IsResolved counts (now numbers) (now rows) × (nodeListLength ≤ length (now nodes)) × (tripleListLength ≤ length (now triples)) × (headsLength ≤ length (now heads)) ⌝ }
+    ensures { λ r. ⌜ ForResolved counts (now (numbers .entry)) (now (rows .entry)) (λ P. FromRows P r (now (nodes .entry)) (now (nodes .exit)) (now (triples .entry)) (now (triples .exit))) ⌝ }
+{
+    if is_broken(counts, numbers, rows) {
+        return refused(8);
+    }
+    let mut work = [0u64; CANDIDATES_LENGTH];
+    let found = all_heads(counts, numbers, rows, heads, &mut work);
+    if found.too_large {
+        return refused(9);
+    }
+    from_heads(counts, numbers, found, heads, nodes, triples)
+}
+
 // The graph of any pack, written at the front of both lists; or its refusal of 3 to 11, and the lists keep their contents.
+// Where there is no refusal, the setting's numbers are left in `numbers`.
 pub fn construct(
     pack: &[u8],
+    numbers: &mut [u16],
     nodes: &mut [u16],
     triples: &mut [u16],
     rows: &mut [u16],
     heads: &mut [u64],
-) -> Constructed
-    requires { ⌜ (nodeListLength ≤ length (now nodes)) × (tripleListLength ≤ length (now triples)) × (rowsLength ≤ length (now rows)) × (headsLength ≤ length (now heads)) ⌝ }
-    ensures { λ r. ⌜ Constructs (now (pack .entry)) r (lent nodes) (lent triples) ⌝ }
+) -> PackGraph
+    requires { ⌜ (nodeListLength ≤ length (now nodes)) × (tripleListLength ≤ length (now triples)) × (rowsLength ≤ length (now rows)) × (headsLength ≤ length (now heads)) × (settingLength ≤ length (now numbers)) ⌝ }
+    ensures { λ r. ⌜ Constructs (now (pack .entry)) (r .graph) (lent nodes) (lent triples) × LoadedIf (now (pack .entry)) r (now (numbers .exit)) ⌝ }
 {
-    let refusal = first_of_all(pack);
+    let checked = check(pack, numbers, rows);
+    let refusal = checked.refusal;
+    let counts = checked.counts;
     if refusal != 0 {
-        return refused(refusal);
+        return PackGraph {
+            graph: refused(refusal),
+            counts,
+        };
     }
-    let n = load_rows(pack, rows);
-    let mut work = [0u64; CANDIDATES_LENGTH];
-    let found = all_heads(pack, &rows[..ROW_WIDTH * n], heads, &mut work);
-    if found.too_large {
-        return refused(9);
-    }
-    from_heads(pack, found, heads, nodes, triples)
+    let graph = from_rows(counts, numbers, rows, nodes, triples, heads);
+    PackGraph { graph, counts }
 }

@@ -9,7 +9,7 @@ use Rattle.core.proofs.Declared.{head-predicate}
 use Rattle.core.proofs.NodeSources.{Fine, bytes-of, fine}
 use Rattle.core.proofs.Packed.{packed-lt}
 use Rattle.core.specs.Bounds.{Bounded, HeadFits, HeadsFit, KeyFits}
-use Rattle.core.specs.Heads.{HeadsHeld, headArguments, headNumbers, keysOf}
+use Rattle.core.specs.Heads.{HeadsHeld, keysOf}
 use Rattle.meaning.proofs.Lists.Members.{element, ∈-append}
 use Rattle.meaning.proofs.Lists.Places.{inside, there-is}
 use Rattle.meaning.proofs.Model.Resolved.{headTerms, headVariables, resolved}
@@ -17,7 +17,7 @@ use Rattle.meaning.specs.Core.{Assignment, headFact}
 use Rattle.meaning.specs.Limits.{maxArguments, maxConstructors, maxHeads, maxRules, maxValues}
 use Rattle.meaning.specs.Member.{_∈_, here, there}
 use Rattle.meaning.specs.Pack.{Head, Pack, Rule, Term, hasType, linksTo, linksToValue}
-use Rattle.meaning.specs.Tables.{packed}
+use Rattle.meaning.specs.Tables.{packed, headArguments, headNumbers}
 
 -- ---- a head's numbers
 

@@ -10,7 +10,6 @@ use Rattle.core.proofs.Packed.{Bytes}
 use Rattle.core.proofs.Sources.{Source, link-object, link-subject, type-subject, value-object, value-subject}
 use Rattle.core.specs.Bounds.{Bounded}
 use Rattle.core.specs.Collected.{nodeKeys}
-use Rattle.core.specs.Heads.{headArguments, headNumbers}
 use Rattle.core.specs.Held.{NodeKey}
 use Rattle.core.specs.Keys.{keyOf}
 use Rattle.meaning.proofs.Lists.Members.{element, ∈-append, ∈-map⁻¹}
@@ -20,7 +19,7 @@ use Rattle.meaning.specs.Core.{Assignment, CoreNode, Fact, Given, Matches, Node
 use Rattle.meaning.specs.Limits.{maxArguments, maxValues}
 use Rattle.meaning.specs.Member.{_∈_, here, there}
 use Rattle.meaning.specs.Pack.{Head, Pack, Rule, Term, hasType, linksTo, linksToValue}
-use Rattle.meaning.specs.Tables.{packed}
+use Rattle.meaning.specs.Tables.{packed, headArguments, headNumbers}
 
 -- ---- what the bounds say of a match
 

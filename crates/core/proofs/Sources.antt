@@ -8,7 +8,7 @@ use native.Mathlib.Omega.{arith}
 use Prim.Native.Nat.{ℕ, _*_, _+_, _-_, _/_, _%_, _^_, _≤_, _<_}
 use Rattle.core.proofs.Packed.{Bytes, one-packed, packed-back, packed-front, packed-padded, single}
 use Rattle.core.specs.Collected.{FromRules, objectKey, subjectKey}
-use Rattle.core.specs.Heads.{HeadsHeld, headArguments, headNumbers}
+use Rattle.core.specs.Heads.{HeadsHeld}
 use Rattle.core.specs.Keys.{keyOf}
 use Rattle.meaning.proofs.Lists.Members.{element}
 use Rattle.meaning.proofs.Lists.Places.{inside, placed, there-is}
@@ -16,7 +16,7 @@ use Rattle.meaning.specs.Core.{Assignment, Matches, literalNode, nodeOf}
 use Rattle.meaning.specs.Limits.{firstLiteral, maxArguments, maxValues, termRoom}
 use Rattle.meaning.specs.Member.{_∈_}
 use Rattle.meaning.specs.Pack.{Pack, Rule, Term, hasType, linksTo, linksToValue}
-use Rattle.meaning.specs.Tables.{packed}
+use Rattle.meaning.specs.Tables.{packed, headArguments, headNumbers}
 
 -- ---- rule by rule
 

@@ -1,4 +1,5 @@
 -- The core has over 1,024 triples exactly if they have so many keys. Assumes nothing.
+use Rattle.meaning.specs.Tables.{headNumbers}
 use lib.ListN.{length, getElem?, take, length-take}
 use mathlib.Core.List.{List, []}
 use mathlib.Core.Logic.{_↔_, _⊎_, inr, Iff·trans}
@@ -13,7 +14,7 @@ use Rattle.core.proofs.Sources.{sources}
 use Rattle.core.proofs.TripleSources.{at-rank, rank-at, triple-sources}
 use Rattle.core.specs.Bounds.{Bounded, HeadFits, HeadsFit}
 use Rattle.core.specs.Collected.{Adding, Beyond, FromRules, Grown, tripleKeys}
-use Rattle.core.specs.Heads.{HeadsHeld, headNumbers}
+use Rattle.core.specs.Heads.{HeadsHeld}
 use Rattle.core.specs.Held.{NodeKey, TripleKey}
 use Rattle.core.specs.Keys.{keyOf, tripleKey}
 use Rattle.core.specs.Outcomes.{TriplesAnswer, TriplesListed}

@@ -13,7 +13,6 @@ use Rattle.core.proofs.Sources.{Source, link-object, link-subject, valu
 use Rattle.core.proofs.TripleKeys.{link-triple, no-triple}
 use Rattle.core.specs.Bounds.{Bounded}
 use Rattle.core.specs.Collected.{tripleKeys}
-use Rattle.core.specs.Heads.{headArguments, headNumbers}
 use Rattle.core.specs.Held.{NodeKey, TripleKey}
 use Rattle.core.specs.Keys.{keyOf, tripleKey}
 use Rattle.meaning.proofs.Lists.Members.{element, ∈-append}
@@ -22,7 +21,7 @@ use Rattle.meaning.specs.Core.{Assignment, CoreNode, Fact, Given, Node, asObjec
 use Rattle.meaning.specs.Member.{_∈_, here, there}
 use Rattle.meaning.specs.Ordered.{InOrder, ListOf, before}
 use Rattle.meaning.specs.Pack.{Head, Pack, hasType, linksTo, linksToValue}
-use Rattle.meaning.specs.Tables.{packed}
+use Rattle.meaning.specs.Tables.{packed, headArguments, headNumbers}
 use Rattle.sets.proofs.Rank.{rank-member}
 use Rattle.sets.specs.Ordered.{rankOf}
 

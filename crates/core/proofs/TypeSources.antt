@@ -12,7 +12,7 @@ use Rattle.core.proofs.TripleAnswers.{node-in, predicate-small, rank-on
 use Rattle.core.proofs.TripleSources.{at-rank, rank-at}
 use Rattle.core.specs.Bounds.{Bounded, HeadsFit}
 use Rattle.core.specs.Collected.{FromRules, Marked, TypeFact}
-use Rattle.core.specs.Heads.{HeadsHeld, headArguments, headNumbers}
+use Rattle.core.specs.Heads.{HeadsHeld}
 use Rattle.core.specs.Held.{NodeKey, TripleKey}
 use Rattle.core.specs.Keys.{keyOf, objectOf, predicateOf, subjectOf, tripleKey}
 use Rattle.core.specs.Spread.{Passed, SpreadFrom, along, held}
@@ -23,7 +23,7 @@ use Rattle.meaning.specs.Limits.{maxCoreNodes, placeRoom, predicateRoom}
 use Rattle.meaning.specs.Member.{_∈_, here}
 use Rattle.meaning.specs.Ordered.{ListOf}
 use Rattle.meaning.specs.Pack.{HasShape, Head, Pack, Target, hasType, linksTo, linksToValue, type}
-use Rattle.meaning.specs.Tables.{packed, setOfMask}
+use Rattle.meaning.specs.Tables.{packed, setOfMask, headArguments, headNumbers}
 use Rattle.meaning.specs.TypeSet.{_∈ₜ_}
 use Rattle.sets.proofs.Rank.{rank-le}
 use Rattle.sets.specs.Ordered.{rankOf}

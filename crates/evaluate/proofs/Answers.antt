@@ -7,7 +7,7 @@ use mathlib.Core.Logic.{_↔_, Iff·symm, Iff·trans}
 use mathlib.Core.Path.{_≡_, refl, sym, subst}
 use native.Mathlib.Omega.{arith}
 use Prim.Native.Nat.{ℕ, _≤_, _<_}
-use Rattle.access.proofs.Accepted.{WellFormed, well-formed}
+use Rattle.pack.proofs.Accepted.{WellFormed, well-formed}
 use Rattle.alive.proofs.Bounds.{query-fits}
 use Rattle.alive.specs.Fits.{Fits}
 use Rattle.alive.specs.Lists.{Lists}
@@ -31,7 +31,6 @@ use Rattle.meaning.specs.Member.{_∈_}
 use Rattle.meaning.specs.Ordered.{ListOf, Over}
 use Rattle.meaning.specs.Pack.{Pack, Text}
 use Rattle.meaning.specs.Query.{Expr, Satisfied}
-use Rattle.resolve.specs.Wanted.{Written}
 use Rattle.spelling.proofs.CoreTerms.{plain-distinct}
 use Rattle.spelling.specs.Iri.{plain}
 use Rattle.walk.specs.Parts.{Threaded, listed, partOf}
@@ -42,15 +41,14 @@ use Rattle.evaluate.proofs.InLists.{formed, some-graph}
 use Rattle.evaluate.proofs.KindOrder.{named-first}
 use Rattle.evaluate.proofs.Places.{satisfied}
 
-module _ {pack query : Text} {tree : List ℕ} {parts : ℕ} {nodes : List ℕ} {count : ℕ} {triples : List ℕ} {edges : ℕ}
-    (ready : Ready pack query tree parts nodes count triples edges) (next before wanted : List ℕ)
-    (threaded : Threaded (partOf tree) (listed next) parts) (written : Written pack query tree nodes parts count before wanted) where
+module _ {pack query : Text} {tree : List ℕ} {parts : ℕ} {wanted nodes : List ℕ} {count : ℕ} {triples : List ℕ} {edges : ℕ}
+    (ready : Ready pack query tree parts wanted nodes count triples edges) (next : List ℕ) (threaded : Threaded (partOf tree) (listed next) parts) where
   abbrev L : Lists
   L = record { nodes = count; edges = edges; parts = parts; triples = triples; tree = tree; next = next; wanted = wanted }
 
   -- the lists are within their bounds
-  pub lists-fit : parts ≤ length next → parts ≤ length wanted → Fits L
-  lists-fit a b = record { graph = graph-fits (ready .graph .graph); query = query-fits (ready .held) threaded (ready .room) a b }
+  pub lists-fit : parts ≤ length next → Fits L
+  lists-fit a = record { graph = graph-fits (ready .graph .graph); query = query-fits (ready .held) threaded (ready .room) a (ready .wanted-room) }
 
   module _ {P : Pack} (g : GraphIn pack P nodes count triples edges) where
     abbrev G : Numbered
@@ -66,7 +64,7 @@ module _ {pack query : Text} {tree : List ℕ} {parts : ℕ} {nodes : List ℕ} 
     in-lists = held-in g L refl refl refl
 
     numbers : Resolved G query L
-    numbers = right-numbers g L refl refl refl (written .found P (formed (g .has)) (inOrder g) (node-list g))
+    numbers = right-numbers g L refl refl refl (ready .resolved P (formed (g .has)) (inOrder g) (node-list g))
 
     -- the query's expression is the one that the tree holds
     the-expression : (e : Expr) → IsQuery query e → ready .held .expression ≡ e

@@ -27,7 +27,7 @@ use Rattle.meaning.specs.Ordered.{InOrder, ListOf, Over, _≺_, before, empty, 
 use Rattle.meaning.specs.Pack.{Pack}
 use Rattle.meaning.specs.Query.{Expr, Joins}
 use Rattle.meaning.specs.WellFormed.{dangling}
-use Rattle.sets.proofs.Cases.{case-on}
+use Rattle.meaning.proofs.Cases.{case-on}
 use Rattle.states.specs.Table.{has}
 use Rattle.evaluate.proofs.Built.{built-listed, built-whole}
 use Rattle.evaluate.proofs.Over.{listed-few, over-carried}

@@ -8,7 +8,7 @@ use mathlib.Core.Option.{some, Option·none-ne-some, Option·some-injective}
 use mathlib.Core.Path.{_≡_, refl, sym, ap, subst, _∙_}
 use native.Mathlib.Omega.{arith}
 use Prim.Native.Nat.{ℕ, zero, suc, _+_, _*_, _≤_, _<_}
-use Rattle.access.proofs.Accepted.{well-formed}
+use Rattle.pack.proofs.Accepted.{well-formed}
 use Rattle.alive.specs.Lists.{Lists}
 use Rattle.answers.specs.Graph.{HeldIn, Numbered, Resolved}
 use Rattle.core.proofs.Declared.{edge-predicate}

@@ -21,7 +21,7 @@ use Rattle.meaning.specs.Limits.{nodeWidth}
 use Rattle.meaning.specs.Listing.{NodeRecord, inventedKind, kind, nodeKey}
 use Rattle.meaning.specs.Ordered.{_≺_, less, equal}
 use Rattle.meaning.specs.Pack.{Pack, Text}
-use Rattle.sets.proofs.Cases.{case-on}
+use Rattle.meaning.proofs.Cases.{case-on}
 use Rattle.evaluate.proofs.Built.{in-order-at}
 use Rattle.evaluate.proofs.Held.{count-is, inOrder}
 

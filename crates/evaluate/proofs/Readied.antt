@@ -3,29 +3,20 @@ use lib.ListN.{length, getD-replicate}
 use mathlib.Core.List.{List}
 use native.Mathlib.Omega.{arith}
 use Prim.Native.Nat.{ℕ, _≤_}
-use Rattle.access.specs.Places.{IsWellFormed}
 use Rattle.evaluate.specs.Answered.{Ready}
 use Rattle.index.specs.Index.{ChainReady}
 use Rattle.meaning.specs.Limits.{maxNodes, maxParts, maxTriples}
 use Rattle.meaning.specs.Pack.{Text}
-use Rattle.resolve.specs.Listed.{Roomy}
 use Rattle.sets.specs.Buffers.{zeros}
 use Rattle.walk.specs.Threading.{Threadable}
-use Rattle.evaluate.proofs.InLists.{formed}
 
-module _ {pack query : Text} {tree : List ℕ} {parts : ℕ} {nodes : List ℕ} {count : ℕ} {triples : List ℕ} {edges : ℕ}
-    (ready : Ready pack query tree parts nodes count triples edges) where
+module _ {pack query : Text} {tree : List ℕ} {parts : ℕ} {wanted nodes : List ℕ} {count : ℕ} {triples : List ℕ} {edges : ℕ}
+    (ready : Ready pack query tree parts wanted nodes count triples edges) where
   pub parts-few : parts ≤ maxParts
   parts-few = let a = ready .held .few in let b = ready .held .query .fits in omega arith
 
   pub threadable : {next : List ℕ} → maxParts ≤ length next → Threadable tree next parts
   threadable l = record { text = query; held = ready .held; parts = ready .room; room = let a = parts-few in omega arith }
-
-  pub pack-formed : IsWellFormed pack
-  pack-formed = record { pack = ready .graph .of; is = formed (ready .graph .graph .has) }
-
-  pub roomy : Roomy nodes count
-  roomy = record { room = ready .graph .graph .node-room; few = let h = ready .graph .graph .has .graph .few-nodes in omega arith }
 
   pub chain-ready : ChainReady edges (zeros maxNodes) (zeros maxTriples)
   chain-ready = record { heads = omega arith; links = ready .graph .graph .has .graph .few-triples; none = λ o h. getD-replicate maxNodes o 0 0 h }

@@ -8,7 +8,7 @@ use Rattle.meaning.specs.Limits.{maxStates}
 use Rattle.sets.specs.Buffers.{zeros}
 use Rattle.states.specs.Table.{Unmarked}
 
-pub length-zeros : (n : ℕ) → length (zeros n) ≡ n
+length-zeros : (n : ℕ) → length (zeros n) ≡ n
 length-zeros n = length-replicate n 0
 
 -- a cleared table has no mark

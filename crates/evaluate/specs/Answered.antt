@@ -17,17 +17,32 @@ use Rattle.meaning.specs.Member.{_∈_}
 use Rattle.meaning.specs.Pack.{Pack, Text}
 use Rattle.meaning.specs.Query.{Expr}
 use Rattle.query.specs.Answer.{HoldsQuery}
+use Rattle.resolve.specs.Wanted.{OfGraph, Wanted}
 use Rattle.spelling.specs.Iri.{plain}
 
 -- The numbers are those of pairs of two nodes.
 abbrev pub AllPairs : List ℕ → Type 0
 AllPairs xs = (x : ℕ) → x ∈ xs → x < pairKeys
 
--- The lists hold a pack's graph, and the tree the query's parts.
-pub record Ready (pack query : Text) (tree : List ℕ) (parts : ℕ) (nodes : List ℕ) (count : ℕ) (triples : List ℕ) (edges : ℕ) : Type 0 where
+-- The lists hold a pack's graph, the tree the query's parts, and `wanted` the number of the predicate or node that each part
+-- wants.
+pub record Ready (pack query : Text) (tree : List ℕ) (parts : ℕ) (wanted nodes : List ℕ) (count : ℕ) (triples : List ℕ) (edges : ℕ) : Type 0 where
   pub graph : SomeGraph pack nodes count triples edges
   pub held : HoldsQuery query tree parts
   pub room : parts ≤ length tree
+  pub resolved : OfGraph pack nodes count (λ P inOrder. Wanted P inOrder query tree parts wanted)
+  pub wanted-room : parts ≤ length wanted
+
+module _ (tree : List ℕ) (parts : ℕ) (wanted nodes : List ℕ) (count : ℕ) (triples : List ℕ) (edges : ℕ) where
+  -- They are ready for some pack and some query.
+  pub record IsReady : Type 0 where
+    pub pack : Text
+    pub query : Text
+    pub ready : Ready pack query tree parts wanted nodes count triples edges
+
+  -- What holds of every pack and query that they are ready for.
+  abbrev pub ForReady : (Text → Text → Type 0) → Type 0
+  ForReady Q = (pack query : Text) → Ready pack query tree parts wanted nodes count triples edges → Q pack query
 
 module _ (pack query : Text) (nodes : List ℕ) (count : ℕ) (triples : List ℕ) (edges : ℕ) where
   -- What holds of the pack that the lists are the graph of, and of the query's expression.

@@ -1,7 +1,7 @@
 // The pairs of named nodes that a query joins in every finite graph that obeys a pack.
 ghost use lib.ListN.{length};
 ghost use Prim.Native.Nat.{_≤_};
-ghost use Rattle.evaluate.specs.Answered.{PairsIn, Ready};
+ghost use Rattle.evaluate.specs.Answered.{ForReady, IsReady, PairsIn};
 ghost use Rattle.meaning.specs.Limits.{maxPairs, maxStates};
 ghost use Rattle.states.specs.Table.{Unmarked};
 use crate::named::named;
@@ -11,15 +11,14 @@ use answers::pairs::Pairs;
 use meaning::MAX_NODES;
 use meaning::MAX_PARTS;
 use meaning::MAX_TRIPLES;
-use resolve::resolve;
 use walk::thread;
 
-// The pairs as numbers (answers, keys), ascending at the front of `found`; or that they are too many.
+// The pairs as numbers (answers, keys), ascending at the front of `found`; or that they are too many. `wanted` has the number
+// that each part wants.
 pub fn pairs(
-    pack: &[u8],
-    query: &[u8],
     tree: &[u32],
     parts: usize,
+    wanted: &[u16],
     nodes: &[u16],
     count: usize,
     triples: &[u16],
@@ -29,13 +28,13 @@ pub fn pairs(
     seen: &mut [u16],
     found: &mut [u32],
 ) -> Pairs
-    requires { ⌜ Ready (now pack) (now query) (now tree) parts (now nodes) count (now triples) edges × Unmarked 1 maxStates (now alive) (now queue) × Unmarked 1 maxStates (now seen) (now queue) × (maxPairs ≤ length (now found)) ⌝ }
-    ensures { λ r. ⌜ PairsIn (now (pack .entry)) (now (query .entry)) (now (nodes .entry)) count (now (triples .entry)) edges r (now (found .exit)) ⌝ }
+    requires { ⌜ IsReady (now tree) parts (now wanted) (now nodes) count (now triples) edges × Unmarked 1 maxStates (now alive) (now queue)
+        × Unmarked 1 maxStates (now seen) (now queue) × (maxPairs ≤ length (now found)) ⌝ }
+    ensures { λ r. ⌜ ForReady (now (tree .entry)) parts (now (wanted .entry)) (now (nodes .entry)) count (now (triples .entry)) edges
+        (λ pack query. PairsIn pack query (now (nodes .entry)) count (now (triples .entry)) edges r (now (found .exit))) ⌝ }
 {
     let mut next = [0u16; MAX_PARTS];
-    let mut wanted = [0u16; MAX_PARTS];
     thread(tree, parts, &mut next);
-    resolve(pack, query, tree, parts, nodes, count, &mut wanted);
     let mut last = [0u16; MAX_NODES];
     let mut earlier = [0u16; MAX_TRIPLES];
     let mut first = [0u16; MAX_NODES + 1];
@@ -50,7 +49,7 @@ pub fn pairs(
         triples,
         tree,
         &next[..],
-        &wanted[..],
+        wanted,
         &mut last,
         &mut earlier,
         &mut first,

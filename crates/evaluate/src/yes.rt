@@ -1,5 +1,5 @@
 // Whether a query is satisfied in every finite graph that obeys a pack.
-ghost use Rattle.evaluate.specs.Answered.{Ready, YesIn};
+ghost use Rattle.evaluate.specs.Answered.{ForReady, IsReady, YesIn};
 ghost use Rattle.meaning.specs.Limits.{maxStates};
 ghost use Rattle.states.specs.Table.{Unmarked};
 use alive::Sizes;
@@ -7,15 +7,13 @@ use answers::some_joined;
 use meaning::MAX_NODES;
 use meaning::MAX_PARTS;
 use meaning::MAX_TRIPLES;
-use resolve::resolve;
 use walk::thread;
 
-// The answer for a query in its tree of parts, over the graph in its two lists.
+// The answer for a query in its tree of parts, with the number that each part wants, over the graph in its two lists.
 pub fn yes(
-    pack: &[u8],
-    query: &[u8],
     tree: &[u32],
     parts: usize,
+    wanted: &[u16],
     nodes: &[u16],
     count: usize,
     triples: &[u16],
@@ -23,13 +21,12 @@ pub fn yes(
     alive: &mut [u8],
     queue: &mut [u32],
 ) -> bool
-    requires { ⌜ Ready (now pack) (now query) (now tree) parts (now nodes) count (now triples) edges × Unmarked 1 maxStates (now alive) (now queue) ⌝ }
-    ensures { λ r. ⌜ YesIn (now (pack .entry)) (now (query .entry)) (now (nodes .entry)) count (now (triples .entry)) edges r ⌝ }
+    requires { ⌜ IsReady (now tree) parts (now wanted) (now nodes) count (now triples) edges × Unmarked 1 maxStates (now alive) (now queue) ⌝ }
+    ensures { λ r. ⌜ ForReady (now (tree .entry)) parts (now (wanted .entry)) (now (nodes .entry)) count (now (triples .entry)) edges
+        (λ pack query. YesIn pack query (now (nodes .entry)) count (now (triples .entry)) edges r) ⌝ }
 {
     let mut next = [0u16; MAX_PARTS];
-    let mut wanted = [0u16; MAX_PARTS];
     thread(tree, parts, &mut next);
-    resolve(pack, query, tree, parts, nodes, count, &mut wanted);
     let mut last = [0u16; MAX_NODES];
     let mut earlier = [0u16; MAX_TRIPLES];
     let sizes = Sizes {
@@ -42,7 +39,7 @@ pub fn yes(
         triples,
         tree,
         &next[..],
-        &wanted[..],
+        wanted,
         &mut last,
         &mut earlier,
         alive,

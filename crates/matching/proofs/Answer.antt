@@ -13,7 +13,7 @@ use Rattle.meaning.specs.Member.{_∈_, here, there}
 use Rattle.meaning.specs.Ordered.{empty}
 use Rattle.meaning.specs.Pack.{Row, Atom}
 use Rattle.sets.proofs.Ascending.{∈-at}
-use Rattle.sets.proofs.Cases.{case-on}
+use Rattle.meaning.proofs.Cases.{case-on}
 use Rattle.matching.specs.declared.Heads.{Heads}
 use Rattle.matching.specs.declared.Heads.the-variants.{Listed, Over}
 use Rattle.matching.specs.Plan.{masked, variablesAt, candidatesAt, KeyVariables, AtomsBelow, AtomsBytes, SameVariables, Bindings, Candidate, Prepared, Plan, Solution, Reaches, Grown}

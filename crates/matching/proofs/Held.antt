@@ -8,9 +8,8 @@ use native.Mathlib.Omega.{arith}
 use Prim.Native.Nat.{ℕ, zero, suc, _+_, _*_, _≤_, _<_}
 use Rattle.meaning.specs.Core.{Assignment}
 use Rattle.meaning.specs.Pack.{Row, Atom}
-use Rattle.meaning.specs.Tables.{rowNumbers}
+use Rattle.meaning.specs.Tables.{rowNumbers, atomNumbers}
 use Rattle.matching.specs.Plan.{variablesAt}
-use Rattle.matching.specs.Rule.{atomNumbers}
 use Rattle.matching.proofs.Blocks.{BlockAt}
 use Rattle.meaning.specs.Limits.{atomWidth, maxColumns, rowWidth, unused}
 

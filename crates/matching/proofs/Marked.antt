@@ -13,7 +13,7 @@ use native.Mathlib.Numerals.{add-one}
 use native.Mathlib.Omega.{arith}
 use Prim.Native.Nat.{ℕ, suc, _+_, _*_, _-_, _≤_, _<_, zero-le}
 use Rattle.meaning.specs.Limits.{atomWidth, maxValues, maxVariables, unused}
-use Rattle.sets.proofs.Cases.{case-on}
+use Rattle.meaning.proofs.Cases.{case-on}
 use Rattle.matching.specs.Plan.{markOf, marked, variablesAt, variablesFrom}
 
 pub noted-first : (x : ℕ) → x ≡ 0 → 1 ≡ markOf x

@@ -7,7 +7,7 @@ use native.Mathlib.Decide.{ℕ-discrete}
 use native.Mathlib.Omega.{arith}
 use Prim.Native.Nat.{ℕ, zero, suc, _+_, _≤_, _<_, zero-le, suc-le-suc}
 use Rattle.meaning.specs.Member.{_∈_, here, there}
-use Rattle.sets.proofs.Cases.{case-on}
+use Rattle.meaning.proofs.Cases.{case-on}
 use Rattle.matching.specs.Plan.{variablesAt, variablesFrom}
 use Rattle.matching.proofs.Marked.{times}
 

@@ -12,7 +12,7 @@ use Prim.Native.Nat.{ℕ, _+_, _*_, _-_, _%_, _≤_, _<_, zero-le}
 use Rattle.meaning.specs.Member.{_∈_}
 use Rattle.meaning.specs.Ordered.{ListOf, empty}
 use Rattle.sets.proofs.Ascending.{∈-at}
-use Rattle.sets.proofs.Cases.{case-on}
+use Rattle.meaning.proofs.Cases.{case-on}
 use Rattle.matching.specs.Plan.{rankBy, Ranked, Written, KeyVariables, AtomsBelow, SameVariables, variablesAt}
 use Rattle.matching.proofs.Bytes.{∈-index}
 use Rattle.matching.proofs.Grown.{list-iff}

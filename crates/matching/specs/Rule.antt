@@ -1,6 +1,6 @@
 -- One rule over the rows: how code holds it, and the set of its heads' keys. Assumes nothing.
-use lib.ListN.{length, take, replicate}
-use mathlib.Core.List.{List, _∷_, _++_, flatMap, map}
+use lib.ListN.{length, take}
+use mathlib.Core.List.{List, flatMap, map}
 use mathlib.Core.Path.{_≡_}
 use Prim.Native.Nat.{ℕ, _*_, _≤_, _<_}
 use Rattle.meaning.specs.Core.{Assignment, Matches}
@@ -8,14 +8,11 @@ use Rattle.meaning.specs.Limits.{atomWidth, maxAtoms, maxColumns, maxHeadVariab
 use Rattle.meaning.specs.Member.{_∈_}
 use Rattle.meaning.specs.Ordered.{ListOf, Over as OverSet}
 use Rattle.meaning.specs.Pack.{Row, Atom}
-use Rattle.meaning.specs.Tables.{RowsHeld, packed}
+use Rattle.meaning.specs.Tables.{RowsHeld, atomNumbers, packed}
 use Rattle.matching.specs.declared.Heads.{Heads}
 use Rattle.matching.specs.declared.Heads.the-variants.{Listed, Over}
 
--- ---- an atom as numbers: its relation, how many variables, and these, 0 where there is none
-
-abbrev pub atomNumbers : Atom → List ℕ
-atomNumbers a = a .relation ∷ length (a .variables) ∷ take maxColumns (a .variables ++ replicate maxColumns 0)
+-- ---- atoms (`atomNumbers`)
 
 -- The first numbers are those of the atoms, one after another.
 pub record AtomsHeld (atoms : List Atom) (numbers : List ℕ) : Type 0 where

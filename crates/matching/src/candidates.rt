@@ -50,11 +50,11 @@ fn row_key(
     rows: &[u16],
     at: usize,
     order: &[u8],
-    cols: [usize; KEY_WIDTH],
-    start: [u16; MAX_VARIABLES],
+    cols: &[usize; KEY_WIDTH],
+    start: &[u16; MAX_VARIABLES],
 ) -> u64
-    requires { ⌜ KeyVariables (now order) × Bindings start × ColumnsBytes (now rows) at cols (length (now order)) ⌝ }
-    ensures { λ r. ⌜ KeyFrom r (now (rows .entry)) at (now (order .entry)) cols start ⌝ }
+    requires { ⌜ KeyVariables (now order) × Bindings (now start) × ColumnsBytes (now rows) at (now cols) (length (now order)) × (length (now cols) ≡ keyWidth) ⌝ }
+    ensures { λ r. ⌜ KeyFrom r (now (rows .entry)) at (now (order .entry)) (now (cols .entry)) (now (start .entry)) ⌝ }
 {
     let mut key: u64 = 0;
     let mut c = order.len();
@@ -121,7 +121,7 @@ fn candidates(
                 continue 'rows;
             }
         }
-        let key = row_key(rows, at, order, cols, start);
+        let key = row_key(rows, at, order, &cols, &start);
         n = store_next(out, n, last, key);
         last = key;
     }

@@ -1,7 +1,10 @@
 pub mod Bits
+pub mod Filling
 pub mod First
 pub mod Members
 pub mod Ordered
+pub mod Pairs
+pub mod Parts
 pub mod Places
 pub mod Reach
 pub mod Sorted

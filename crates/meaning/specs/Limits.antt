@@ -11,6 +11,34 @@ maxPackBytes = 65536
 abbrev pub bodies : ℕ
 bodies = 9
 
+-- the bodies by their numbers, in the order of "The pack"
+abbrev pub valuesBody : ℕ
+valuesBody = 0
+
+abbrev pub relationsBody : ℕ
+relationsBody = 1
+
+abbrev pub dependenciesBody : ℕ
+dependenciesBody = 2
+
+abbrev pub typesBody : ℕ
+typesBody = 3
+
+abbrev pub predicatesBody : ℕ
+predicatesBody = 4
+
+abbrev pub shapesBody : ℕ
+shapesBody = 5
+
+abbrev pub constructorsBody : ℕ
+constructorsBody = 6
+
+abbrev pub rulesBody : ℕ
+rulesBody = 7
+
+abbrev pub rowsBody : ℕ
+rowsBody = 8
+
 abbrev pub contentsBytes : ℕ  -- a 32-bit length for each body
 contentsBytes = bodies * 4
 
@@ -190,7 +218,22 @@ literalBit = 15
 abbrev pub literalWeight : ℕ
 literalWeight = 2 ^ literalBit
 
--- ---- Rules as numbers, and matches as keys
+-- ---- Records as numbers, and matches as keys
+
+abbrev pub textWidth : ℕ  -- numbers to a value or a name: where it starts, how many bytes it has
+textWidth = 2
+
+abbrev pub relationWidth : ℕ  -- its arity
+relationWidth = 1
+
+abbrev pub dependencyWidth : ℕ
+dependencyWidth = 3
+
+abbrev pub shapeWidth : ℕ
+shapeWidth = 4
+
+abbrev pub constructorWidth : ℕ  -- its arity, where its prefix starts, how many bytes it has
+constructorWidth = 1 + textWidth
 
 abbrev pub headWidth : ℕ  -- numbers to a head: kind, constructors, how many arguments, type or predicate
 headWidth = 6
@@ -204,6 +247,9 @@ atomWidth = maxColumns + 2
 abbrev pub atomsLength : ℕ
 atomsLength = maxAtoms * atomWidth
 
+abbrev pub ruleWidth : ℕ  -- its atoms and how many, its head's variables and how many, its head
+ruleWidth = 1 + atomsLength + 1 + maxHeadVariables + headWidth
+
 abbrev pub keyWidth : ℕ  -- values that a 64-bit number has room for: an atom's, or a head's
 keyWidth = 8
 
@@ -212,3 +258,32 @@ keyRoom = valueRoom ^ (keyWidth - 1)
 
 abbrev pub candidatesLength : ℕ  -- each atom's candidates, at most one a row
 candidatesLength = maxAtoms * maxRows
+
+-- ---- Where each body of a setting stands among its numbers
+
+abbrev pub valuesAt : ℕ
+valuesAt = 0
+
+abbrev pub relationsAt : ℕ
+relationsAt = valuesAt + maxValues * textWidth
+
+abbrev pub dependenciesAt : ℕ
+dependenciesAt = relationsAt + maxRelations * relationWidth
+
+abbrev pub typesAt : ℕ
+typesAt = dependenciesAt + maxDependencies * dependencyWidth
+
+abbrev pub predicatesAt : ℕ
+predicatesAt = typesAt + maxTypes * textWidth
+
+abbrev pub shapesAt : ℕ
+shapesAt = predicatesAt + maxPredicates * textWidth
+
+abbrev pub constructorsAt : ℕ
+constructorsAt = shapesAt + maxShapes * shapeWidth
+
+abbrev pub rulesAt : ℕ
+rulesAt = constructorsAt + maxConstructors * constructorWidth
+
+abbrev pub settingLength : ℕ
+settingLength = rulesAt + maxRules * ruleWidth

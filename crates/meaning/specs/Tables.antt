@@ -1,13 +1,13 @@
 -- How code holds what it reads often: shapes as a table of cells; rows, type sets and lists of bytes as numbers. Assumes
 -- nothing.
 use lib.Dec.{leb}
-use lib.ListN.{getD, take, replicate}
+use lib.ListN.{getD, length, replicate, take}
 use mathlib.Core.List.{List, [], _∷_, _++_, flatMap, foldl}
 use mathlib.Core.Option.{Option, none, some}
 use mathlib.Core.Path.{_≡_}
 use Prim.Native.Nat.{ℕ, _+_, _*_, _%_, _<_}
-use Rattle.meaning.specs.Limits.{literalBit, literalWeight, maxColumns, maxPredicates, maxTypes, maxValues, multiplicityRoom, unused}
-use Rattle.meaning.specs.Pack.{Setting, Row, Shape, Target, Literal, type, multiplicityNumber, shapeOf}
+use Rattle.meaning.specs.Limits.{atomsLength, literalBit, literalWeight, maxColumns, maxHeadVariables, maxPredicates, maxTypes, maxValues, multiplicityRoom, unused}
+use Rattle.meaning.specs.Pack.{Atom, hasType, Head, linksTo, linksToValue, Literal, multiplicityNumber, Row, Rule, Setting, Shape, shapeOf, Target, type}
 use Rattle.meaning.specs.TypeSet.{TypeSet}
 
 -- ---- "Shapes form a table of 8 types by 12 predicates": target and multiplicity packed per cell
@@ -45,3 +45,29 @@ pub record RowsHeld (rows : List Row) (numbers : List ℕ) : Type 0 where
 
 unfoldable pub packed : List ℕ → ℕ
 packed = foldl (λ k v. k * maxValues + v) 0
+
+-- ---- a rule as numbers: how many atoms, these; how many variables its head has, these; its head. 0 in places unused
+
+-- its relation, how many variables, these
+abbrev pub atomNumbers : Atom → List ℕ
+atomNumbers a = a .relation ∷ length (a .variables) ∷ take maxColumns (a .variables ++ replicate maxColumns 0)
+
+-- kind; the subject's constructor and its argument count; the type or the predicate; the object's constructor and its
+-- argument count (a value counts as one argument)
+unfoldable pub headNumbers : Head → List ℕ
+headNumbers (hasType s t) = 0 ∷ s .constructor ∷ length (s .variables) ∷ t ∷ 0 ∷ 0 ∷ []
+headNumbers (linksTo s p o) = 1 ∷ s .constructor ∷ length (s .variables) ∷ p ∷ o .constructor ∷ length (o .variables) ∷ []
+headNumbers (linksToValue s p v) = 2 ∷ s .constructor ∷ length (s .variables) ∷ p ∷ 0 ∷ 1 ∷ []
+
+-- its variables in argument order, the subject's before the object's
+unfoldable pub headArguments : Head → List ℕ
+headArguments (hasType s t) = s .variables
+headArguments (linksTo s p o) = s .variables ++ o .variables
+headArguments (linksToValue s p v) = s .variables ++ v ∷ []
+
+unfoldable pub ruleNumbers : Rule → List ℕ
+unfolding headArguments headNumbers
+ruleNumbers r =
+    length (r .atoms) ∷ take atomsLength (flatMap atomNumbers (r .atoms) ++ replicate atomsLength 0)
+    ++ length (headArguments (r .head)) ∷ take maxHeadVariables (headArguments (r .head) ++ replicate maxHeadVariables 0)
+    ++ headNumbers (r .head)

@@ -6,6 +6,25 @@ pub const MAX_PACK_BYTES: usize = 65536;
 
 pub const BODIES: usize = 9;
 
+// The bodies by their numbers.
+pub const VALUES_BODY: usize = 0;
+
+pub const RELATIONS_BODY: usize = 1;
+
+pub const DEPENDENCIES_BODY: usize = 2;
+
+pub const TYPES_BODY: usize = 3;
+
+pub const PREDICATES_BODY: usize = 4;
+
+pub const SHAPES_BODY: usize = 5;
+
+pub const CONSTRUCTORS_BODY: usize = 6;
+
+pub const RULES_BODY: usize = 7;
+
+pub const ROWS_BODY: usize = 8;
+
 pub const CONTENTS_BYTES: usize = BODIES * 4;
 
 pub const MAX_VALUES: usize = 256;
@@ -125,6 +144,36 @@ pub const ATOMS_LENGTH: usize = MAX_ATOMS * ATOM_WIDTH;
 pub const KEY_WIDTH: usize = 8;
 
 pub const CANDIDATES_LENGTH: usize = MAX_ATOMS * MAX_ROWS;
+
+pub const TEXT_WIDTH: usize = 2;
+
+pub const RELATION_WIDTH: usize = 1;
+
+pub const DEPENDENCY_WIDTH: usize = 3;
+
+pub const SHAPE_WIDTH: usize = 4;
+
+pub const CONSTRUCTOR_WIDTH: usize = 1 + TEXT_WIDTH;
+
+pub const RULE_WIDTH: usize = 1 + ATOMS_LENGTH + 1 + MAX_HEAD_VARIABLES + HEAD_WIDTH;
+
+pub const VALUES_AT: usize = 0;
+
+pub const RELATIONS_AT: usize = VALUES_AT + MAX_VALUES * TEXT_WIDTH;
+
+pub const DEPENDENCIES_AT: usize = RELATIONS_AT + MAX_RELATIONS * RELATION_WIDTH;
+
+pub const TYPES_AT: usize = DEPENDENCIES_AT + MAX_DEPENDENCIES * DEPENDENCY_WIDTH;
+
+pub const PREDICATES_AT: usize = TYPES_AT + MAX_TYPES * TEXT_WIDTH;
+
+pub const SHAPES_AT: usize = PREDICATES_AT + MAX_PREDICATES * TEXT_WIDTH;
+
+pub const CONSTRUCTORS_AT: usize = SHAPES_AT + MAX_SHAPES * SHAPE_WIDTH;
+
+pub const RULES_AT: usize = CONSTRUCTORS_AT + MAX_CONSTRUCTORS * CONSTRUCTOR_WIDTH;
+
+pub const SETTING_LENGTH: usize = RULES_AT + MAX_RULES * RULE_WIDTH;
 
 // "Shapes form a table of 8 types by 12 predicates": a cell for each.
 pub type ShapeTable = [[u16; MAX_PREDICATES]; MAX_TYPES];

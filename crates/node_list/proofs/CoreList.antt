@@ -11,7 +11,7 @@ use Prim.Native.Nat.{ℕ, _+_, _*_, _<_, _≤_}
 use Rattle.node_list.specs.Records.{coreNumbers, coreRecords, iriNumbers, literalNumbers, overwritten}
 use Rattle.node_list.proofs.Written.{written-front, written-long, written-rest}
 use Rattle.meaning.specs.Limits.{firstLiteral, nodeWidth}
-use Rattle.sets.proofs.Cases.{case-on}
+use Rattle.meaning.proofs.Cases.{case-on}
 
 pub numbers-long : (arities : List ℕ) (key mask : ℕ) → length (coreNumbers arities key mask) ≡ nodeWidth
 unfolding coreNumbers iriNumbers literalNumbers

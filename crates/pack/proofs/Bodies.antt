@@ -4,20 +4,20 @@ use lib.Seq.{slice-empty, length-slice}
 use mathlib.Core.Bool.{Bool, true, false}
 use mathlib.Core.List.{List, [], _∷_}
 use mathlib.Core.Option.{Option, none, some, Option·none-ne-some, Option·some-injective}
-use mathlib.Core.Path.{_≡_, refl, ap, _∙_}
+use mathlib.Core.Path.{_≡_, refl, ap}
 use native.Mathlib.Nat.{not-suc-le-zero}
 use native.Mathlib.Omega.{arith}
-use Prim.Native.Nat.{ℕ, zero, suc, _+_, _-_, _≤_, _<_}
+use Prim.Native.Nat.{ℕ, zero, suc, _-_, _≤_, _<_}
 use Rattle.meaning.specs.Limits.{maxArguments, maxAtoms, maxPrefixBytes}
 use Rattle.meaning.specs.Tests.{within}
-use Rattle.pack.specs.Kinds.{readerOf, tally}
+use Rattle.pack.specs.Kinds.{readerOf}
 use Rattle.pack.specs.Readers.{Read, Reader, give, only, next, _>>=_, byte, byteIn, bytes, sized}
 use Rattle.pack.specs.Records.{value, relation, dependency, name, shape, constructor, tuple, atom, atoms, term, headOf, rule, row, variable}
-use Rattle.pack.specs.Shown.{left, Placed, Got, Not, Skipped}
+use Rattle.pack.specs.Shown.{left, Placed, Got, Not}
 use Rattle.pack.specs.Unpack.{also, records, readAll}
 use Rattle.pack.specs.declared.cursor.Cursor.{Cursor}
-use Rattle.pack.specs.declared.walk.Kind.{Kind}
-use Rattle.pack.specs.declared.walk.Kind.the-variants as K
+use Rattle.pack.specs.declared.kinds.Kind.{Kind}
+use Rattle.pack.specs.declared.kinds.Kind.the-variants as K
 
 -- ---- readers take bytes away
 
@@ -165,44 +165,5 @@ module _ {A : Type 0} (reader : Reader A) (shrinks : Shrinks reader) where
         let m : length (left s d) < length (left s c) = k in
         omega (arith, m, length-slice (c .at) (c .end) s (p .inside), length-slice (d .at) (d .end) s (g .placed .inside), g .same, g .placed .before)
 
--- ---- counting the records of a body
-
-tally-also : {A : Type 0} (n : ℕ) (x : A) (o : Option (List A)) → tally n (also x o) ≡ tally (n + 1) o
-tally-also n x none = refl
-tally-also n x (some xs) = ap {B = Option ℕ} some (omega arith)
-
-tally-none : {A : Type 0} (n : ℕ) (o : Option (List A)) → tally n o ≡ none → o ≡ none
-tally-none n none e = refl
-tally-none n (some xs) e = absurd (let z : _≡_ {A = ℕ} 0 1 = cc in omega arith)
-
--- n records stand before c
-pub record Counting {A : Type 0} (reader : Reader A) (s : List ℕ) (c₀ : Cursor) (n : ℕ) (c : Cursor) : Type 0 where
-  pub placed : Placed s c
-  pub few : n ≤ c .at
-  pub is : tally 0 (readAll reader (left s c₀)) ≡ tally n (readAll reader (left s c))
-
-module _ {A : Type 0} {reader : Reader A} (shrinks : Shrinks reader) {s : List ℕ} {c₀ : Cursor} {n : ℕ} {c : Cursor} (p : Counting reader s c₀ n c) where
-  ahead : {d : Cursor} → Skipped reader s c d → c .at < d .at
-  ahead k = onward reader shrinks (p .placed) (k .got)
-
-  pub counting-less : {d : Cursor} → Skipped reader s c d → d .end - d .at < c .end - c .at
-  counting-less k = omega (arith, ahead k, k .got .same, k .got .placed .before)
-
-  pub counting-on : {d : Cursor} → Skipped reader s c d → Counting reader s c₀ (n + 1) d
-  counting-on {d} k = record {
-    placed = k .got .placed;
-    few = omega (arith, ahead k, p .few);
-    is = p .is ∙ ap (tally n) (all-on reader shrinks (p .placed) (k .got)) ∙ tally-also n (k .it) (readAll reader (left s d));
-  }
-
-  pub counting-stuck : c .at < c .end → Not reader s c → readAll reader (left s c₀) ≡ none
-  counting-stuck h b = tally-none 0 (readAll reader (left s c₀)) (p .is ∙ ap (tally n) (all-stop reader shrinks (p .placed) h b))
-
-  pub counting-done : c .end ≤ c .at → tally 0 (readAll reader (left s c₀)) ≡ some n
-  counting-done h = p .is ∙ ap (tally n) (all-end reader shrinks (p .placed) h) ∙ ap {B = Option ℕ} some (omega arith)
-
-pub tally-is : {A : Type 0} {o : Option (List A)} {xs : List A} {n : ℕ} → o ≡ some xs → tally 0 o ≡ some n → n ≡ length xs
-tally-is {A} {o} {xs} {n} e h = let k : tally 0 (some xs) ≡ some n = rw e at h in omega (arith, Option·some-injective _ _ k)
-
-pub tally-not : {A Q : Type 0} {o : Option (List A)} {xs : List A} → o ≡ some xs → o ≡ none → Q
-tally-not e h = absurd (let z : _≡_ {A = ℕ} 0 1 = cc in omega arith)
+    pub less : {a : A} {d : Cursor} → Got reader s c a d → d .end - d .at < c .end - c .at
+    less g = omega (arith, onward g, g .same, g .placed .before)

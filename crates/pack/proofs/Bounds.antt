@@ -9,14 +9,14 @@ use mathlib.Core.Option.{Option, none, some, Option·none-ne-some, Option·some-
 use mathlib.Core.Path.{_≡_, refl, sym, ap, subst, _∙_}
 use native.Mathlib.Omega.{arith}
 use Prim.Native.Nat.{ℕ, zero, suc, _≤_, _<_}
-use Rattle.meaning.specs.Limits.{maxArguments, maxAtoms, maxColumns, maxPrefixBytes, maxValueBytes, maxVariables}
+use Rattle.meaning.specs.Limits.{maxArguments, maxAtoms, maxColumns, maxPrefixBytes, maxVariables}
 use Rattle.meaning.specs.Member.{_∈_, here, there}
-use Rattle.meaning.specs.Pack.{Atom, Constructor, Row, Rule, Text}
+use Rattle.meaning.specs.Pack.{Atom, Constructor, Rule}
 use Rattle.meaning.specs.Tests.{within}
 use Rattle.pack.specs.Readers.{Read, Reader, only, next, byte, byteIn, bytes, sized}
-use Rattle.pack.specs.Records.{anyByte, atom, atoms, constructor, headOf, row, rule, tuple, value, variable}
+use Rattle.pack.specs.Records.{atom, atoms, constructor, headOf, rule, tuple, variable}
 use Rattle.pack.specs.Unpack.{also, records, readAll}
-use Rattle.pack.proofs.Reading.{and-both}
+use Rattle.meaning.proofs.Cases.{and-both}
 
 -- ---- what every record of a body is
 
@@ -104,11 +104,7 @@ sized-bound ok lo hi s r e =
     let p = bytes-passed ok (a .0 .got) (a .0 .rest) r (a .2) in
     record { some = omega (arith, b .0, p .many); few = omega (arith, b .1, p .many); each = p .each }
 
--- ---- values and constructors
-
-pub value-short : (s : List ℕ) (xs : List Text) → readAll value s ≡ some xs → (x : Text) → x ∈ xs → length x ≤ maxValueBytes
-unfolding value
-value-short s xs = read-all value (λ x. length x ≤ maxValueBytes) (λ t r e. sized-bound _ 0 maxValueBytes t r e .few) s xs
+-- ---- constructors
 
 pub record Bounded (k : Constructor) : Type 0 where
   pub some-arguments : 1 ≤ k .arity
@@ -142,14 +138,6 @@ atom-fine s r e =
     let b = next-some (sized variable 1 maxColumns (a .0 .rest)) _ r (a .2) in
     let z = sized-bound variable 1 maxColumns (a .0 .rest) (b .0) (b .1) in
     subst AtomFine (got-is (b .2)) (record { short = z .few; below = λ v m. ltb-true v maxVariables (z .each v m) })
-
-pub row-short : (s : List ℕ) (r : Read Row) → row s ≡ some r → length (r .got .cells) ≤ maxColumns
-unfolding row tuple
-row-short s r e =
-    let a = next-some (byte s) _ r e in
-    let b = next-some (sized anyByte 1 maxColumns (a .0 .rest)) _ r (a .2) in
-    let z = sized-bound anyByte 1 maxColumns (a .0 .rest) (b .0) (b .1) in
-    subst (λ (x : Row). length (x .cells) ≤ maxColumns) (got-is (b .2)) (z .few)
 
 pub record AtomsFine (n : ℕ) (xs : List Atom) : Type 0 where
   pub many : length xs ≡ n

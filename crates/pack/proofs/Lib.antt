@@ -4,13 +4,7 @@ pub mod RuleReading
 pub mod Bodies
 pub mod Sizes
 pub mod Unpacking
-pub mod Walks
-pub mod Texts
-pub mod Eights
-pub mod Pairs
-pub mod Clashes
-pub mod Naming
-pub mod Atoms
 pub mod Order
 pub mod Bounds
 pub mod Computing
+pub mod Accepted

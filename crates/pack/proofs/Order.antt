@@ -1,33 +1,24 @@
 -- Laws of the checking order. Assumes nothing.
 use mathlib.Core.Bool.{true, false}
 use mathlib.Core.List.{List}
-use mathlib.Core.Option.{Option, none, some}
-use mathlib.Core.Path.{_≡_, refl}
+use mathlib.Core.Option.{none, some}
+use mathlib.Core.Path.{_≡_, sym, _∙_}
 use native.Mathlib.Omega.{arith}
 use Prim.Native.Nat.{ℕ}
 use Rattle.meaning.specs.Pack.{Pack}
 use Rattle.meaning.specs.WellFormed.{duplicates, prefixClash, dangling}
-use Rattle.pack.specs.Checked.{accepted, firstTrue, onPack, checkBy, wellFormed, numberOf}
+use Rattle.pack.specs.Checked.{Checked, accepted, refused, firstTrue, onPack, checkBy, wellFormed, numberOf}
 use Rattle.pack.specs.Contents.{badSize}
-use Rattle.pack.specs.Unpack.{unpack, isSome}
+use Rattle.pack.specs.Unpack.{unpack}
 
 pub refused-3 : (s : List ℕ) → badSize s ≡ true → 3 ≡ numberOf (wellFormed s)
 unfolding wellFormed checkBy
 refused-3 s e = rw (e, checkBy)
 
--- the pack is there, or 4
-pub there : {A : Type 0} (o : Option A) → isSome o ≡ true → (a : A) × (o ≡ some a)
-there none e = absurd (let z : _≡_ {A = ℕ} 0 1 = cc in omega arith)
-there (some a) e = (a, refl)
-
-not-there : {A : Type 0} (o : Option A) → isSome o ≡ false → o ≡ none
-not-there none e = refl
-not-there (some a) e = absurd (let z : _≡_ {A = ℕ} 0 1 = cc in omega arith)
-
 module _ (s : List ℕ) (size : badSize s ≡ false) where
-  pub refused-4 : isSome (unpack s) ≡ false → 4 ≡ numberOf (wellFormed s)
+  pub refused-4 : unpack s ≡ none → 4 ≡ numberOf (wellFormed s)
   unfolding wellFormed checkBy onPack
-  refused-4 e = rw (size, checkBy, not-there (unpack s) e)
+  refused-4 e = rw (size, checkBy, e)
 
   module _ (P : Pack) (read : unpack s ≡ some P) where
     pub refused-5 : duplicates P ≡ true → 5 ≡ numberOf (wellFormed s)
@@ -48,3 +39,15 @@ module _ (s : List ℕ) (size : badSize s ≡ false) where
 
     pub accepted-number : duplicates P ≡ false → prefixClash P ≡ false → dangling P ≡ false → 0 ≡ numberOf (wellFormed s)
     accepted-number a b e = rw (accepted-is a b e)
+
+-- ---- a pack is refused by one number, or accepted as one pack
+
+module _ {c : Checked} where
+  pub one-pack : {P Q : Pack} → c ≡ accepted P → c ≡ accepted Q → P ≡ Q
+  one-pack {P} {Q} x y = let z : _≡_ {A = Checked} (accepted P) (accepted Q) = sym x ∙ y in cc
+
+  pub one-number : {k m : ℕ} → c ≡ refused k → c ≡ refused m → k ≡ m
+  one-number {k} {m} x y = let z : _≡_ {A = Checked} (refused k) (refused m) = sym x ∙ y in cc
+
+  pub not-both : {X : Type 0} {k : ℕ} {P : Pack} → c ≡ refused k → c ≡ accepted P → X
+  not-both {k = k} {P = P} x y = let z : _≡_ {A = Checked} (refused k) (accepted P) = sym x ∙ y in absurd (let w : _≡_ {A = ℕ} 0 1 = cc in omega arith)

@@ -1,64 +1,29 @@
 -- Laws of readers at a cursor: what one step, and one step after another, gives. Assumes nothing.
+use Rattle.meaning.proofs.Cases.{case-on}
+use Rattle.meaning.proofs.Lists.Parts.{drop-slice, slice-front, take-slice}
 use borrow.Author.Tests.{ltb-true, ltb-false, leb-true}
 use lib.Dec.{leb, ltb}
 use lib.ListN.{length, take, drop, getD}
-use lib.Seq.{slice, slice-cons, slice-empty, length-slice, drop-drop, take-take}
+use lib.Seq.{slice, slice-empty, length-slice}
 use mathlib.Core.Bool.{Bool, true, false, _&&_}
 use mathlib.Core.List.{List, [], _∷_}
 use mathlib.Core.Option.{Option, none, some, Option·some-injective}
 use mathlib.Core.Path.{_≡_, refl, sym, ap, subst, _∙_}
-use native.Mathlib.Nat.{zero-add, suc-add, not-suc-le-zero, le-of-suc-le-suc}
-use native.Mathlib.Numerals.{add-one}
+use native.Mathlib.Nat.{not-suc-le-zero, le-of-suc-le-suc}
 use native.Mathlib.Omega.{arith}
 use Prim.Native.Nat.{ℕ, zero, suc, _+_, _-_, _≤_, _<_}
 use Rattle.meaning.specs.Tests.{within, every}
 use Rattle.pack.specs.Readers.{Read, Reader, give, only, next, _>>=_, byte, byteIn, bytes, sized}
-use Rattle.pack.specs.Records.{tuple, dependency, shape, constructor}
-use Rattle.pack.specs.Shown.{left, Placed, Got, Not, textAt, ByteShown, TextGot, TextShown, TupleGot, TupleShown, DependencyShown, ShapeGot, ShapeShown, ConstructorGot, ConstructorShown, Pair, pair}
+use Rattle.pack.specs.Records.{tuple, shape}
+use Rattle.pack.specs.Shown.{left, Placed, Got, Not, textAt, ByteShown, TextGot, TextShown, TupleGot, TupleShown, ShapeGot, Pair, pair}
 use Rattle.pack.specs.declared.cursor.Cursor.{Cursor}
 use Rattle.pack.specs.declared.cursor.Tuple.{Tuple}
 use Rattle.pack.specs.declared.cursor.ByteRead.{ByteRead}
 use Rattle.pack.specs.declared.cursor.ByteRead.the-variants.{Byte, Bad as NoByte}
 use Rattle.pack.specs.declared.cursor.TextRead.{TextRead}
 use Rattle.pack.specs.declared.cursor.TextRead.the-variants.{Text, Bad as NoText}
-use Rattle.pack.specs.declared.cursor.DependencyRead.{DependencyRead}
-use Rattle.pack.specs.declared.cursor.DependencyRead.the-variants.{Dependency as ADependency, Bad as NoDependency}
-use Rattle.pack.specs.declared.cursor.ShapeRead.{ShapeRead}
-use Rattle.pack.specs.declared.cursor.ShapeRead.the-variants.{Shape as AShape, Bad as NoShape}
-use Rattle.pack.specs.declared.cursor.ConstructorRead.{ConstructorRead}
-use Rattle.pack.specs.declared.cursor.ConstructorRead.the-variants.{Constructor as AConstructor, Bad as NoConstructor}
 use Rattle.pack.specs.declared.cursor.TupleRead.{TupleRead}
 use Rattle.pack.specs.declared.cursor.TupleRead.the-variants.{Tuple as ATuple, Bad as NoTuple}
-
-pub case-on : {P : Type 0} (b : Bool) → (b ≡ true → P) → (b ≡ false → P) → P
-case-on true f g = f refl
-case-on false f g = g refl
-
-pub and-both : (a b : Bool) → (a && b) ≡ true → (a ≡ true) × (b ≡ true)
-and-both true b h = (refl, h)
-and-both false b h = absurd (let z : _≡_ {A = ℕ} 0 1 = cc in omega arith)
-
--- ---- parts of a list
-
-module _ {A : Type 0} where
-  take-drop : (n f : ℕ) (l : List A) → take n (drop f l) ≡ drop f (take (f + n) l)
-  take-drop n zero l = ap (λ (k : ℕ). take k l) (sym (zero-add n))
-  take-drop zero (suc f) [] = rw suc-add
-  take-drop (suc n) (suc f) [] = rw suc-add
-  take-drop n (suc f) (x ∷ l) = rw suc-add (take-drop n f l)
-
-  -- a part by its start and length
-  pub slice-by : (f n : ℕ) (l : List A) → take n (drop f l) ≡ slice f (f + n) l
-  slice-by f n l = take-drop n f l
-
-  pub take-slice : (n f t : ℕ) (l : List A) → f + n ≤ t → take n (slice f t l) ≡ slice f (f + n) l
-  take-slice n f t l h = take-drop n f (take t l) ∙ ap (drop f) (take-take (f + n) t l h)
-
-  pub drop-slice : (n f t : ℕ) (l : List A) → drop n (slice f t l) ≡ slice (f + n) t l
-  drop-slice n f t l = drop-drop n f (take t l)
-
-  pub slice-front : (f t : ℕ) (l : List A) (d : A) → f < t → t ≤ length l → slice f t l ≡ getD l f d ∷ slice (f + 1) t l
-  slice-front f t l d h k = rw add-one (slice-cons f t l d h k)
 
 pub length-at : (s : List ℕ) (start len : ℕ) → start + len ≤ length s → length (textAt s start len) ≡ len
 length-at s start len h = omega (arith, length-slice start (start + len) s h)
@@ -245,27 +210,6 @@ module _ {reader : Reader (List ℕ)} {s : List ℕ} {c : Cursor} {r : TextRead}
 
   pub no-text : r ≡ NoText → TextShown reader s c r → Not reader s c
   no-text e h = subst (λ (q : TextRead). TextShown reader s c q) e h
-
-module _ {s : List ℕ} {c : Cursor} {r : DependencyRead} where
-  pub as-dependency : {k x y : ℕ} {d : Cursor} → r ≡ ADependency k x y d → DependencyShown s c r → Got dependency s c (record { relation = k; left = x; right = y }) d
-  as-dependency e h = subst (λ (q : DependencyRead). DependencyShown s c q) e h
-
-  pub no-dependency : r ≡ NoDependency → DependencyShown s c r → Not dependency s c
-  no-dependency e h = subst (λ (q : DependencyRead). DependencyShown s c q) e h
-
-module _ {s : List ℕ} {c : Cursor} {r : ShapeRead} where
-  pub as-shape : {t p x m : ℕ} {d : Cursor} → r ≡ AShape t p x m d → ShapeShown s c r → ShapeGot s c t p x m d
-  as-shape e h = subst (λ (q : ShapeRead). ShapeShown s c q) e h
-
-  pub no-shape : r ≡ NoShape → ShapeShown s c r → Not shape s c
-  no-shape e h = subst (λ (q : ShapeRead). ShapeShown s c q) e h
-
-module _ {s : List ℕ} {c : Cursor} {r : ConstructorRead} where
-  pub as-constructor : {k start len : ℕ} {d : Cursor} → r ≡ AConstructor k start len d → ConstructorShown s c r → ConstructorGot s c k start len d
-  as-constructor e h = subst (λ (q : ConstructorRead). ConstructorShown s c q) e h
-
-  pub no-constructor : r ≡ NoConstructor → ConstructorShown s c r → Not constructor s c
-  no-constructor e h = subst (λ (q : ConstructorRead). ConstructorShown s c q) e h
 
 module _ {A : Type 0} {make : ℕ → List ℕ → A} {reader : Reader A} {s : List ℕ} {c : Cursor} {r : TupleRead} where
   pub as-tuple : {t : Tuple} {d : Cursor} → r ≡ ATuple t d → TupleShown make reader s c r → TupleGot make reader s c t d

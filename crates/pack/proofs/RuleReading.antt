@@ -10,7 +10,7 @@ use Rattle.meaning.specs.Pack.{Atom}
 use Rattle.meaning.specs.Tests.{within}
 use Rattle.pack.specs.Readers.{Reader, byte, byteIn}
 use Rattle.pack.specs.Records.{atom, atomOf, atoms, term, termOf, headOf, rule}
-use Rattle.pack.specs.Shown.{Placed, Got, Not, TupleGot, Skipped, MovedShown, HeadGot, HeadShown, RuleGot, RuleShown, made}
+use Rattle.pack.specs.Shown.{Placed, Got, Not, TupleGot, Skipped, MovedShown, HeadGot, HeadShown, RuleGot, made}
 use Rattle.pack.specs.declared.cursor.Cursor.{Cursor}
 use Rattle.pack.specs.declared.cursor.Tuple.{Tuple}
 use Rattle.pack.specs.declared.cursor.Moved.{Moved}
@@ -18,8 +18,6 @@ use Rattle.pack.specs.declared.cursor.Moved.the-variants.{To, Stuck}
 use Rattle.pack.specs.declared.cursor.HeadRead.{HeadRead}
 use Rattle.pack.specs.declared.cursor.HeadRead.the-variants.{Head as AHead, Bad as NoHead}
 use Rattle.pack.proofs.Reading.{byte-in-bound, then-got, then-not, then-bad, give-got, only-got, only-not}
-use Rattle.pack.specs.declared.cursor.RuleRead.{RuleRead}
-use Rattle.pack.specs.declared.cursor.RuleRead.the-variants.{Rule as ARule, Bad as NoRule}
 
 pub as-moved : {A : Type 0} {reader : Reader A} {s : List ℕ} {c : Cursor} {r : Moved} {d : Cursor} → r ≡ To d → MovedShown reader s c r → Skipped reader s c d
 as-moved {reader} {s} {c} e h = subst (λ (q : Moved). MovedShown reader s c q) e h
@@ -175,11 +173,3 @@ rule-no-atoms a b = then-bad _ a (then-not _ b)
 pub rule-not : {s : List ℕ} {c : Cursor} → Not (byteIn 1 maxAtoms) s c → Not rule s c
 unfolding rule
 rule-not a = then-not _ a
-
-module _ {s : List ℕ} {c : Cursor} {r : RuleRead} where
-  pub as-rule : {n : ℕ} {first : Cursor} {kind : ℕ} {t : Tuple} {l : ℕ} {u : Tuple} {d : Cursor} → r ≡ ARule n first kind t l u d → RuleShown s c r
-      → RuleGot s c n first kind t l u d
-  as-rule e h = subst (λ (q : RuleRead). RuleShown s c q) e h
-
-  pub no-rule : r ≡ NoRule → RuleShown s c r → Not rule s c
-  no-rule e h = subst (λ (q : RuleRead). RuleShown s c q) e h

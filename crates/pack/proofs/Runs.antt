@@ -8,7 +8,7 @@ use native.Mathlib.Omega.{arith}
 use Prim.Native.Nat.{ℕ, _+_, _≤_, _<_}
 use Rattle.meaning.specs.Tests.{every, any}
 use Rattle.pack.specs.Records.{anyByte}
-use Rattle.pack.proofs.Reading.{slice-front}
+use Rattle.meaning.proofs.Lists.Parts.{slice-front}
 
 -- every byte from at to i passes, so the run passes where the rest does
 pub record Passing (ok : ℕ → Bool) (s : List ℕ) (at i end : ℕ) : Type 0 where

@@ -1,11 +1,11 @@
 -- Laws of the contents. Assumes nothing.
+use Rattle.meaning.proofs.Cases.{and-both}
 use borrow.Author.Tests.{leb-true, eqb-true, not-false}
 use lib.Dec.{leb, eqb}
 use lib.ListN.{length}
 use lib.Seq.{slice}
 use mathlib.Core.Bool.{false}
 use mathlib.Core.List.{List}
-use mathlib.Core.Option.{some}
 use mathlib.Core.Path.{_≡_, refl, sym, ap, _∙_}
 use native.Mathlib.Nat.{add-zero, le-refl}
 use native.Mathlib.Numerals.{add-one}
@@ -14,11 +14,8 @@ use Prim.Native.Nat.{ℕ, zero, suc, _+_, _*_, _-_, _≤_, _<_}
 use Rattle.meaning.specs.Limits.{bodies, contentsBytes, maxPackBytes}
 use Rattle.meaning.specs.Tests.{within}
 use Rattle.pack.specs.Contents.{word, lengthOf, startOf, bodyOf, badSize}
-use Rattle.pack.specs.Readers.{Reader}
-use Rattle.pack.specs.Shown.{left, BodyAt}
-use Rattle.pack.specs.Unpack.{readAll}
-use Rattle.pack.specs.declared.cursor.Cursor.{Cursor}
-use Rattle.pack.proofs.Reading.{and-both, slice-by}
+use Rattle.pack.specs.Shown.{BodyAt}
+use Rattle.meaning.proofs.Lists.Parts.{slice-by}
 
 -- the lengths before i are added
 pub record Summed (s : List ℕ) (i at : ℕ) : Type 0 where
@@ -78,7 +75,3 @@ body-at s k z h = record {
 
 pub body-from : (s : List ℕ) (k : ℕ) {a e : ℕ} → badSize s ≡ false → k < bodies → a ≡ startOf s k → e ≡ startOf s (k + 1) → BodyAt s k (record { at = a; end = e })
 body-from s k z h p q = rw (p, q) (body-at s k (size-is s z) h)
-
-pub in-body : {A : Type 0} (reader : Reader A) {s : List ℕ} {k : ℕ} {c : Cursor} {xs : List A} → BodyAt s k c → readAll reader (bodyOf s k) ≡ some xs
-    → readAll reader (left s c) ≡ some xs
-in-body reader b e = rw (b .is) e

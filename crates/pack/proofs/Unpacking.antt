@@ -2,41 +2,22 @@
 use borrow.Author.Tests.{leb-true}
 use lib.Dec.{leb}
 use lib.ListN.{length}
-use mathlib.Core.Bool.{Bool, true, false, _&&_}
+use mathlib.Core.Bool.{Bool, true, false}
 use mathlib.Core.List.{List}
 use mathlib.Core.Option.{Option, none, some, Option·some-injective}
-use mathlib.Core.Path.{_≡_, refl, sym, ap, subst}
+use mathlib.Core.Path.{_≡_, refl, ap, subst}
 use native.Mathlib.Omega.{arith}
 use Prim.Native.Nat.{ℕ, _≤_}
 use Rattle.meaning.specs.Limits.{maxValues, maxRelations, maxDependencies, maxTypes, maxPredicates, maxShapes, maxConstructors, maxRules, maxRows}
 use Rattle.meaning.specs.Pack.{Pack}
 use Rattle.pack.specs.Contents.{bodyOf}
-use Rattle.pack.specs.Kinds.{tally}
 use Rattle.pack.specs.Readers.{Reader}
 use Rattle.pack.specs.Records.{value, relation, dependency, name, shape, constructor, rule, row}
-use Rattle.pack.specs.Unpack.{readAll, atMost, body, unpack, isSome, _then_}
+use Rattle.pack.specs.Unpack.{readAll, atMost, body, unpack, _then_}
 
 -- ---- a body, by the count of its records
 
 module _ {A : Type 0} (reader : Reader A) (limit : ℕ) (s : List ℕ) where
-  pub body-counted : (n : ℕ) → tally 0 (readAll reader s) ≡ some n → leb n limit ≡ isSome (body reader limit s)
-  unfolding body
-  body-counted n = go (readAll reader s)
-    where
-      cut : (b : Bool) (xs : List A) → leb (length xs) limit ≡ b → b ≡ isSome (atMost limit (some xs))
-      cut true xs e = rw (e, atMost)
-      cut false xs e = rw (e, atMost)
-
-      go : (o : Option (List A)) → tally 0 o ≡ some n → leb n limit ≡ isSome (atMost limit o)
-      go none e = absurd (let z : _≡_ {A = ℕ} 0 1 = cc in omega arith)
-      go (some xs) e =
-          let k : n ≡ length xs = omega (arith, Option·some-injective _ _ e) in
-          rw k (cut (leb (length xs) limit) xs refl)
-
-  pub body-broken : readAll reader s ≡ none → false ≡ isSome (body reader limit s)
-  unfolding body
-  body-broken e = rw e
-
   -- the records of a body that is there
   pub body-records : (xs : List A) → body reader limit s ≡ some xs → (readAll reader s ≡ some xs) × (length xs ≤ limit)
   unfolding body
@@ -55,35 +36,9 @@ module _ {A : Type 0} (reader : Reader A) (limit : ℕ) (s : List ℕ) where
 -- ---- the bodies
 
 module _ {A B : Type 0} where
-  then-is : (o : Option A) (f : A → Option B) (c : Bool) → ((a : A) → isSome (f a) ≡ c) → isSome (o then f) ≡ (isSome o && c)
-  then-is none f c h = refl
-  then-is (some a) f c h = h a
-
   then-some : (o : Option A) (f : A → Option B) (b : B) → (o then f) ≡ some b → (a : A) × (o ≡ some a) × (f a ≡ some b)
   then-some none f b h = absurd (let z : _≡_ {A = ℕ} 0 1 = cc in omega arith)
   then-some (some a) f b h = (a, refl, h)
-
-pub and-end : (b : Bool) → b ≡ (b && true)
-and-end true = refl
-and-end false = refl
-
--- which bodies are there
-abbrev pub There : List ℕ → Bool
-There s =
-    isSome (body value maxValues (bodyOf s 0)) && (isSome (body relation maxRelations (bodyOf s 1))
-    && (isSome (body dependency maxDependencies (bodyOf s 2)) && (isSome (body name maxTypes (bodyOf s 3))
-    && (isSome (body name maxPredicates (bodyOf s 4)) && (isSome (body shape maxShapes (bodyOf s 5))
-    && (isSome (body constructor maxConstructors (bodyOf s 6)) && (isSome (body rule maxRules (bodyOf s 7))
-    && (isSome (body row maxRows (bodyOf s 8)) && true))))))))
-
-pub unpack-there : (s : List ℕ) → There s ≡ isSome (unpack s)
-unfolding unpack
-unpack-there s =
-    sym (then-is (body value maxValues (bodyOf s 0)) _ _ (λ a. then-is (body relation maxRelations (bodyOf s 1)) _ _ (λ b.
-    then-is (body dependency maxDependencies (bodyOf s 2)) _ _ (λ c. then-is (body name maxTypes (bodyOf s 3)) _ _ (λ d.
-    then-is (body name maxPredicates (bodyOf s 4)) _ _ (λ e. then-is (body shape maxShapes (bodyOf s 5)) _ _ (λ f.
-    then-is (body constructor maxConstructors (bodyOf s 6)) _ _ (λ g. then-is (body rule maxRules (bodyOf s 7)) _ _ (λ h.
-    then-is (body row maxRows (bodyOf s 8)) _ _ (λ i. refl))))))))))
 
 -- ---- the parts of a decoded pack
 

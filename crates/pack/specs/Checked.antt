@@ -2,6 +2,7 @@
 use mathlib.Core.Bool.{Bool, true, false}
 use mathlib.Core.List.{List, [], _∷_}
 use mathlib.Core.Option.{Option, none, some}
+use mathlib.Core.Path.{_≡_}
 use Prim.Native.Nat.{ℕ}
 use Rattle.meaning.specs.Pack.{Pack}
 use Rattle.meaning.specs.WellFormed.{duplicates, prefixClash, dangling, broken}
@@ -41,3 +42,7 @@ firstRefusal = checkBy ((5, duplicates) ∷ (6, prefixClash) ∷ (7, dangling) �
 abbrev pub numberOf : Checked → ℕ
 numberOf (refused n) = n
 numberOf (accepted P) = 0
+
+-- What holds of the pack that the bytes are, where they are a well-formed one.
+abbrev pub OfPack : List ℕ → (Pack → Type 0) → Type 0
+OfPack s Q = (P : Pack) → wellFormed s ≡ accepted P → Q P

@@ -5,7 +5,4 @@ pub mod Unpack
 pub mod Checked
 pub mod Classes
 pub mod Shown
-pub mod Places
 pub mod Kinds
-pub mod Keys
-pub mod Named

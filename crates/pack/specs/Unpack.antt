@@ -1,10 +1,9 @@
 -- From bytes to the decoded pack; refusal 4 is where there is none (document 01, "The pack"). Assumes nothing.
 use lib.Dec.{leb}
 use lib.ListN.{length}
-use mathlib.Core.Bool.{Bool, true, false}
+use mathlib.Core.Bool.{true, false}
 use mathlib.Core.List.{List, [], _∷_}
 use mathlib.Core.Option.{Option, none, some}
-use mathlib.Core.Path.{_≡_}
 use Prim.Native.Nat.{ℕ, zero, suc}
 use Rattle.meaning.specs.Limits.{maxValues, maxRelations, maxDependencies, maxTypes, maxPredicates, maxShapes, maxConstructors, maxRules, maxRows}
 use Rattle.meaning.specs.Pack.{Pack}
@@ -36,10 +35,6 @@ module _ {A : Type 0} where
   unfoldable pub body : Reader A → ℕ → List ℕ → Option (List A)
   body reader limit s = atMost limit (readAll reader s)
 
-abbrev pub isSome : {A : Type 0} → Option A → Bool
-isSome none = false
-isSome (some a) = true
-
 module _ {A B : Type 0} where
   infixr 20 _then_
   abbrev pub _then_ : Option A → (A → Option B) → Option B
@@ -63,11 +58,3 @@ unpack s =
       setting = record { values = vs; arities = ks; dependencies = ds; types = ts; predicates = ps; shapes = ss; constructors = cs; rules = us };
       rows = ws;
     })
-
--- It holds of the records of a body, where they are whole.
-abbrev pub Listed : {A : Type 0} → Reader A → List ℕ → (List A → Type 0) → Type 0
-Listed {A} reader s Q = (xs : List A) → readAll reader s ≡ some xs → Q xs
-
--- It holds of the decoded pack, where there is one.
-abbrev pub Decoded : List ℕ → (Pack → Type 0) → Type 0
-Decoded s Q = (P : Pack) → unpack s ≡ some P → Q P

@@ -7,7 +7,7 @@ use mathlib.Core.Logic.{_↔_}
 use mathlib.Core.Option.{some}
 use mathlib.Core.Path.{_≡_, refl, sym, subst}
 use Prim.Native.Nat.{ℕ}
-use Rattle.access.proofs.Accepted.{well-formed}
+use Rattle.pack.proofs.Accepted.{well-formed}
 use Rattle.evaluate.proofs.InLists.{formed, some-graph}
 use Rattle.meaning.proofs.Lists.Places.{placed}
 use Rattle.meaning.proofs.Theory.Theorem.{certain-pairs-all}

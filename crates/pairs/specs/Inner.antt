@@ -5,7 +5,7 @@ use Prim.Native.Nat.{ℕ}
 use Rattle.calls.specs.Call.{Contents, LongEnough, Outcome, _becomes_}
 use Rattle.construct.specs.Outcome.{counted}
 use Rattle.construct.specs.declared.Constructed.{Constructed}
-use Rattle.evaluate.specs.Answered.{Ready}
+use Rattle.evaluate.specs.Answered.{ForReady, IsReady}
 use Rattle.meaning.specs.Pack.{Text}
 use Rattle.pairs.specs.Answer.{Gives, Refuses, buffers, lists}
 use Rattle.pairs.specs.declared.PairAnswer.{PairAnswer}
@@ -20,10 +20,15 @@ Room nodes triples pairs rows heads alive queue seen =
 abbrev pub ListRoom : List ℕ → List ℕ → List ℕ → Type 0
 ListRoom nodes triples pairs = LongEnough (lists (nodes becomes nodes) (triples becomes triples) (pairs becomes pairs))
 
--- A pack's graph, counted, stands in two lists, and the query's parts in the tree.
-pub record CountedGraph (pack query : Text) (tree : List ℕ) (parts : ℕ) (g : Constructed) (points links : List ℕ) : Type 0 where
-  pub ready : Ready pack query tree parts points (g .nodes) links (g .triples)
-  pub counts : g ≡ counted (g .nodes) (g .triples)
+module _ (tree : List ℕ) (parts : ℕ) (wanted : List ℕ) (g : Constructed) (points links : List ℕ) where
+  -- A pack's graph, counted, stands in two lists, ready for a query.
+  pub record CountedGraph : Type 0 where
+    pub ready : IsReady tree parts wanted points (g .nodes) links (g .triples)
+    pub counts : g ≡ counted (g .nodes) (g .triples)
+
+  -- What holds of every pack and query that it is ready for.
+  abbrev pub ForCounted : (Text → Text → Type 0) → Type 0
+  ForCounted = ForReady tree parts wanted points (g .nodes) links (g .triples)
 
 -- 2 to 12, or the graph and the pairs
 abbrev pub Comes : Text → Text → PairAnswer → Contents → Contents → Contents → Type 0

@@ -2,13 +2,14 @@
 ghost use Rattle.calls.specs.Call.{lent};
 ghost use Rattle.pair_list.specs.Written.{TableRoom};
 ghost use Rattle.pairs.specs.Answer.{Answers};
-ghost use Rattle.pairs.specs.Inner.{CountedGraph, Comes, ListRoom, Room};
+ghost use Rattle.pairs.specs.Inner.{Comes, CountedGraph, ForCounted, ListRoom, Room};
 use answers::pairs::Pairs;
 use calls::long_enough;
 use construct::Constructed;
 use construct::refused;
 use meaning::HEADS_LENGTH;
 use meaning::MAX_PAIRS;
+use meaning::MAX_PARTS;
 use meaning::MAX_QUERY_BYTES;
 use meaning::MAX_STATES;
 use meaning::NODE_LIST_LENGTH;
@@ -32,10 +33,9 @@ pub struct PairAnswer {
 // The answer in a graph whose nodes and triples stand in `points` and `links`, lists of the call's own: 12, or the graph and
 // its pairs are written into the lent lists.
 fn in_lists(
-    pack: &[u8],
-    query: &[u8],
     tree: &[u32],
     parts: usize,
+    wanted: &[u16],
     graph: Constructed,
     points: &[u16],
     links: &[u16],
@@ -46,17 +46,17 @@ fn in_lists(
     queue: &mut [u32],
     seen: &mut [u16],
 ) -> PairAnswer
-    requires { ⌜ CountedGraph (now pack) (now query) (now tree) parts graph (now points) (now links) × ListRoom (now nodes) (now triples) (now pairs) × TableRoom (now alive) (now queue) (now seen) ⌝ }
-    ensures { λ r. ⌜ Comes (now (pack .entry)) (now (query .entry)) r (lent nodes) (lent triples) (lent pairs) ⌝ }
+    requires { ⌜ CountedGraph (now tree) parts (now wanted) graph (now points) (now links) × ListRoom (now nodes) (now triples) (now pairs) × TableRoom (now alive) (now queue) (now seen) ⌝ }
+    ensures { λ r. ⌜ ForCounted (now (tree .entry)) parts (now (wanted .entry)) graph (now (points .entry)) (now (links .entry))
+        (λ pack query. Comes pack query r (lent nodes) (lent triples) (lent pairs)) ⌝ }
 {
     let mut found = [0u32; MAX_PAIRS];
     let n = graph.nodes;
     let t = graph.triples;
     match find_pairs(
-        pack,
-        query,
         tree,
         parts,
+        wanted,
         points,
         n,
         links,
@@ -94,18 +94,27 @@ fn answer(
     ensures { λ r. ⌜ Comes (now (pack .entry)) (now (query .entry)) r (lent nodes) (lent triples) (lent pairs) ⌝ }
 {
     let mut tree = [0u32; MAX_QUERY_BYTES];
+    let mut wanted = [0u16; MAX_PARTS];
     let mut points = [0u16; NODE_LIST_LENGTH];
     let mut links = [0u16; TRIPLE_LIST_LENGTH];
-    let prepared = prepare(pack, query, &mut tree, &mut points, &mut links, rows, heads);
+    let prepared = prepare(
+        pack,
+        query,
+        &mut tree,
+        &mut wanted,
+        &mut points,
+        &mut links,
+        rows,
+        heads,
+    );
     let graph = prepared.graph;
     if graph.refusal != 0 {
         return PairAnswer { graph, pairs: 0 };
     }
     in_lists(
-        pack,
-        query,
         &tree[..],
         prepared.parts,
+        &wanted[..],
         graph,
         &points[..],
         &links[..],

@@ -9,13 +9,14 @@ use Rattle.construct.proofs.Decide.{refuses-some}
 use Rattle.construct.specs.Outcome.{Constructs, refusedAs}
 use Rattle.construct.specs.declared.Constructed.{Constructed}
 use Rattle.graph.specs.Fronts.{graphLists}
-use Rattle.meaning.specs.Limits.{maxQueryBytes}
+use Rattle.meaning.specs.Limits.{maxQueryBytes, nodeListLength}
 use Rattle.meaning.specs.Pack.{Text}
 use Rattle.prepare.specs.Prepared.{Gives, Prepares, Readied, Refuses, no-graph, no-query}
 use Rattle.prepare.specs.declared.Prepared.{Prepared}
 use Rattle.query.specs.Answer.{Answered, HoldsQuery}
 use Rattle.query.specs.declared.Query.the-variants.{NoExpression, Parts}
 use Rattle.query.specs.declared.Query.{Query}
+use Rattle.resolve.specs.Listed.{Roomy}
 
 -- ---- what the code finds
 
@@ -27,17 +28,25 @@ not-read q query tree nodes triples a e h k = refuses (no-query (subst (λ y. An
 pub as-held : (q : Query) (query tree : List ℕ) {n : ℕ} → Answered q query tree → q ≡ Parts n → HoldsQuery query tree n
 as-held q query tree a e = subst (λ x. Answered x query tree) e a
 
+pub not-0 : {g : Constructed} → g ≡ refusedAs 2 → g .refusal ≡ 0 → ⊥
+not-0 q z = let w = ap (λ (c : Constructed). c .refusal) q in omega arith
+
 -- 3 to 11, or the graph
 pub built : {pack query : Text} {tree : List ℕ} {g : Constructed} {n : ℕ} (nodes triples : Contents) → HoldsQuery query tree n → maxQueryBytes ≤ length tree → Constructs pack g nodes triples
     → Prepares pack query tree (record { graph = g; parts = n }) nodes triples
 built nodes triples h l (refuses x k) = refuses (no-graph (h .expression) (h .query) x) k
 built nodes triples h l (gives fs G w) = gives fs (record { graph = G; held = h; room = let a = h .few in let b = h .query .fits in omega arith }) w
 
+-- the node list has room for its nodes
+pub roomy : {pack : Text} {g : Constructed} (nodes triples : Contents) → Constructs pack g nodes triples → g .refusal ≡ 0 → nodeListLength ≤ length (nodes .after) → Roomy (nodes .after) (g .nodes)
+roomy nodes triples (refuses x k) z l = absurd (refuses-some x z)
+roomy nodes triples (gives fs G w) z l = record { room = l; few = let h = G .has .graph .few-nodes in omega arith }
+
 -- ---- what the number says
 
 module _ {pack query : Text} where
   some-number : {g : Constructed} → Refuses pack query g → g .refusal ≡ 0 → ⊥
-  some-number (no-query x q) z = let w = ap (λ (c : Constructed). c .refusal) q in omega arith
+  some-number (no-query x q) z = not-0 q z
   some-number (no-graph e i x) z = refuses-some x z
 
   module _ {tree : List ℕ} {p : Prepared} (nodes triples : Contents) where

@@ -14,6 +14,7 @@ use Rattle.meaning.specs.Pack.{Text}
 use Rattle.meaning.specs.Query.{Expr}
 use Rattle.prepare.specs.declared.Prepared.{Prepared}
 use Rattle.query.specs.Answer.{HoldsQuery, Refusal2}
+use Rattle.resolve.specs.Wanted.{OfGraph, Wanted}
 
 -- 2, or 3 to 11
 pub data Refuses (pack query : Text) (g : Constructed) : Type 0 where
@@ -34,3 +35,8 @@ pub record Readied (pack query : Text) (tree : List ℕ) (p : Prepared) (fronts 
 
 abbrev pub Prepares : Text → Text → List ℕ → Prepared → Contents → Contents → Type 0
 Prepares pack query tree p nodes triples = Outcome (λ x. Refuses pack query (x .graph)) (Readied pack query tree) p (graphLists nodes triples)
+
+-- Where nothing is refused, the number that each part wants is written: of a predicate, or of a node by its place.
+abbrev pub ResolvedIf : Text → Text → List ℕ → Prepared → List ℕ → List ℕ → Type 0
+ResolvedIf pack query tree p nodes wanted =
+    p .graph .refusal ≡ 0 → OfGraph pack nodes (p .graph .nodes) (λ P inOrder. Wanted P inOrder query tree (p .parts) wanted)

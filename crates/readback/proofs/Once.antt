@@ -1,26 +1,14 @@
--- What read-back answers is fixed by the bytes of the pack and of the text: two answers to the same bytes are equal
--- (`answers-once`). Before it, that a pack is refused or accepted, and is one pack. Assumes nothing.
+-- What read-back answers is fixed by the bytes of the pack and of the text: two answers to the same bytes are equal. Assumes
+-- nothing.
 use mathlib.Core.Path.{_≡_, sym, ap, subst, _∙_}
-use native.Mathlib.Omega.{arith}
-use Prim.Native.Nat.{ℕ}
-use Rattle.access.proofs.Accepted.{well-formed}
-use Rattle.meaning.specs.Pack.{Pack, Text}
-use Rattle.pack.specs.Checked.{Checked, accepted, refused}
+use Rattle.pack.proofs.Accepted.{well-formed}
+use Rattle.pack.proofs.Order.{not-both, one-number, one-pack}
+use Rattle.meaning.specs.Pack.{Text}
 use Rattle.readback.specs.Answer.{Answers, iri, no-iri, not-well-formed, unreadAs, term}
 use Rattle.readback.specs.declared.ReadBack.{ReadBack}
 use Rattle.spelling.proofs.Injective.{segment-writes}
 use Rattle.spelling.proofs.Reading.{reads-back-once}
 use Rattle.spelling.specs.ReadBack.{ReadsBack}
-
-module _ {c : Checked} where
-  pub one-pack : {P Q : Pack} → c ≡ accepted P → c ≡ accepted Q → P ≡ Q
-  one-pack {P} {Q} x y = let z : _≡_ {A = Checked} (accepted P) (accepted Q) = sym x ∙ y in cc
-
-  pub one-number : {k m : ℕ} → c ≡ refused k → c ≡ refused m → k ≡ m
-  one-number {k} {m} x y = let z : _≡_ {A = Checked} (refused k) (refused m) = sym x ∙ y in cc
-
-  pub not-both : {X : Type 0} {k : ℕ} {P : Pack} → c ≡ refused k → c ≡ accepted P → X
-  not-both {k = k} {P = P} x y = let z : _≡_ {A = Checked} (refused k) (accepted P) = sym x ∙ y in absurd (let w : _≡_ {A = ℕ} 0 1 = cc in omega arith)
 
 module _ {pack text : Text} {r s : ReadBack} where
   pub answers-once : Answers pack text r → Answers pack text s → r ≡ s

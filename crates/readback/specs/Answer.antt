@@ -3,12 +3,12 @@ use mathlib.Core.Bool.{cond}
 use mathlib.Core.List.{List, []}
 use mathlib.Core.Path.{_≡_}
 use Prim.Native.Nat.{ℕ}
+use Rattle.iris.specs.declared.iri.IriRead.{IriRead}
 use Rattle.meaning.specs.Limits.{unused}
 use Rattle.meaning.specs.Listing.{padded}
 use Rattle.meaning.specs.Pack.{Pack, Text}
 use Rattle.pack.specs.Checked.{wellFormed, refused, accepted}
 use Rattle.readback.specs.declared.ReadBack.{ReadBack}
-use Rattle.spelling.specs.declared.iri.IriRead.{IriRead}
 use Rattle.spelling.specs.ReadBack.{ReadsBack}
 
 -- a refusal's number, every other place unused

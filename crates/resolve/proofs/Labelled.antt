@@ -5,7 +5,7 @@ use mathlib.Core.Logic.{_↔_}
 use mathlib.Core.Option.{none, some, Option·none-ne-some, Option·some-injective}
 use mathlib.Core.Path.{_≡_, sym, ap, subst, _∙_}
 use Prim.Native.Nat.{ℕ}
-use Rattle.access.proofs.Accepted.{WellFormed}
+use Rattle.pack.proofs.Accepted.{WellFormed}
 use Rattle.meaning.specs.Built.{BuiltNode, core, invented, IsBuilt}
 use Rattle.meaning.specs.Certain.{BuiltIri, BuiltLiteral}
 use Rattle.meaning.specs.Core.{iriNode, literalNode}
@@ -20,6 +20,12 @@ use Rattle.spelling.specs.ReadBack.{readBack, findBy}
 use Rattle.spelling.specs.Segment.{segment}
 
 module _ (s : Text) (P : Pack) (f : WellFormed s P) where
+  -- a label is read as the node that is spelled so
+  read-as : (text : Text) (d : ℕ) (ws : List ℕ) → IsBuilt P (core (iriNode d ws)) → BuiltIri (plain P) P text (core (iriNode d ws)) → readBack P text ≡ some (d, ws)
+  unfolding spellingBy
+  read-as text d ws j h =
+      read-back-complete P segment-writes (f .distinct) (f .prefixFree) (some-arguments s P f) (record { term = core-in-pack P (f .named) (built-core s P f j); spelled = h })
+
   pub iri-label : (text : Text) (c : ℕ) (vs : List ℕ) → readBack P text ≡ some (c, vs) → (b : BuiltNode) → IsBuilt P b
       → BuiltIri (plain P) P text b ↔ (b ≡ core (iriNode c vs))
   unfolding spellingBy
@@ -27,15 +33,12 @@ module _ (s : Text) (P : Pack) (f : WellFormed s P) where
     where
       forth : (n : BuiltNode) → IsBuilt P n → BuiltIri (plain P) P text n → n ≡ core (iriNode c vs)
       forth (core (iriNode d ws)) j h =
-          let r : readBack P text ≡ some (d, ws) = read-back-complete P segment-writes (f .distinct) (f .prefixFree) (some-arguments s P f) (record { term = core-in-pack P (f .named) (built-core s P f j); spelled = h }) in
-          ap (λ (x : ℕ × List ℕ). core (iriNode (x .0) (x .1))) (Option·some-injective (d, ws) (c, vs) (sym r ∙ e))
+          ap (λ (x : ℕ × List ℕ). core (iriNode (x .0) (x .1))) (Option·some-injective (d, ws) (c, vs) (sym (read-as text d ws j h) ∙ e))
       forth (core (literalNode v)) j h = absurd h
       forth (invented X) j h = absurd h
 
   pub iri-unlabelled : (text : Text) → readBack P text ≡ none → (b : BuiltNode) → IsBuilt P b → BuiltIri (plain P) P text b → ⊥
-  unfolding spellingBy
-  iri-unlabelled text e (core (iriNode d ws)) j h =
-      Option·none-ne-some (d, ws) (sym e ∙ read-back-complete P segment-writes (f .distinct) (f .prefixFree) (some-arguments s P f) (record { term = core-in-pack P (f .named) (built-core s P f j); spelled = h }))
+  iri-unlabelled text e (core (iriNode d ws)) j h = Option·none-ne-some (d, ws) (sym e ∙ read-as text d ws j h)
   iri-unlabelled text e (core (literalNode v)) j h = h
   iri-unlabelled text e (invented X) j h = h
 

@@ -7,4 +7,3 @@ pub mod OneNode
 pub mod PartKinds
 pub mod Records
 pub mod Searching
-pub mod TableLaws

@@ -1,79 +1,82 @@
--- Predicates by their names: whether a text is the name of one, and that a name belongs to one at most. Assumes nothing.
+-- Predicates by their names: where the names of a loaded setting stand, and that a name belongs to one predicate at most.
+-- Assumes nothing.
 use lib.ListN.{length, take, drop, getD, getElem?}
-use lib.Seq.{slice, drop-length}
+use lib.Seq.{drop-length}
 use mathlib.Core.Bool.{Bool, true, false, _||_, false≢true}
 use mathlib.Core.List.{List, [], _∷_, _++_, append-nil}
 use mathlib.Core.Logic.{_↔_}
-use mathlib.Core.Option.{Option, some, Option·none-ne-some, Option·some-injective}
-use mathlib.Core.Path.{_≡_, refl, sym, ap, subst, _∙_}
+use mathlib.Core.Option.{some, Option·none-ne-some, Option·some-injective}
+use mathlib.Core.Path.{_≡_, sym, ap, subst, _∙_}
 use native.Mathlib.Decide.{ℕ-discrete}
 use native.Mathlib.Omega.{arith}
-use Prim.Native.Nat.{ℕ, zero, suc, _+_, _-_, _≤_, _<_}
-use Rattle.access.proofs.Accepted.{well-formed}
-use Rattle.access.specs.declared.Place.{Place}
-use Rattle.access.specs.declared.Place.the-variants.{At, Nothing}
-use Rattle.access.specs.Places.{IsWellFormed, OfPack, TextAt, TextPlaced}
+use Prim.Native.Nat.{ℕ, zero, suc, _+_, _*_, _-_, _≤_, _<_}
+use Rattle.checks.specs.Checked.{SettingLoaded}
+use Rattle.iris.proofs.Loaded.{holds, lent}
+use Rattle.records.specs.Numbers.{TextAt}
+use Rattle.meaning.proofs.Lists.Places.{there-is}
 use Rattle.meaning.specs.Graph.{Called}
-use Rattle.meaning.specs.Limits.{maxPredicates, unused}
+use Rattle.meaning.specs.Limits.{maxPredicates, predicatesAt, textWidth, unused}
 use Rattle.meaning.specs.Pack.{Pack, Text}
 use Rattle.meaning.specs.Tests.{anyTwo, sameText, begins}
 use Rattle.meaning.specs.WellFormed.{duplicates, sameCell}
-use Rattle.pack.proofs.Reading.{length-at, slice-by}
-use Rattle.pack.proofs.Unpacking.{unpacked}
-use Rattle.pack.specs.Checked.{wellFormed, accepted}
-use Rattle.pack.specs.Unpack.{Decoded}
+use Rattle.names.proofs.Counted.{count-at, held-at}
+use Rattle.meaning.proofs.Lists.Parts.{first-at, number-at}
+use Rattle.pack.proofs.Accepted.{well-formed}
+use Rattle.pack.specs.Checked.{OfPack}
 use Rattle.resolve.specs.Wanted.{PredicateIs}
 use Rattle.spelling.proofs.Texts.{or-false, eq-same, begins-append, begins-rest, one-place, getElem-below}
 
--- ---- a text by its place
+-- ---- the same text
+
+pub other-length : {s t : Text} → (length s ≡ length t → ⊥) → (false ≡ true) ↔ (s ≡ t)
+other-length n = (λ e. absurd (false≢true e), λ e. absurd (n (ap length e)))
 
 -- a text that begins another of its length is that text
-begins-whole : (s t : Text) → begins s t ≡ true → length s ≡ length t → s ≡ t
-begins-whole s t b e = sym (append-nil s) ∙ ap (λ (r : Text). s ++ r) (sym (ap (λ k. drop k t) e ∙ drop-length t)) ∙ begins-rest s t b
+pub same-length : {s t : Text} {b : Bool} → length s ≡ length t → b ≡ begins s t → (b ≡ true) ↔ (s ≡ t)
+same-length {s} {t} e q = (
+  (λ h. sym (append-nil s) ∙ ap (λ (r : Text). s ++ r) (sym (ap (λ k. drop k t) e ∙ drop-length t)) ∙ begins-rest s t (sym q ∙ h)),
+  (λ h. q ∙ subst (λ r. begins s r ≡ true) (append-nil s ∙ h) (begins-append s [])),
+)
 
-whole-begins : (s t : Text) → s ≡ t → begins s t ≡ true
-whole-begins s t e = subst (λ r. begins s r ≡ true) (append-nil s ∙ e) (begins-append s [])
+-- ---- the names of a loaded setting
 
-module _ (s text : Text) (o : Option Text) where
-  not-called : (b : Bool) → b ≡ false → (o ≡ some text → ⊥) → (b ≡ true) ↔ (o ≡ some text)
-  not-called b e n = (λ t. absurd (false≢true (sym e ∙ t)), λ c. absurd (n c))
+-- where the name of predicate p starts, and how many bytes it has
+abbrev pub nameStart : List ℕ → ℕ → ℕ
+nameStart numbers p = getD numbers (predicatesAt + p * textWidth) 0
 
-  module _ {start len : ℕ} (at : TextAt s o start len) where
-    placed-length : length (slice start (start + len) s) ≡ len
-    placed-length = length-at s start len (at .inside)
+abbrev pub nameLength : List ℕ → ℕ → ℕ
+nameLength numbers p = getD numbers (predicatesAt + p * textWidth + 1) 0
 
-    placed-is : o ≡ some text → slice start (start + len) s ≡ text
-    placed-is c = sym (slice-by start len s) ∙ Option·some-injective _ _ (sym (at .is) ∙ c)
+-- The name of predicate p, where its numbers say.
+pub record NameAt (s : Text) (P : Pack) (numbers : List ℕ) (p : ℕ) : Type 0 where
+  pub it : Text
+  pub listed : getElem? (P .setting .predicates) p ≡ some it
+  pub stands : TextAt s it (nameStart numbers p) (nameLength numbers p)
 
-    other-length : (len ≡ length text → ⊥) → o ≡ some text → ⊥
-    other-length n c = n (sym placed-length ∙ ap length (placed-is c))
+module _ {s counts numbers : List ℕ} (l : SettingLoaded s counts numbers) where
+  names-many : OfPack s (λ P. getD counts 4 0 ≡ length (P .setting .predicates))
+  names-many P w = count-at (holds l P w .given) 4 (omega arith)
 
-    same-length : len ≡ length text → (b : Bool) → b ≡ begins (take (start + len - start) (drop start s)) text → (b ≡ true) ↔ (o ≡ some text)
-    same-length e b q =
-        let p : b ≡ begins (slice start (start + len) s) text = q ∙ ap (λ r. begins r text) (ap (λ k. take k (drop start s)) (let z : start + len - start ≡ len = omega arith in z) ∙ slice-by start len s) in (
-          (λ t. at .is ∙ ap some (slice-by start len s ∙ begins-whole _ text (sym p ∙ t) (placed-length ∙ e))),
-          (λ c. p ∙ whole-begins _ text (placed-is c)),
-        )
+  pub names-few : getD counts 4 0 ≤ maxPredicates
+  names-few = omega (arith, names-many (l .pack) (l .is), l .given .bounds .predicates)
 
-module _ (s : Text) (p : ℕ) (r : Place) (placed : Decoded s (λ P. TextPlaced s (getElem? (P .setting .predicates) p) r)) where
-  name-at : {start len : ℕ} → r ≡ At start len → (P : Pack) → wellFormed s ≡ accepted P → TextAt s (getElem? (P .setting .predicates) p) start len
-  name-at e P a = subst (TextPlaced s (getElem? (P .setting .predicates) p)) e (placed P (well-formed s P a .read))
+  module _ {p : ℕ} (h : p < getD counts 4 0) where
+    name-at : OfPack s (λ P. NameAt s P numbers p)
+    name-at P w =
+        let q = there-is (P .setting .predicates) p (omega (arith, names-many P w)) in
+        let t = held-at (holds l P w .held .predicates) p (q .0) (q .1) in
+        let at = predicatesAt + p * textWidth in
+        record {
+          it = q .0;
+          listed = q .1;
+          stands = rw (first-at numbers _ at textWidth (t .are) (omega arith), number-at numbers _ at textWidth (t .are) 1 (omega arith)) (t .stands);
+        }
 
-  pub name-inside : IsWellFormed s → {start len : ℕ} → r ≡ At start len → start + len ≤ length s
-  name-inside w e = name-at e (w .pack) (w .is) .inside
+    pub name-place : predicatesAt + p * textWidth + 1 < length numbers
+    name-place = omega (arith, names-few, l .given .long)
 
-  module _ (text : Text) where
-    pub name-longer : {start len : ℕ} → r ≡ At start len → (len ≡ length text → ⊥) → OfPack s (λ P. (false ≡ true) ↔ Called P text p)
-    name-longer e n P a = not-called s text _ false refl (other-length s text _ (name-at e P a) n)
-
-    pub name-begins : {start len : ℕ} → r ≡ At start len → len ≡ length text → (b : Bool) → b ≡ begins (take (start + len - start) (drop start s)) text
-        → OfPack s (λ P. (b ≡ true) ↔ Called P text p)
-    name-begins e h b q P a = same-length s text _ (name-at e P a) h b q
-
-    pub name-missing : r ≡ Nothing → OfPack s (λ P. (false ≡ true) ↔ Called P text p)
-    name-missing e P a =
-        let n = subst (TextPlaced s (getElem? (P .setting .predicates) p)) e (placed P (well-formed s P a .read)) in
-        not-called s text _ false refl (λ c. Option·none-ne-some text (sym n ∙ c))
+    pub name-inside : nameStart numbers p + nameLength numbers p ≤ length s
+    name-inside = name-at (l .pack) (l .is) .stands .inside
 
 -- ---- a name belongs to one predicate at most
 
@@ -82,7 +85,7 @@ element-at [] i x d e = absurd (Option·none-ne-some x e)
 element-at (y ∷ xs) zero x d e = Option·some-injective y x e
 element-at (y ∷ xs) (suc i) x d e = element-at xs i x d e
 
-pub called-once : (P : Pack) → duplicates P ≡ false → (text : Text) (p q : ℕ) → Called P text p → Called P text q → p ≡ q
+called-once : (P : Pack) → duplicates P ≡ false → (text : Text) (p q : ℕ) → Called P text p → Called P text q → p ≡ q
 unfolding duplicates
 called-once P h text p q cp cq =
     let S = P .setting in
@@ -95,29 +98,44 @@ called-once P h text p q cp cq =
 
 -- ---- the search for it
 
-module _ (s text : Text) where
-  -- no predicate before p has the name
-  abbrev pub NotBefore : ℕ → Type 0
-  NotBefore p = OfPack s (λ P. (k : ℕ) → k < p → Called P text k → ⊥)
+-- no predicate before p has the name
+pub record NotBefore (s text : Text) (p : ℕ) : Type 0 where
+  pub none : OfPack s (λ P. (k : ℕ) → k < p → Called P text k → ⊥)
 
-  pub before-start : NotBefore 0
-  before-start P a k h c = absurd (let z : ⊥ = omega arith in z)
+pub before-start : (s text : Text) → NotBefore s text 0
+before-start s text = record { none = λ P w k h c. absurd (let z : ⊥ = omega arith in z) }
 
-  pub before-on : (p : ℕ) (b : Bool) → OfPack s (λ P. (b ≡ true) ↔ Called P text p) → b ≡ false → NotBefore p → NotBefore (p + 1)
-  before-on p b is n before P a k h c = go (ℕ-discrete k p)
-    where
-      go : Dec (k ≡ p) → ⊥
-      go (yes e) = false≢true (sym n ∙ is P a .1 (subst (Called P text) e c))
-      go (no ne) = before P a k (omega arith) c
-
-  pub named : (p : ℕ) (b : Bool) → p < maxPredicates → OfPack s (λ P. (b ≡ true) ↔ Called P text p) → b ≡ true → OfPack s (λ P. PredicateIs P text p)
-  named p b h is t P a k = (
-    (λ c. let e = called-once P (well-formed s P a .distinct) text k p c (is P a .0 t) in (omega arith, e)),
-    (λ c. subst (Called P text) (sym (c .1)) (is P a .0 t)),
-  )
-
-  pub unnamed : (p : ℕ) → maxPredicates ≤ p → NotBefore p → OfPack s (λ P. PredicateIs P text unused)
-  unnamed p h before P a k = (
-    (λ c. absurd (before P a k (omega (arith, getElem-below (P .setting .predicates) k c, unpacked s P (well-formed s P a .read) .predicates .1)) c)),
+module _ {s text counts numbers : List ℕ} {p : ℕ} (l : SettingLoaded s counts numbers) (before : NotBefore s text p) where
+  pub unnamed : getD counts 4 0 ≤ p → OfPack s (λ P. PredicateIs P text unused)
+  unnamed h P w k = (
+    (λ c. absurd (before .none P w k (omega (arith, getElem-below (P .setting .predicates) k c, names-many l P w)) c)),
     (λ c. absurd (let z : ⊥ = omega (arith, c .0, c .1) in z)),
   )
+
+  -- the test's answer on predicate p, whose name is lent by its numbers
+  module _ (h : p < getD counts 4 0) {b : Bool}
+      (e : (b ≡ true) ↔ (take (nameStart numbers p + nameLength numbers p - nameStart numbers p) (drop (nameStart numbers p) s) ≡ text)) where
+    called : OfPack s (λ P. (b ≡ true) ↔ Called P text p)
+    called P w =
+        let x = name-at l h P w in
+        let i = lent (x .stands) in (
+          (λ t. x .listed ∙ ap some (sym i ∙ e .0 t)),
+          (λ c. e .1 (i ∙ Option·some-injective _ _ (sym (x .listed) ∙ c))),
+        )
+
+    pub before-on : b ≡ false → NotBefore s text (p + 1)
+    before-on n = record { none = more }
+      where
+        more : OfPack s (λ P. (k : ℕ) → k < p + 1 → Called P text k → ⊥)
+        more P w k j c = go (ℕ-discrete k p)
+          where
+            go : Dec (k ≡ p) → ⊥
+            go (yes q) = false≢true (sym n ∙ called P w .1 (subst (Called P text) q c))
+            go (no ne) = before .none P w k (omega arith) c
+
+    pub named : b ≡ true → OfPack s (λ P. PredicateIs P text p)
+    named t P w k =
+        let here = called P w .0 t in (
+          (λ c. let q = called-once P (well-formed s P w .distinct) text k p c here in (omega (arith, names-few l), q)),
+          (λ c. subst (Called P text) (sym (c .1)) here),
+        )

@@ -6,7 +6,7 @@ use mathlib.Core.Option.{Option·some-injective}
 use mathlib.Core.Path.{_≡_, refl, sym, ap, subst, _∙_}
 use native.Mathlib.Omega.{arith}
 use Prim.Native.Nat.{ℕ, _≤_}
-use Rattle.access.proofs.Accepted.{WellFormed}
+use Rattle.pack.proofs.Accepted.{WellFormed}
 use Rattle.meaning.proofs.Lists.Members.{element}
 use Rattle.meaning.specs.Built.{BuiltNode, core, invented, IsBuilt, inCore}
 use Rattle.meaning.specs.Core.{Node, iriNode, literalNode, CoreNode}

@@ -1,12 +1,13 @@
 -- What the search of the node list finds is the node of the label. Assumes nothing.
 use lib.ListN.{length, getElem?}
-use mathlib.Core.List.{List, [], _∷_}
+use mathlib.Core.List.{List}
 use mathlib.Core.Logic.{_↔_}
 use mathlib.Core.Option.{some}
-use mathlib.Core.Path.{_≡_, refl, sym, ap, subst, _∙_}
+use mathlib.Core.Path.{_≡_, sym, ap, subst, _∙_}
 use native.Mathlib.Omega.{arith}
-use Prim.Native.Nat.{ℕ, zero, suc, _≤_, _<_}
+use Prim.Native.Nat.{ℕ, _≤_}
 use Rattle.meaning.proofs.Lists.Members.{element}
+use Rattle.meaning.proofs.Lists.Places.{there-is}
 use Rattle.meaning.specs.Built.{BuiltNode, IsBuilt}
 use Rattle.meaning.specs.Limits.{maxNodes, unused}
 use Rattle.meaning.specs.Pack.{Pack}
@@ -15,11 +16,6 @@ use Rattle.resolve.specs.Search.{HasNumbers, First, found, nowhere}
 use Rattle.resolve.specs.Wanted.{NodeIs}
 use Rattle.resolve.proofs.Numbered.{Numbered}
 use Rattle.resolve.proofs.Records.{place-once, below-count, has-numbers}
-
-pub some-at : {A : Type 0} (xs : List A) (i : ℕ) → i < length xs → (x : A) × (getElem? xs i ≡ some x)
-some-at [] i h = absurd (let z : ⊥ = omega arith in z)
-some-at (x ∷ xs) zero h = (x, refl)
-some-at (x ∷ xs) (suc i) h = some-at xs i (omega arith)
 
 module _ {P : Pack} {inOrder : List BuiltNode} {nodes : List ℕ} {count : ℕ} (listed : Listed P inOrder nodes count) (few : count ≤ maxNodes) (HasLabel : BuiltNode → Type 0) where
   built-at : (m : ℕ) (b : BuiltNode) → getElem? inOrder m ≡ some b → IsBuilt P b
@@ -37,7 +33,7 @@ module _ {P : Pack} {inOrder : List BuiltNode} {nodes : List ℕ} {count : ℕ} 
 
       forth : First (HasNumbers nodes k v vs) count r → HasLabel b → m ≡ r
       forth (found l q others) h =
-          let x = some-at inOrder r (omega (arith, listed .counted)) in
+          let x = there-is inOrder r (omega (arith, listed .counted)) in
           let e = numbered (x .0) (built-at r (x .0) (x .1)) .0 (has-numbers P listed r (x .0) (x .1) four .0 q) in
           let g = labelled b i .0 h in
           place-once inOrder (listed .ordered .ascending) m r n (at ∙ ap some g) (x .1 ∙ ap some e)

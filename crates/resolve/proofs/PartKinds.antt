@@ -3,7 +3,7 @@ use mathlib.Core.List.{List}
 use mathlib.Core.Path.{_≡_}
 use native.Mathlib.Omega.{arith}
 use Prim.Native.Nat.{ℕ}
-use Rattle.access.specs.Places.{OfPack}
+use Rattle.pack.specs.Checked.{OfPack}
 use Rattle.meaning.specs.Pack.{Text}
 use Rattle.resolve.specs.Wanted.{PredicateIs, IriIs, LiteralIs, Wants, OfGraph}
 

@@ -63,8 +63,11 @@ module _ (P : Pack) where
   entry Forall₂·nil m b e = absurd (Option·none-ne-some b e)
   entry (Forall₂·cons {a = a} {b = r} {l₂ = rs} x f) zero b e =
       let q : a ≡ b = Option·some-injective a b e in
-      let w : r ≡ numbersOf b (x .types) = x .are ∙ ap (λ z. numbersOf z (x .types)) q in
-      (x .types, λ j h. ap (λ k. getD (r ++ flatten rs) k 0) (let z : 0 * nodeWidth + j ≡ j = omega arith in z) ∙ List·getD-append r (flatten rs) 0 j (omega (arith, ap length w, numbers-length b (x .types))) ∙ ap (λ l. getD l j 0) w)
+      let w : r ≡ numbersOf b (x .types) = x .are ∙ ap (λ z. numbersOf z (x .types)) q in (
+        x .types,
+        λ j h. ap (λ k. getD (r ++ flatten rs) k 0) (let z : 0 * nodeWidth + j ≡ j = omega arith in z)
+            ∙ List·getD-append r (flatten rs) 0 j (omega (arith, ap length w, numbers-length b (x .types))) ∙ ap (λ l. getD l j 0) w,
+      )
   entry (Forall₂·cons {a = a} {b = r} {l₂ = rs} x f) (suc m) b e =
       let t = entry f m b e in (
         t .0,

@@ -1,13 +1,11 @@
--- The search of the node list, and the tables of values and constructors it is done with. Assumes nothing.
+-- The search of the node list, and where a text is cut. Assumes nothing.
 use lib.Dec.{ltb}
-use lib.ListN.{length, getD}
+use lib.ListN.{getD}
 use mathlib.Core.Bool.{cond}
 use mathlib.Core.List.{List}
 use mathlib.Core.Path.{_≡_}
-use Prim.Native.Nat.{ℕ, _+_, _*_, _<_, _≤_}
-use Rattle.access.specs.Places.{OfPack}
-use Rattle.meaning.specs.Limits.{maxArguments, maxValues, nodeWidth, unused}
-use Rattle.spelling.specs.Places.{textsAt, constructorsAt, Placed, Tables}
+use Prim.Native.Nat.{ℕ, _+_, _*_, _<_}
+use Rattle.meaning.specs.Limits.{maxArguments, nodeWidth, unused}
 
 -- The record of node m has this kind, number and arguments; its type set may be any.
 pub record HasNumbers (nodes : List ℕ) (kind number : ℕ) (arguments : List ℕ) (m : ℕ) : Type 0 where
@@ -19,18 +17,6 @@ pub record HasNumbers (nodes : List ℕ) (kind number : ℕ) (arguments : List �
 pub data First (Q : ℕ → Type 0) (count r : ℕ) : Type 0 where
   found : r < count → Q r → ((m : ℕ) → m < r → Q m → ⊥) → First Q count r
   nowhere : r ≡ unused → ((m : ℕ) → m < count → Q m → ⊥) → First Q count r
-
--- The places are those of the pack's values.
-pub record ValuesOf (pack starts lens : List ℕ) : Type 0 where
-  pub placed : Placed pack starts lens
-  pub few : length starts ≤ maxValues
-  pub are : OfPack pack (λ P. textsAt pack starts lens ≡ P .setting .values)
-
--- The places are those of the pack's values and constructors.
-pub record TablesOf (pack starts lens arities prefixes widths : List ℕ) : Type 0 where
-  pub tables : Tables pack starts lens arities prefixes widths
-  pub values : OfPack pack (λ P. textsAt pack starts lens ≡ P .setting .values)
-  pub constructors : OfPack pack (λ P. constructorsAt pack arities prefixes widths ≡ P .setting .constructors)
 
 -- The lesser of two numbers.
 abbrev pub lesser : ℕ → ℕ → ℕ

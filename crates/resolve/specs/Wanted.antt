@@ -6,7 +6,7 @@ use mathlib.Core.Logic.{_↔_}
 use mathlib.Core.Option.{some}
 use mathlib.Core.Path.{_≡_}
 use Prim.Native.Nat.{ℕ, _<_, _≤_}
-use Rattle.access.specs.Places.{OfPack}
+use Rattle.pack.specs.Checked.{OfPack}
 use Rattle.meaning.specs.Built.{BuiltNode}
 use Rattle.meaning.specs.Certain.{BuiltIri, BuiltLiteral}
 use Rattle.meaning.specs.Graph.{Called}

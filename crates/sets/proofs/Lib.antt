@@ -1,4 +1,3 @@
-pub mod Cases
 pub mod Fill
 pub mod Copy
 pub mod Ascending

@@ -9,7 +9,7 @@ use native.Mathlib.Nat.{zero-add, add-zero, not-suc-le-zero, le-of-suc-le-suc}
 use native.Mathlib.Omega.{arith}
 use Prim.Native.Nat.{ℕ, zero, suc, _*_, _-_, _/_, _%_, _^_, _≤_, _<_, min}
 use Rattle.meaning.specs.TypeSet.{bit}
-use Rattle.sets.proofs.Cases.{even-or-odd}
+use Rattle.meaning.proofs.Cases.{even-or-odd}
 use Rattle.sets.proofs.Mask.{half-lt, intersection-member}
 
 -- the mask without its lowest member

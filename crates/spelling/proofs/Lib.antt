@@ -1,11 +1,6 @@
-pub mod Answer
-pub mod ArgumentsRead
-pub mod CaseOn
 pub mod CoreTerms
 pub mod Injective
-pub mod IriRead
 pub mod MatchedAt
-pub mod Parts
 pub mod Reading
 pub mod Segments
 pub mod Slashes

@@ -11,7 +11,7 @@ use native.Mathlib.Omega.{arith}
 use Prim.Native.Nat.{ℕ, suc, _+_, _-_, _/_, _%_, _<_, _≤_}
 use Rattle.meaning.specs.Pack.{Text}
 use Rattle.meaning.specs.Tests.{sameText, begins}
-use Rattle.spelling.proofs.CaseOn.{case-on}
+use Rattle.meaning.proofs.Cases.{case-on}
 use Rattle.spelling.proofs.Segments.{byte-stays, byte-escaped}
 use Rattle.spelling.proofs.Texts.{same-eq, same-refl, begins-rest}
 use Rattle.spelling.proofs.Written.{one-long, three-long, segment-next, segment-none}

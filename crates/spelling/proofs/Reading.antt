@@ -16,7 +16,7 @@ use Rattle.meaning.specs.Member.{_∈_, here, there}
 use Rattle.meaning.specs.Pack.{Pack, Text, Constructor}
 use Rattle.meaning.specs.Tests.{sameText, begins}
 use Rattle.meaning.specs.WellFormed.{duplicates, prefixClash}
-use Rattle.spelling.proofs.CaseOn.{case-on, case-some}
+use Rattle.meaning.proofs.Cases.{case-on, case-some}
 use Rattle.spelling.proofs.Injective.{Writes, all-slashless, iriBy-inj, prefix-of, one-constructor}
 use Rattle.spelling.proofs.Splitting.{joined-split, split-joined}
 use Rattle.spelling.proofs.Texts.{same-eq, eq-same, begins-append, begins-rest}

@@ -8,7 +8,7 @@ use native.Mathlib.Omega.{arith}
 use Prim.Native.Nat.{ℕ, _/_, _%_}
 use Rattle.meaning.specs.Member.{here, there}
 use Rattle.meaning.specs.Pack.{Text}
-use Rattle.spelling.proofs.CaseOn.{case-on}
+use Rattle.meaning.proofs.Cases.{case-on}
 use Rattle.spelling.proofs.Slashes.{Slashless, slashless-append}
 use Rattle.spelling.specs.Iri.{slash}
 use Rattle.spelling.specs.Segment.{unreserved, hexDigit, spelledByte, segment, percent}

@@ -10,7 +10,7 @@ use native.Mathlib.Numerals.{add-one, towards-suc}
 use native.Mathlib.Omega.{arith}
 use Prim.Native.Nat.{ℕ, _+_, _-_, _/_, _%_, _<_, _≤_}
 use Rattle.meaning.specs.Pack.{Text}
-use Rattle.spelling.proofs.CaseOn.{case-on}
+use Rattle.meaning.proofs.Cases.{case-on}
 use Rattle.spelling.proofs.Segments.{byte-stays, byte-escaped}
 use Rattle.spelling.specs.declared.write.Wrote.the-variants.{To, Full}
 use Rattle.spelling.specs.Segment.{unreserved, hexDigit, spelledByte, segment, percent}

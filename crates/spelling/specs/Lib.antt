@@ -3,4 +3,3 @@ pub mod Iri
 pub mod ReadBack
 pub mod Writing
 pub mod Matching
-pub mod Places

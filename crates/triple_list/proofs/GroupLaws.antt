@@ -21,7 +21,7 @@ use Rattle.core_lists.specs.Origin.{group, keysBefore}
 use Rattle.meaning.specs.Limits.{maxTriples, placeRoom, tripleListLength}
 use Rattle.meaning.specs.Member.{_∈_, here, there}
 use Rattle.meaning.specs.Ordered.{InOrder, before}
-use Rattle.sets.proofs.Cases.{case-on}
+use Rattle.meaning.proofs.Cases.{case-on}
 use Rattle.sets.specs.Ordered.{rankOf}
 
 module _ (q : ℕ) where

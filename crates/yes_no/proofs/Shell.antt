@@ -5,12 +5,12 @@ use mathlib.Core.List.{List}
 use mathlib.Core.Path.{_≡_, refl}
 use Prim.Native.Nat.{ℕ, _≤_}
 use Rattle.calls.specs.Call.{Contents, gives, refuses}
-use Rattle.evaluate.proofs.InLists.{graph-in}
+use Rattle.evaluate.proofs.InLists.{graph-in, ready-in}
 use Rattle.evaluate.specs.Answered.{Ready, YesIn}
-use Rattle.meaning.specs.Limits.{nodeListLength, tripleListLength}
+use Rattle.meaning.specs.Limits.{maxParts, nodeListLength, tripleListLength}
 use Rattle.meaning.specs.Pack.{Text}
 use Rattle.prepare.proofs.Decide.{as-readied, as-refused, given}
-use Rattle.prepare.specs.Prepared.{Prepares}
+use Rattle.prepare.specs.Prepared.{Prepares, ResolvedIf}
 use Rattle.prepare.specs.declared.Prepared.{Prepared}
 use Rattle.yes_no.specs.Inner.{Comes}
 
@@ -19,14 +19,12 @@ module _ {pack query : Text} {tree : List ℕ} {p : Prepared} (nodes triples : C
   refused n = let (x, k) = as-refused nodes triples c n in refuses (record { cause = x; says-no = refl }) k
 
   module _ (z : p .graph .refusal ≡ 0) (a : nodeListLength ≤ length (nodes .after)) (b : tripleListLength ≤ length (triples .after)) where
-    pub ready : Ready pack query tree (p .parts) (nodes .after) (p .graph .nodes) (triples .after) (p .graph .triples)
-    ready = let (fs, R, w) = as-readied nodes triples c z in record {
-      graph = record { of = R .graph .of; graph = graph-in (R .graph) nodes triples w a b };
-      held = R .held;
-      room = R .room;
-    }
+    pub ready : {wanted : List ℕ} → ResolvedIf pack query tree p (nodes .after) wanted → maxParts ≤ length wanted
+        → Ready pack query tree (p .parts) wanted (nodes .after) (p .graph .nodes) (triples .after) (p .graph .triples)
+    ready r l = let (fs, R, w) = as-readied nodes triples c z in ready-in (R .graph) nodes triples w a b (R .held) (R .room) (r z) l
 
-    pub answered : (said : Bool) → YesIn pack query (nodes .after) (p .graph .nodes) (triples .after) (p .graph .triples) said → Comes pack query (record { graph = p .graph; yes = said }) nodes triples
+    pub answered : (said : Bool) → YesIn pack query (nodes .after) (p .graph .nodes) (triples .after) (p .graph .triples) said
+        → Comes pack query (record { graph = p .graph; yes = said }) nodes triples
     answered said y =
         let (fs, R, w) = as-readied nodes triples c z in
         gives fs (record { asked = given R; answer = y (R .graph .of) (graph-in (R .graph) nodes triples w a b) (R .held .expression) (R .held .query) }) w

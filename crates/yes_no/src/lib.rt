@@ -7,6 +7,7 @@ use construct::Constructed;
 use construct::refused;
 use evaluate::yes::yes;
 use meaning::HEADS_LENGTH;
+use meaning::MAX_PARTS;
 use meaning::MAX_QUERY_BYTES;
 use meaning::MAX_STATES;
 use meaning::NODE_LIST_LENGTH;
@@ -39,17 +40,26 @@ fn answer(
     ensures { λ r. ⌜ Comes (now (pack .entry)) (now (query .entry)) r (lent nodes) (lent triples) ⌝ }
 {
     let mut tree = [0u32; MAX_QUERY_BYTES];
-    let prepared = prepare(pack, query, &mut tree, nodes, triples, rows, heads);
+    let mut wanted = [0u16; MAX_PARTS];
+    let prepared = prepare(
+        pack,
+        query,
+        &mut tree,
+        &mut wanted,
+        nodes,
+        triples,
+        rows,
+        heads,
+    );
     let graph = prepared.graph;
     if graph.refusal != 0 {
         return YesNo { graph, yes: false };
     }
     clear_u8(alive);
     let yes = yes(
-        pack,
-        query,
         &tree[..],
         prepared.parts,
+        &wanted[..],
         &nodes[..],
         graph.nodes,
         &triples[..],

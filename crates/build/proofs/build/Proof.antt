@@ -1,6 +1,7 @@
 -- `build::build` meets its contract. Assumes nothing.
 use borrow.Author.Needs.{needs}
 use mathlib.Core.Path.{refl, ap, _∙_}
+use native.Mathlib.Omega.{arith}
 use Rattle.build.proofs.build.Statement.{statement}
 use Rattle.build.proofs.build.Tie as tie
 use Rattle.calls.proofs.Meets.{ran, refused-1}
@@ -15,8 +16,15 @@ build-spec =
     (λ c. search needs)  -- slice-aggregate-long-enough-2
     (λ c κs. search needs)  -- long-enough-requires
     (λ c κs. search needs)  -- refused-requires
-    (λ c. let t = c .before .before .long-enough in refused-1 tt (t .result) (t .ensures) (c .before .if1 .taken) (c .refused .ensures) (refl, (refl, (refl, (refl, tt)))))  -- returns
-    (λ c κs. let t = c .before .before .before .before .before .long-enough in let l = passed (t .result) (t .ensures) (c .before .before .before .before .if1 .left) in (l .0, l .1 .0, l .1 .1 .0, l .1 .1 .1 .0))  -- construct-requires
+    (λ c.  -- returns
+    let t = c .before .before .long-enough in
+    refused-1 tt (t .result) (t .ensures) (c .before .if1 .taken) (c .refused .ensures) (refl, (refl, (refl, (refl, tt)))))
+    (λ c. search needs)  -- slice-aggregate-construct
+    (λ c κs.  -- construct-requires
+    let e = c .before .before .before .before .before in
+    let t = e .before .long-enough in
+    let l = passed (t .result) (t .ensures) (e .if1 .left) in
+    (l .0, l .1 .0, l .1 .1 .0, l .1 .1 .1 .0, omega arith))
     (λ c κs. search needs)  -- clear-u16-requires
     (λ c κs. search needs)  -- clear-u64-requires
     (λ c. search needs)  -- same-length
@@ -24,7 +32,10 @@ build-spec =
     (λ c. search needs)  -- same-length-3
     (λ c. search needs)  -- same-length-4
     (λ c.  -- returns-2
-    let t = c .before .before .before .before .before .before .before .before .before .before .before .before .before .before .before .before .before .before .before .before .before .before .long-enough in
-    let g = c .before .before .before .before .before .before .before .before .before .before .before .before .before .before .before .before .construct in
-    ran tt (t .result) (t .ensures) (c .before .before .before .before .before .before .before .before .before .before .before .before .before .before .before .before .before .before .before .before .before .if1 .left) (g .ensures)
-    (c .before .before .before .before .before .before .clear-u16 .ensures ∙ ap zeros (g .kept .1 .1 .1 .0), (c .before .before .clear-u64 .ensures ∙ ap zeros (g .kept .1 .1 .1 .1 .0), tt))))
+    let d = c .before .before .before .before .before .before in
+    let k = d .before .before .before .before .before .before .before .before .before .before .before .before in
+    let e = k .before .before .before .before .before .before in
+    let t = e .before .long-enough in
+    let g = k .construct in
+    ran tt (t .result) (t .ensures) (e .if1 .left) (g .ensures .0)
+    (d .clear-u16 .ensures ∙ ap zeros (g .kept .1 .1 .1 .1 .0), (c .before .before .clear-u64 .ensures ∙ ap zeros (g .kept .1 .1 .1 .1 .1 .0), tt))))

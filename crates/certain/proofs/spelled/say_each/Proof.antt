@@ -5,10 +5,10 @@ use Rattle.certain.proofs.spelled.say_each.Statement.{statement}
 use Rattle.certain.proofs.spelled.say_each.Tie as tie
 
 abbrev Inv-loop : tie.InvT-loop
-Inv-loop pack nodes list count i₀ t6 t7 i = 0 ≤ i
+Inv-loop pack numbers nodes list count i₀ t6 t7 i = 0 ≤ i
 
 abbrev μ-loop : tie.MeasureT-loop
-μ-loop pack nodes list count i₀ t6 t7 i = count - i
+μ-loop pack numbers nodes list count i₀ t6 t7 i = count - i
 
 pub say-each-spec : {M : Type 1} → statement M
 say-each-spec =

@@ -11,16 +11,16 @@ use Rattle.meaning.specs.Limits.{rowWidth}
 use Rattle.matching.proofs.candidates.candidates.Tie as tie
 
 abbrev Inv-loop : tie.InvT-loop
-Inv-loop rows relation own order start out firsts cols n last r₀ at c₀ r-end c-end r c = (r ≡ r₀) × Cells rows at firsts c
+Inv-loop rows relation own order out start firsts cols n last r₀ at c₀ r-end c-end r c = (r ≡ r₀) × Cells rows at firsts c
 
 abbrev μ-loop : tie.MeasureT-loop
-μ-loop rows relation own order start out firsts cols n last r₀ at c₀ r-end c-end r c = length own - c
+μ-loop rows relation own order out start firsts cols n last r₀ at c₀ r-end c-end r c = length own - c
 
 abbrev Inv-rows : tie.InvT-rows
-Inv-rows rows relation own order start out₀ firsts cols n₀ last₀ r₀ r-end out n last r = Collected rows relation own order start out₀ r n last out
+Inv-rows rows relation own order out₀ start firsts cols n₀ last₀ r₀ r-end out n last r = Collected rows relation own order start out₀ r n last out
 
 abbrev μ-rows : tie.MeasureT-rows
-μ-rows rows relation own order start out₀ firsts cols n₀ last₀ r₀ r-end out n last r = length rows / rowWidth - r
+μ-rows rows relation own order out₀ start firsts cols n₀ last₀ r₀ r-end out n last r = length rows / rowWidth - r
 
 pub candidates-spec : {M : Type 1} → statement M
 candidates-spec =
@@ -56,10 +56,10 @@ candidates-spec =
     (λ c. search needs)  -- add-c
     (λ c. omega (arith, c .before .before .before .loop-test .taken))  -- loop-less
     (λ c. (c .before .before .before .before .loop .inv .0, cells-again (c .before .before .before .before .loop .inv .1) (c .if2 .left)))  -- loop-again
-    (λ c κs. (c .before .before .before .before .before .before .before .before .before .before .before .before .pre .1, c .before .before .before .before .before .before .before .before .before .before .before .before .pre .3, columns-bytes (c .before .before .before .before .before .before .columns2 .ensures) (c .before .before .before .before .before .before .before .before .before .before .before .before .pre .2) (c .before .before .before .before .before .before .before .before .before .before .before .before .pre .0) (c .before .before .before .before .before .before .before .before .before .before .before .before .pre .4) (c .before .before .before .before .rows-test .taken) (c .before .before .if1 .left)))  -- row-key-requires
-    (λ c κs. (omega (arith, c .before .before .before .before .before .before .before .rows .inv .few, c .before .before .before .before .before .before .before .rows .inv .long, c .before .before .before .before .before .before .rows-test .taken, c .before .before .before .before .before .before .before .before .before .before .before .before .before .before .pre .5), c .before .before .before .before .before .before .before .rows .inv .list .ascending, c .before .before .before .before .before .before .before .rows .inv .recent))  -- store-next-requires
-    (λ c. omega (arith, c .before .before .before .before .before .before .loop .inv .0, c .before .before .before .before .before .before .before .before .before .rows-test .taken))  -- add-r-3
-    (λ c. omega (arith, c .before .before .before .before .before .before .loop .inv .0, c .before .before .before .before .before .before .before .before .before .rows-test .taken))  -- rows-less-3
-    (λ c. collect-more _ _ _ _ _ (c .before .before .before .before .before .before .before .before .before .before .rows .inv) (c .before .before .before .before .before .before .before .before .before .rows-test .taken) (c .before .before .before .before .before .before .loop .inv .0) (c .before .before .before .before .before .before .before .before .before .before .before .before .before .before .before .before .before .pre .2) (c .before .before .before .before .before .before .before .before .before .before .before .before .columns .ensures) (c .before .before .before .before .before .before .loop .inv .1) (c .before .before .before .before .before .loop-test .left) (c .before .before .before .before .before .before .before .before .before .before .before .columns2 .ensures) _ (c .before .before .before .before .row-key .ensures) (c .before .before .before .before .before .before .before .if1 .left) _ _ (c .before .before .store-next .ensures) (c .before .before .store-next .kept .0))  -- rows-again-3
+    (λ c κs. (c .before .before .before .before .before .before .before .before .before .before .before .before .before .before .pre .1, c .before .before .before .before .before .before .before .before .before .before .before .before .before .before .pre .3, columns-bytes (c .before .before .before .before .before .before .before .before .columns2 .ensures) (c .before .before .before .before .before .before .before .before .before .before .before .before .before .before .pre .2) (c .before .before .before .before .before .before .before .before .before .before .before .before .before .before .pre .0) (c .before .before .before .before .before .before .before .before .before .before .before .before .before .before .pre .4) (c .before .before .before .before .before .before .rows-test .taken) (c .before .before .before .before .if1 .left), search needs))  -- row-key-requires
+    (λ c κs. (omega (arith, c .before .before .before .before .before .before .before .before .before .rows .inv .few, c .before .before .before .before .before .before .before .before .before .rows .inv .long, c .before .before .before .before .before .before .before .before .rows-test .taken, c .before .before .before .before .before .before .before .before .before .before .before .before .before .before .before .before .pre .5), c .before .before .before .before .before .before .before .before .before .rows .inv .list .ascending, c .before .before .before .before .before .before .before .before .before .rows .inv .recent))  -- store-next-requires
+    (λ c. omega (arith, c .before .before .before .before .before .before .before .before .loop .inv .0, c .before .before .before .before .before .before .before .before .before .before .before .rows-test .taken))  -- add-r-3
+    (λ c. omega (arith, c .before .before .before .before .before .before .before .before .loop .inv .0, c .before .before .before .before .before .before .before .before .before .before .before .rows-test .taken))  -- rows-less-3
+    (λ c. collect-more _ _ _ _ _ (c .before .before .before .before .before .before .before .before .before .before .before .before .rows .inv) (c .before .before .before .before .before .before .before .before .before .before .before .rows-test .taken) (c .before .before .before .before .before .before .before .before .loop .inv .0) (c .before .before .before .before .before .before .before .before .before .before .before .before .before .before .before .before .before .before .before .pre .2) (c .before .before .before .before .before .before .before .before .before .before .before .before .before .before .columns .ensures) (c .before .before .before .before .before .before .before .before .loop .inv .1) (c .before .before .before .before .before .before .before .loop-test .left) (c .before .before .before .before .before .before .before .before .before .before .before .before .before .columns2 .ensures) _ (c .before .before .before .before .row-key .ensures) (c .before .before .before .before .before .before .before .before .before .if1 .left) _ _ (c .before .before .store-next .ensures) (c .before .before .store-next .kept .0))  -- rows-again-3
     (λ c. search needs)  -- same-length
     (λ c. collect-done _ _ _ _ _ (c .before .rows .inv) (c .rows-test .left) (c .before .before .before .before .before .before .before .before .pre .5)))  -- returns

@@ -1,8 +1,18 @@
 -- `pair_list::find::find_pairs` meets its contract. Assumes nothing.
 use borrow.Author.Needs.{needs}
+use Rattle.evaluate.proofs.Started.{cleared}
 use Rattle.pair_list.proofs.find.find_pairs.Statement.{statement}
 use Rattle.pair_list.proofs.find.find_pairs.Tie as tie
-use Rattle.evaluate.proofs.Started.{cleared}
+
+-- the places where both tables are cleared, where the first is, and where the call begins
+abbrev emptied : tie.After-pairs-arg4 → tie.After-clear-u16
+emptied c = c .before .before .before .before .before .before
+
+abbrev half : tie.After-clear-u16 → tie.After-clear-u8
+half c = c .before .before .before .before
+
+abbrev start : tie.After-clear-u8 → tie.Start
+start c = c .before .before .before .before .before .before .before .before .before .before
 
 pub find-pairs-spec : {M : Type 1} → statement M
 find-pairs-spec =
@@ -11,9 +21,11 @@ find-pairs-spec =
     (λ c κs. search needs)  -- clear-u8-requires
     (λ c κs. search needs)  -- clear-u16-requires
     (λ c κs.  -- pairs-requires
-    let p = c .before .before .before .before .before .before .before .before .before .before .before .before .before .before .before .before .before .before .before .before .before .pre in
-    let l = p .1 in
-    (p .0, cleared _ (c .before .before .before .before .before .before .before .before .before .before .before .before .before .before .before .before .before .before .before .before .before .args .alive .now) _ (c .before .before .before .before .before .before .before .before .before .before .clear-u8 .ensures) (l .0) (l .1), cleared _ (c .before .before .before .before .before .before .before .before .before .before .before .before .before .before .before .before .before .before .before .before .before .args .seen .now) _ (c .before .before .before .before .before .before .clear-u16 .ensures) (l .2) (l .1), p .2))
+    let e = emptied c in
+    let h = half e in
+    let s = start h in
+    let (ready, (alive, queue, seen), room) = s .pre in
+    (ready, cleared _ (s .args .alive .now) _ (h .clear-u8 .ensures) alive queue, cleared _ (s .args .seen .now) _ (e .clear-u16 .ensures) seen queue, room))
     (λ c. search needs)  -- same-length
     (λ c. search needs)  -- same-length-2
     (λ c. search needs)  -- same-length-3

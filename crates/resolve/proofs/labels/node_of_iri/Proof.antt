@@ -9,9 +9,12 @@ pub node-of-iri-spec : {M : Type 1} → statement M
 node-of-iri-spec =
     tie.close
     (tie.spec
-    (λ c κs. c .before .before .before .before .before .before .before .before .pre .0 .tables)  -- read-iri-requires
-    (λ c. let p = c .before .before .before .before .before .before .before .before .before .before .pre in  -- returns
-    iri-unknown _ _ _ _ (p .1) _ _ _ _ _ (p .0) _ (c .before .read-iri .ensures) (not-true _ (c .if1 .taken)))
+    (λ c κs. search needs)  -- read-iri-requires
+    (λ c.  -- returns
+    let s = c .before .before .before .before .before .before in
+    iri-unknown _ _ (s .pre .1) (c .before .read-iri .ensures) (not-true _ (c .if1 .taken)))
     (λ c κs. search needs)  -- find-node-requires
-    (λ c. let p = c .before .before .before .before .before .before .before .before .before .before .before .before .pre in  -- returns-2
-    iri-found _ _ _ _ (p .1) _ _ _ _ _ (p .0) _ (c .before .before .before .read-iri .ensures) (not-false _ (c .before .before .if1 .left)) (c .find-node .ensures)))
+    (λ c.  -- returns-2
+    let t = c .before .before in
+    let s = t .before .before .before .before .before .before in
+    iri-found _ _ (s .pre .1) (t .before .read-iri .ensures) (not-false _ (t .if1 .left)) (c .find-node .ensures)))

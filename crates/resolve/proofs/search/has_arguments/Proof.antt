@@ -24,7 +24,10 @@ has-arguments-spec =
     (λ c. search needs)  -- shared-slice-read-if1
     (λ c. search needs)  -- mul-if1-2
     (λ c. search needs)  -- array-read-if1
-    (λ c. let a = c .before .before .before .before .args in agree-not (a .nodes .now) (a .at) (a .t3) (c .before .before .before .loop .j) (omega (arith, c .before .before .loop-test .taken)) (c .if1 .taken))  -- returns
+    (λ c.  -- returns
+    let t = c .before .before in
+    let a = t .before .before .args in
+    agree-not (a .nodes .now) (a .at) (a .t3) (t .before .loop .j) (omega (arith, t .loop-test .taken)) (c .if1 .taken))
     (λ c. search needs)  -- add-j
     (λ c. search needs)  -- loop-less
     (λ c. (search needs, search (agree-on, needs)))  -- loop-again

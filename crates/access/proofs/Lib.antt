@@ -1,4 +1,0 @@
-pub mod Accepted
-pub mod Filling
-pub mod Found
-pub mod Keys

@@ -1,4 +1,0 @@
-pub mod Keys
-pub mod Places
-pub mod Rows
-pub mod Table

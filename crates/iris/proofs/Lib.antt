@@ -1,0 +1,5 @@
+pub mod Loaded
+pub mod Parts
+pub mod ArgumentsRead
+pub mod IriRead
+pub mod Answer

@@ -1,0 +1,76 @@
+-- Records held one after another: one more at the end; numbers past them may change. Assumes nothing.
+use Rattle.meaning.proofs.Lists.Parts.{record-end, same-part}
+use lib.ListN.{drop, getElem?, length, take}
+use lib.Seq.{drop-at, drop-drop, length-take-le, take-at}
+use mathlib.Core.List.{List, [], _∷_, _++_, append-assoc}
+use mathlib.Core.Option.{some, Option·none-ne-some, Option·some-injective}
+use mathlib.Core.Path.{_≡_, refl, sym, ap, subst, _∙_}
+use native.Mathlib.Omega.{arith}
+use Prim.Native.Nat.{ℕ, zero, suc, _+_, _*_, _≤_}
+use Rattle.meaning.proofs.Lists.Places.{inside}
+use Rattle.records.specs.Held.{Held}
+use Rattle.records.specs.Kept.{Put}
+
+-- what was put, and what stands before it
+pub put-before : {xs : List ℕ} {at : ℕ} {out out′ : List ℕ} → Put xs at out out′ → at ≤ length out → take at out′ ≡ take at out
+put-before {xs} {at} {out} p h =
+    ap (take at) (p .is ∙ append-assoc (take at out) xs (drop (at + length xs) out))
+    ∙ take-at (take at out) (xs ++ drop (at + length xs) out) at (length-take-le at out h)
+
+pub put-there : {xs : List ℕ} {at w : ℕ} {out out′ : List ℕ} → Put xs at out out′ → at ≤ length out → length xs ≡ w → take w (drop at out′) ≡ xs
+put-there {xs} {at} {w} {out} p h e =
+    ap (λ (ys : List ℕ). take w (drop at ys)) (p .is ∙ append-assoc (take at out) xs (drop (at + length xs) out))
+    ∙ ap (take w) (drop-at (take at out) (xs ++ drop (at + length xs) out) at (length-take-le at out h))
+    ∙ take-at xs (drop (at + length xs) out) w e
+
+-- ---- one record more
+
+-- a place of a list with one more is one of the list, or the last
+snoc-at : {A Q : Type 0} (xs : List A) (a : A) (i : ℕ) (x : A) → getElem? (xs ++ (a ∷ [])) i ≡ some x → (getElem? xs i ≡ some x → Q) → (i ≡ length xs → a ≡ x → Q) → Q
+snoc-at [] a zero x e f g = g refl (Option·some-injective a x e)
+snoc-at [] a (suc i) x e f g = absurd (Option·none-ne-some x e)
+snoc-at (y ∷ ys) a zero x e f g = f e
+snoc-at (y ∷ ys) a (suc i) x e f g = snoc-at ys a i x e f (λ p q. g (ap suc p) q)
+
+module _ {A : Type 0} (N : A → List ℕ → Type 0) (w : ℕ) where
+  pub held-none : (at : ℕ) (out : List ℕ) → Held N w [] at out
+  held-none at out = record { each = λ i x e. absurd (Option·none-ne-some x e) }
+
+  pub held-more : {done : List A} {a : A} {numbers out out′ : List ℕ} → Held N w done 0 out → N a numbers → length numbers ≡ w → length done * w + w ≤ length out
+      → Put numbers (length done * w) out out′ → Held N w (done ++ (a ∷ [])) 0 out′
+  held-more {done} {a} {numbers} {out} {out′} h n m room p = record {
+    each = λ i x e.
+        snoc-at done a i x e
+        (λ f.
+        let r = record-end i (length done) w (inside done i x f) in
+        subst (N x) (sym (same-part w (i * w) (length done * w) out′ out r (put-before p (omega arith)))) (h .each i x f))
+        (λ f g.
+        let here = subst (N a) (sym (put-there p (omega arith) m)) n in
+        subst (λ (j : ℕ). N x (take w (drop (j * w) out′))) (sym f) (subst (λ (y : A). N y (take w (drop (length done * w) out′))) g here));
+  }
+
+  -- numbers past the records may change
+  pub held-kept : {xs : List A} {at end : ℕ} {out out′ : List ℕ} → Held N w xs at out → at + length xs * w ≤ end → take end out′ ≡ take end out → Held N w xs at out′
+  held-kept {xs} {at} {end} {out} {out′} h l e = record {
+    each = λ i x f.
+        let r = record-end i (length xs) w (inside xs i x f) in
+        let s : take w (drop (i * w) (drop at out′)) ≡ take w (drop (i * w) (drop at out)) =
+        ap (take w) (drop-drop (i * w) at out′) ∙ same-part w (at + i * w) end out′ out (omega (arith, r, l)) e ∙ sym (ap (take w) (drop-drop (i * w) at out))
+        in
+        subst (N x) (sym s) (h .each i x f);
+  }
+
+  -- in a part of a list, and in the list
+  pub held-at : {xs : List A} (at : ℕ) {part out : List ℕ} → Held N w xs 0 part → length xs * w ≤ length part → take (length part) (drop at out) ≡ part → Held N w xs at out
+  held-at {xs} at {part} {out} h l e = record {
+    each = λ i x f.
+        let r = record-end i (length xs) w (inside xs i x f) in
+        let s : take w (drop (i * w) (drop at out)) ≡ take w (drop (i * w) part) =
+        same-part w (i * w) (length part) (drop at out) part (omega (arith, r, l)) (e ∙ sym (take-all-of part))
+        in
+        subst (N x) (sym s) (h .each i x f);
+  }
+    where
+      take-all-of : (ys : List ℕ) → take (length ys) ys ≡ ys
+      take-all-of [] = refl
+      take-all-of (y ∷ ys) = ap (λ (zs : List ℕ). y ∷ zs) (take-all-of ys)

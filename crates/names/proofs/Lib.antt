@@ -1,0 +1,11 @@
+pub mod Records
+pub mod Counted
+pub mod Cells
+pub mod Dependency
+pub mod Shape
+pub mod Atoms
+pub mod Heads
+pub mod Parts
+pub mod Rule
+pub mod Read
+pub mod Good

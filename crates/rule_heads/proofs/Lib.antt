@@ -1,0 +1,5 @@
+pub mod Over
+pub mod Small
+pub mod Held
+pub mod Collecting
+pub mod Answers
