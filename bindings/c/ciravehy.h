@@ -38,7 +38,7 @@ extern "C" {
 #define CIRAVEHY_BUILD_STACK 81920
 #define CIRAVEHY_YES_NO_STACK 106496
 #define CIRAVEHY_PAIRS_STACK 196608
-#define CIRAVEHY_READ_BACK_STACK 24576
+#define CIRAVEHY_READ_BACK_STACK 40960
 
 /* Reports, of exactly these lengths. Every call writes the whole of its report. */
 #define CIRAVEHY_REPORT_LENGTH 25

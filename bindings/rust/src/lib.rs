@@ -44,7 +44,7 @@ pub const YES_NO_STACK: usize = 104 << 10;
 /// The same of [`Service::pairs`].
 pub const PAIRS_STACK: usize = 192 << 10;
 /// The same of [`lent::read_back`].
-pub const READ_BACK_STACK: usize = 24 << 10;
+pub const READ_BACK_STACK: usize = 40 << 10;
 
 /// How many nodes and triples the pack's graph has.
 #[derive(Clone, Copy, Debug, PartialEq, Eq)]
