@@ -1,3 +1,3 @@
 // Reading an IRI back, with the values and the constructors of a pack at their places in its bytes.
-pub mod arguments; // arguments.rt: the values of the parts between the "/"
-pub mod iri; // iri.rt: an IRI read back
+pub mod arguments; // the values of the parts between the "/"
+pub mod iri; // an IRI read back

@@ -1,4 +1,4 @@
-// A pack's bytes: its contents, and its records by a cursor (refusals 3 and 4).
+// A pack's bytes: its contents (refusal 3), and its records by a cursor.
 pub mod bytes;
 pub mod contents;
 pub mod cursor;
