@@ -7,7 +7,7 @@ use mathlib.Core.Path.{_≡_}
 use Prim.Native.Nat.{ℕ, _*_, _≤_, _<_}
 use Rattle.records.specs.Held.{SettingNumbers}
 use Rattle.records.specs.Numbers.{NumbersOf}
-use Rattle.meaning.specs.Limits.{dependencyWidth, literalTarget, maxArguments, maxAtoms, maxColumns, maxConstructors, maxDependencies, maxHeadVariables, maxPredicates, maxRelations, maxRows, maxRules, maxShapes, maxTypes, maxValues, maxVariables, rowWidth, settingLength, shapeWidth, unused}
+use Rattle.meaning.specs.Limits.{dependencyWidth, literalTarget, maxArguments, maxAtoms, maxColumns, maxConstructors, maxDependencies, maxHeadVariables, maxPredicates, maxRelations, maxRows, maxRules, maxShapes, maxTypes, maxValues, maxVariables, rowWidth, rowsBody, settingLength, shapeWidth, unused}
 use Rattle.meaning.specs.Member.{_∈_}
 use Rattle.meaning.specs.Pack.{Atom, Constructor, Dependency, Pack, Row, Rule, ShapeRecord, type}
 use Rattle.meaning.specs.Tables.{RowsHeld, headArguments, rowNumbers}
@@ -57,7 +57,7 @@ pub record SettingGiven (P : Pack) (counts numbers : List ℕ) : Type 0 where
 -- And the rows are its rows.
 pub record PackGiven (P : Pack) (counts numbers rows : List ℕ) : Type 0 where
   pub setting : SettingGiven P counts numbers
-  pub many : getD counts 8 0 ≡ length (P .rows)
+  pub many : getD counts rowsBody 0 ≡ length (P .rows)
   pub rows-held : RowsHeld (P .rows) (take (rowWidth * length (P .rows)) rows)
 
 -- They are those of some pack.

@@ -4,7 +4,7 @@ use mathlib.Core.List.{List, [], _∷_}
 use mathlib.Core.Option.{some}
 use mathlib.Core.Path.{_≡_}
 use Prim.Native.Nat.{ℕ, _*_}
-use Rattle.meaning.specs.Limits.{constructorWidth, constructorsAt, dependenciesAt, dependencyWidth, predicatesAt, relationWidth, relationsAt, rowWidth, ruleWidth, rulesAt, shapeWidth, shapesAt, textWidth, typesAt, valuesAt}
+use Rattle.meaning.specs.Limits.{constructorWidth, constructorsAt, dependenciesAt, dependencyWidth, predicatesAt, relationWidth, relationsAt, rowWidth, rowsBody, ruleWidth, rulesAt, shapeWidth, shapesAt, textWidth, typesAt, valuesAt}
 use Rattle.meaning.specs.Pack.{Constructor, Pack, Setting}
 use Rattle.meaning.specs.Tables.{RowsHeld}
 use Rattle.pack.specs.Kinds.{RecordOf}
@@ -43,7 +43,7 @@ countsOf S =
     ∷ length (S .constructors) ∷ length (S .rules) ∷ []
 
 pub record SettingNumbers (S : Setting) (counts numbers : List ℕ) : Type 0 where
-  pub counted : take 8 counts ≡ countsOf S
+  pub counted : take rowsBody counts ≡ countsOf S
   pub relations : BodyHeld K.Relation [] (S .arities) relationsAt numbers
   pub dependencies : BodyHeld K.Dependency [] (S .dependencies) dependenciesAt numbers
   pub shapes : BodyHeld K.Shape [] (S .shapes) shapesAt numbers
@@ -61,5 +61,5 @@ pub record SettingHeld (s : List ℕ) (S : Setting) (counts numbers : List ℕ) 
 
 pub record PackHeld (s : List ℕ) (P : Pack) (counts numbers rows : List ℕ) : Type 0 where
   pub setting : SettingHeld s (P .setting) counts numbers
-  pub many : getD counts 8 0 ≡ length (P .rows)
+  pub many : getD counts rowsBody 0 ≡ length (P .rows)
   pub rows-held : RowsHeld (P .rows) (take (rowWidth * length (P .rows)) rows)
