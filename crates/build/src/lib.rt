@@ -13,6 +13,14 @@ use meaning::TRIPLE_LIST_LENGTH;
 use sets::buffers::clear_u16;
 use sets::buffers::clear_u64;
 
+// What each list and buffer must hold at least, in the order in which they are lent.
+const LEAST_LENGTHS: [usize; 4] = [
+    NODE_LIST_LENGTH,
+    TRIPLE_LIST_LENGTH,
+    ROWS_LENGTH,
+    HEADS_LENGTH,
+];
+
 // The graph of a pack at the front of the two lists, and its counts; or a refusal. `rows` and `heads` are working buffers.
 pub fn build(
     pack: &[u8],
@@ -23,12 +31,7 @@ pub fn build(
 ) -> Constructed
     ensures { λ r. ⌜ Answers (now (pack .entry)) r (lent nodes) (lent triples) (lent rows) (lent heads) ⌝ }
 {
-    let asked = [
-        NODE_LIST_LENGTH,
-        TRIPLE_LIST_LENGTH,
-        ROWS_LENGTH,
-        HEADS_LENGTH,
-    ];
+    let asked = LEAST_LENGTHS;
     let lengths = [nodes.len(), triples.len(), rows.len(), heads.len()];
     if !long_enough(&asked, &lengths) {
         return refused(1);

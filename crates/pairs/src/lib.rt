@@ -127,6 +127,18 @@ fn answer(
     )
 }
 
+// What each list and buffer must hold at least, in the order in which they are lent.
+const LEAST_LENGTHS: [usize; 8] = [
+    NODE_LIST_LENGTH,
+    TRIPLE_LIST_LENGTH,
+    PAIR_LIST_LENGTH,
+    ROWS_LENGTH,
+    HEADS_LENGTH,
+    MAX_STATES, // alive
+    MAX_STATES, // queue
+    MAX_STATES, // seen
+];
+
 // The certain pairs at the front of `pairs`, with the graph of the pack at the front of the two lists before it; or a
 // refusal. The others are working buffers.
 pub fn pairs(
@@ -143,16 +155,7 @@ pub fn pairs(
 ) -> PairAnswer
     ensures { λ r. ⌜ Answers (now (pack .entry)) (now (query .entry)) r (lent nodes) (lent triples) (lent pairs) (lent rows) (lent heads) (lent alive) (lent queue) (lent seen) ⌝ }
 {
-    let asked = [
-        NODE_LIST_LENGTH,
-        TRIPLE_LIST_LENGTH,
-        PAIR_LIST_LENGTH,
-        ROWS_LENGTH,
-        HEADS_LENGTH,
-        MAX_STATES, // alive
-        MAX_STATES, // queue
-        MAX_STATES, // seen
-    ];
+    let asked = LEAST_LENGTHS;
     let lengths = [
         nodes.len(),
         triples.len(),

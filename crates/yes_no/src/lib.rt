@@ -70,6 +70,16 @@ fn answer(
     YesNo { graph, yes }
 }
 
+// What each list and buffer must hold at least, in the order in which they are lent.
+const LEAST_LENGTHS: [usize; 6] = [
+    NODE_LIST_LENGTH,
+    TRIPLE_LIST_LENGTH,
+    ROWS_LENGTH,
+    HEADS_LENGTH,
+    MAX_STATES, // alive
+    MAX_STATES, // queue
+];
+
 // Whether the query is certain, with the graph of the pack at the front of the two lists; or a refusal. `rows`, `heads`,
 // `alive` and `queue` are working buffers.
 pub fn yes_no(
@@ -84,14 +94,7 @@ pub fn yes_no(
 ) -> YesNo
     ensures { λ r. ⌜ Answers (now (pack .entry)) (now (query .entry)) r (lent nodes) (lent triples) (lent rows) (lent heads) (lent alive) (lent queue) ⌝ }
 {
-    let asked = [
-        NODE_LIST_LENGTH,
-        TRIPLE_LIST_LENGTH,
-        ROWS_LENGTH,
-        HEADS_LENGTH,
-        MAX_STATES, // alive
-        MAX_STATES, // queue
-    ];
+    let asked = LEAST_LENGTHS;
     let lengths = [
         nodes.len(),
         triples.len(),
