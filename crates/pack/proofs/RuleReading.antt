@@ -1,4 +1,4 @@
--- Laws of reading a rule at a cursor: its atoms one after another, its head, and the whole. Assumes nothing.
+-- Laws of reading a rule at a cursor: its atoms one after another, its head by its parts, and the whole. Assumes nothing.
 use borrow.Author.Tests.{lt-ltb, le-ltb}
 use mathlib.Core.List.{List, [], _∷_}
 use mathlib.Core.Path.{_≡_, refl, subst}
@@ -6,13 +6,15 @@ use native.Mathlib.Nat.{sub-zero}
 use native.Mathlib.Omega.{arith}
 use Prim.Native.Nat.{ℕ, zero, suc, _+_, _-_, _≤_, _<_, zero-le}
 use Rattle.meaning.specs.Limits.{maxAtoms, maxVariables}
-use Rattle.meaning.specs.Pack.{Atom}
+use Rattle.meaning.specs.Pack.{Atom, Term}
 use Rattle.meaning.specs.Tests.{within}
-use Rattle.pack.specs.Readers.{Reader, byte, byteIn}
+use Rattle.pack.specs.Readers.{Reader, _>>=_, byte, byteIn}
 use Rattle.pack.specs.Records.{atom, atomOf, atoms, term, termOf, headOf, rule}
-use Rattle.pack.specs.Shown.{Placed, Got, Not, TupleGot, Skipped, MovedShown, HeadGot, HeadShown, RuleGot, made}
+use Rattle.pack.specs.Shown.{Placed, Got, Not, TupleGot, TupleShown, Skipped, MovedShown, ObjectGot, ObjectShown, objectOf, HeadGot, HeadShown, RuleGot, made}
 use Rattle.pack.specs.declared.cursor.Cursor.{Cursor}
 use Rattle.pack.specs.declared.cursor.Tuple.{Tuple}
+use Rattle.pack.specs.declared.cursor.TupleRead.{TupleRead}
+use Rattle.pack.specs.declared.cursor.TupleRead.the-variants.{Tuple as ATuple, Bad as NoTuple}
 use Rattle.pack.specs.declared.cursor.Moved.{Moved}
 use Rattle.pack.specs.declared.cursor.Moved.the-variants.{To, Stuck}
 use Rattle.pack.specs.declared.cursor.HeadRead.{HeadRead}
@@ -58,79 +60,73 @@ pub atoms-done : {s : List ℕ} {c₀ c : Cursor} {n i : ℕ} → Atoms s c₀ n
 unfolding atoms
 atoms-done {n} {i} p h = let e : n - i ≡ 0 = omega arith in p .whole [] _ (rw e (give-got (p .placed)))
 
--- ---- the head
+-- ---- what follows the label
+
+two-or-more : (Q : ℕ → Type 0) (kind : ℕ) → (kind ≡ 0 → ⊥) → (kind ≡ 1 → ⊥) → ((k : ℕ) → Q (suc (suc k))) → Q kind
+two-or-more Q zero x y q = absurd (x refl)
+two-or-more Q (suc zero) x y q = absurd (y refl)
+two-or-more Q (suc (suc k)) x y q = q k
+
+module _ (s : List ℕ) (c : Cursor) (kind : ℕ) where
+  pub object-none : kind ≡ 0 → Placed s c → ObjectGot kind s c (record { number = 0; start = 0; len = 0 }) c
+  unfolding objectOf
+  object-none k p = rw k (record { got = λ t l. give-got p; inside = zero-le })
+
+  pub object-term : (r : TupleRead) → kind ≡ 1 → TupleShown termOf term s c r → ObjectShown kind s c r
+  unfolding objectOf
+  object-term (ATuple u d) k o = rw k (record { got = λ t l. then-got _ (o .got) (give-got (o .got .placed)); inside = o .inside })
+  object-term NoTuple k n = rw k (λ t l. then-not _ n)
+
+  module _ (x : kind ≡ 0 → ⊥) (y : kind ≡ 1 → ⊥) where
+    pub object-variable : {v : ℕ} {d : Cursor} → Got byte s c v d → v < maxVariables → ObjectGot kind s c (record { number = v; start = 0; len = 0 }) d
+    unfolding objectOf
+    object-variable {v} {d} g h = two-or-more (λ k. ObjectGot k s c (record { number = v; start = 0; len = 0 }) d) kind x y (λ k. record {
+      got = λ t l. then-got _ g (then-got _ (only-got (lt-ltb v maxVariables h) (g .placed)) (give-got (g .placed)));
+      inside = zero-le;
+    })
+
+    pub object-not : Not byte s c → (t : Term) (l : ℕ) → Not (objectOf kind t l) s c
+    unfolding objectOf
+    object-not n t l = two-or-more (λ k. Not (objectOf k t l) s c) kind x y (λ k. then-not _ n)
+
+    pub object-out : {v : ℕ} {d : Cursor} → Got byte s c v d → maxVariables ≤ v → (t : Term) (l : ℕ) → Not (objectOf kind t l) s c
+    unfolding objectOf
+    object-out {v} g h t l =
+        two-or-more (λ k. Not (objectOf k t l) s c) kind x y (λ k. then-bad _ g (then-not _ (only-not v (le-ltb v maxVariables h))))
+
+module _ {s : List ℕ} {c : Cursor} {r : TupleRead} where
+  pub as-object : (kind : ℕ) {u : Tuple} {d : Cursor} → r ≡ ATuple u d → ObjectShown kind s c r → ObjectGot kind s c u d
+  as-object kind e h = subst (λ (q : TupleRead). ObjectShown kind s c q) e h
+
+  pub no-object : (kind : ℕ) → r ≡ NoTuple → ObjectShown kind s c r → (t : Term) (l : ℕ) → Not (objectOf kind t l) s c
+  no-object kind e h = subst (λ (q : TupleRead). ObjectShown kind s c q) e h
+
+-- ---- the head: a term, a byte, and what follows by its kind
+
+by-kind : (kind : ℕ) → headOf kind ≡ _>>=_ term (λ t. _>>=_ byte (objectOf kind t))
+unfolding headOf objectOf
+by-kind zero = refl
+by-kind (suc zero) = refl
+by-kind (suc (suc k)) = refl
 
 module _ {s : List ℕ} {c : Cursor} (kind : ℕ) where
   pub head-not : Not term s c → Not (headOf kind) s c
-  unfolding headOf
-  head-not = go kind
-    where
-      go : (k : ℕ) → Not term s c → Not (headOf k) s c
-      go zero n = then-not _ n
-      go (suc zero) n = then-not _ n
-      go (suc (suc k)) n = then-not _ n
+  head-not n = rw (by-kind kind) (then-not _ n)
 
   module _ {t : Tuple} {d : Cursor} (g : TupleGot termOf term s c t d) where
     pub head-unlabelled : Not byte s d → Not (headOf kind) s c
-    unfolding headOf
-    head-unlabelled = go kind
-      where
-        go : (k : ℕ) → Not byte s d → Not (headOf k) s c
-        go zero n = then-bad _ (g .got) (then-not _ n)
-        go (suc zero) n = then-bad _ (g .got) (then-not _ n)
-        go (suc (suc k)) n = then-bad _ (g .got) (then-not _ n)
+    head-unlabelled n = rw (by-kind kind) (then-bad _ (g .got) (then-not _ n))
 
     module _ {l : ℕ} {e : Cursor} (b : Got byte s d l e) where
-      pub head-type : kind ≡ 0 → HeadGot kind s c t l (record { number = 0; start = 0; len = 0 }) e
-      unfolding headOf
-      head-type k = rw k (record {
-        got = then-got _ (g .got) (then-got _ b (give-got (b .placed)));
-        subject-inside = g .inside;
-        object-inside = zero-le;
-      })
-
-      pub head-link : {u : Tuple} {f : Cursor} → kind ≡ 1 → TupleGot termOf term s e u f → HeadGot kind s c t l u f
-      unfolding headOf
-      head-link k o = rw k (record {
-        got = then-got _ (g .got) (then-got _ b (then-got _ (o .got) (give-got (o .got .placed))));
+      pub head-got : {u : Tuple} {f : Cursor} → ObjectGot kind s e u f → HeadGot kind s c t l u f
+      head-got o = record {
+        got = rw (by-kind kind) (then-got _ (g .got) (then-got _ b (o .got t l)));
         subject-inside = g .inside;
         object-inside = o .inside;
-      })
+      }
 
-      pub head-no-link : kind ≡ 1 → Not term s e → Not (headOf kind) s c
-      unfolding headOf
-      head-no-link k n = rw k (then-bad _ (g .got) (then-bad _ b (then-not _ n)))
-
-      pub head-value : {v : ℕ} {f : Cursor} → (kind ≡ 0 → ⊥) → (kind ≡ 1 → ⊥) → Got byte s e v f → v < maxVariables → HeadGot kind s c t l (record { number = v; start = 0; len = 0 }) f
-      unfolding headOf
-      head-value {v} {f} = go kind
-        where
-          go : (k : ℕ) → (k ≡ 0 → ⊥) → (k ≡ 1 → ⊥) → Got byte s e v f → v < maxVariables → HeadGot k s c t l (record { number = v; start = 0; len = 0 }) f
-          go zero x y r h = absurd (x refl)
-          go (suc zero) x y r h = absurd (y refl)
-          go (suc (suc k)) x y r h = record {
-            got = then-got _ (g .got) (then-got _ b (then-got _ r (then-got _ (only-got (lt-ltb v maxVariables h) (r .placed)) (give-got (r .placed)))));
-            subject-inside = g .inside;
-            object-inside = zero-le;
-          }
-
-      pub head-no-value : (kind ≡ 0 → ⊥) → (kind ≡ 1 → ⊥) → Not byte s e → Not (headOf kind) s c
-      unfolding headOf
-      head-no-value = go kind
-        where
-          go : (k : ℕ) → (k ≡ 0 → ⊥) → (k ≡ 1 → ⊥) → Not byte s e → Not (headOf k) s c
-          go zero x y n = absurd (x refl)
-          go (suc zero) x y n = absurd (y refl)
-          go (suc (suc k)) x y n = then-bad _ (g .got) (then-bad _ b (then-not _ n))
-
-      pub head-out : {v : ℕ} {f : Cursor} → (kind ≡ 0 → ⊥) → (kind ≡ 1 → ⊥) → Got byte s e v f → maxVariables ≤ v → Not (headOf kind) s c
-      unfolding headOf
-      head-out {v} {f} = go kind
-        where
-          go : (k : ℕ) → (k ≡ 0 → ⊥) → (k ≡ 1 → ⊥) → Got byte s e v f → maxVariables ≤ v → Not (headOf k) s c
-          go zero x y r h = absurd (x refl)
-          go (suc zero) x y r h = absurd (y refl)
-          go (suc (suc k)) x y r h = then-bad _ (g .got) (then-bad _ b (then-bad _ r (then-not _ (only-not v (le-ltb v maxVariables h)))))
+      pub head-no-object : ((t : Term) (l : ℕ) → Not (objectOf kind t l) s e) → Not (headOf kind) s c
+      head-no-object n = rw (by-kind kind) (then-bad _ (g .got) (then-bad _ b (n _ _)))
 
 module _ {kind : ℕ} {s : List ℕ} {c : Cursor} {r : HeadRead} where
   pub as-head : {t : Tuple} {l : ℕ} {u : Tuple} {d : Cursor} → r ≡ AHead t l u d → HeadShown kind s c r → HeadGot kind s c t l u d

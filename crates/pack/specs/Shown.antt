@@ -6,10 +6,10 @@ use mathlib.Core.Option.{none, some}
 use mathlib.Core.Path.{_≡_}
 use Prim.Native.Nat.{ℕ, zero, suc, _+_, _≤_}
 use Rattle.meaning.specs.Limits.{maxAtoms}
-use Rattle.meaning.specs.Pack.{ShapeRecord, Atom, Head, hasType, linksTo, linksToValue}
+use Rattle.meaning.specs.Pack.{ShapeRecord, Atom, Head, Term, hasType, linksTo, linksToValue}
 use Rattle.pack.specs.Contents.{startOf, bodyOf}
-use Rattle.pack.specs.Readers.{Reader}
-use Rattle.pack.specs.Records.{dependency, shape, constructor, targetOf, multiplicityOf, atoms, termOf, headOf, rule}
+use Rattle.pack.specs.Readers.{Reader, _>>=_, byte, give, only}
+use Rattle.pack.specs.Records.{dependency, shape, constructor, targetOf, multiplicityOf, variable, atoms, term, termOf, headOf, rule}
 use Rattle.pack.specs.declared.cursor.Cursor.{Cursor}
 use Rattle.pack.specs.declared.cursor.Tuple.{Tuple}
 use Rattle.pack.specs.declared.cursor.ByteRead.{ByteRead}
@@ -130,6 +130,25 @@ abbrev pub headAt : ℕ → List ℕ → Tuple → ℕ → Tuple → Head
 headAt zero s t l u = hasType (made termOf s t) l
 headAt (suc zero) s t l u = linksTo (made termOf s t) l (made termOf s u)
 headAt (suc (suc k)) s t l u = linksToValue (made termOf s t) l (u .number)
+
+-- what a head of a kind has after its term and its type or predicate
+unfoldable pub objectOf : ℕ → Term → ℕ → Reader Head
+objectOf zero t l = give (hasType t l)
+objectOf (suc zero) t l = do
+  u ← term
+  give (linksTo t l u)
+objectOf (suc (suc k)) t l = do
+  v ← byte
+  w ← only (variable v) v
+  give (linksToValue t l w)
+
+pub record ObjectGot (kind : ℕ) (s : List ℕ) (c : Cursor) (u : Tuple) (d : Cursor) : Type 0 where
+  pub got : (t : Tuple) (l : ℕ) → Got (objectOf kind (made termOf s t) l) s c (headAt kind s t l u) d
+  pub inside : u .start + u .len ≤ length s
+
+abbrev pub ObjectShown : ℕ → List ℕ → Cursor → TupleRead → Type 0
+ObjectShown kind s c (ATuple u d) = ObjectGot kind s c u d
+ObjectShown kind s c NoTuple = (t : Term) (l : ℕ) → Not (objectOf kind t l) s c
 
 pub record HeadGot (kind : ℕ) (s : List ℕ) (c : Cursor) (t : Tuple) (l : ℕ) (u : Tuple) (d : Cursor) : Type 0 where
   pub got : Got (headOf kind) s c (headAt kind s t l u) d

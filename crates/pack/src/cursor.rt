@@ -2,7 +2,7 @@
 ghost use Rattle.pack.specs.Readers.{byte, byteIn, sized};
 ghost use Rattle.pack.specs.Records.{value, relation, dependency, name, shape, constructor, tuple, atom, atomOf, term, termOf, row, rowOf, atoms, rule};
 ghost use Rattle.pack.specs.Classes.{inClass};
-ghost use Rattle.pack.specs.Shown.{Placed, pair, ByteShown, TextShown, DependencyShown, ShapeShown, ConstructorShown, TupleShown, MovedShown, HeadShown, RuleShown};
+ghost use Rattle.pack.specs.Shown.{Placed, pair, ByteShown, TextShown, DependencyShown, ShapeShown, ConstructorShown, TupleShown, MovedShown, ObjectShown, HeadShown, RuleShown};
 use crate::bytes::Class;
 use crate::bytes::all_pass;
 use crate::bytes::in_range;
@@ -348,6 +348,44 @@ impl Cursor {
         Moved::To(c)
     }
 
+    // What a head of a kind has after its term and its type or predicate: nothing, a term, or a variable as the number.
+    pub fn object(self, s: &[u8], kind: u8) -> TupleRead
+        requires { ⌜ Placed (now s) self ⌝ }
+        ensures { λ r. ⌜ ObjectShown kind (now (s .entry)) self r ⌝ }
+    {
+        if kind == 0 {
+            return TupleRead::Tuple {
+                tuple: Tuple {
+                    number: 0,
+                    start: 0,
+                    len: 0,
+                },
+                next: self,
+            };
+        }
+        if kind == 1 {
+            return self.term(s);
+        }
+        let ByteRead::Byte {
+            value: number,
+            next,
+        } = self.byte(s)
+        else {
+            return TupleRead::Bad;
+        };
+        if MAX_VARIABLES <= number as usize {
+            return TupleRead::Bad;
+        }
+        TupleRead::Tuple {
+            tuple: Tuple {
+                number,
+                start: 0,
+                len: 0,
+            },
+            next,
+        }
+    }
+
     pub fn head(self, s: &[u8], kind: u8) -> HeadRead
         requires { ⌜ Placed (now s) self ⌝ }
         ensures { λ r. ⌜ HeadShown kind (now (s .entry)) self r ⌝ }
@@ -366,47 +404,17 @@ impl Cursor {
         else {
             return HeadRead::Bad;
         };
-        if kind == 0 {
-            return HeadRead::Head {
-                subject,
-                label,
-                object: Tuple {
-                    number: 0,
-                    start: 0,
-                    len: 0,
-                },
-                next: b,
-            };
-        }
-        if kind == 1 {
-            let TupleRead::Tuple {
-                tuple: object,
-                next,
-            } = b.term(s)
-            else {
-                return HeadRead::Bad;
-            };
-            return HeadRead::Head {
-                subject,
-                label,
-                object,
-                next,
-            };
-        }
-        let ByteRead::Byte { value, next } = b.byte(s) else {
+        let TupleRead::Tuple {
+            tuple: object,
+            next,
+        } = b.object(s, kind)
+        else {
             return HeadRead::Bad;
         };
-        if MAX_VARIABLES <= value as usize {
-            return HeadRead::Bad;
-        }
         HeadRead::Head {
             subject,
             label,
-            object: Tuple {
-                number: value,
-                start: 0,
-                len: 0,
-            },
+            object,
             next,
         }
     }
