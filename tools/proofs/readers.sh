@@ -12,4 +12,5 @@ rt dev query --generated "$work/generated" >/dev/null 2>&1 || true
 python3 tools/proofs/fill.py "$work/stub" tools/proofs/readers.answers "$work/generated/Rattle.query.proofs/proofs/$cycle" "$proof" \
     read_atom read_sequence read_step read_union
 python3 tools/proofs/inline.py "$proof"
+python3 tools/proofs/tidy.py "$proof"
 rt fmt
