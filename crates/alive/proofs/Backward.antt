@@ -14,11 +14,12 @@ use Rattle.index.specs.Index.{Met}
 use Rattle.index.specs.Triples.{predicateOf, subjectOf}
 use Rattle.meaning.specs.Limits.{maxStates}
 use Rattle.query.specs.Tree.{firstNumber, kindOf}
-use Rattle.states.proofs.Marking.{adds-as, adds-none, adds-same, adds-then, true-false}
+use Rattle.states.proofs.Marking.{adds-as, adds-none, adds-same, adds-then}
 use Rattle.states.specs.State.{state}
 use Rattle.states.specs.Table.{Adds, Marked, Table}
 use Rattle.walk.proofs.KindLaws.{kind-chain, kind-either, kind-leaf, kind-repeat, kind-test}
 use Rattle.walk.specs.Parts.{Child, Part, chain, either, leaf, partOf, repeat, test}
+use Rattle.meaning.proofs.Cases.{true-false}
 
 -- ---- one triple
 

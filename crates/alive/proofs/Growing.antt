@@ -16,7 +16,7 @@ use Rattle.index.proofs.Chains.{met-first, met-later, met-none, met-split}
 use Rattle.index.specs.Index.{ByObject, Met}
 use Rattle.meaning.specs.Limits.{maxStates}
 use Rattle.meaning.specs.Query.{Joins}
-use Rattle.states.proofs.Marking.{adds-as, adds-none, adds-then, clean-free, nothing-marked, true-false}
+use Rattle.states.proofs.Marking.{adds-as, adds-none, adds-then, clean-free, nothing-marked}
 use Rattle.states.proofs.States.{node-inside, state-inside, state-node, state-part}
 use Rattle.states.specs.State.{nodeAt, partAt, state}
 use Rattle.states.specs.Table.{Adds, Marked, Table, Unmarked}
@@ -25,6 +25,7 @@ use Rattle.walk.specs.Parts.{Child, Part, chain, either, leaf, listed, partOf, 
 use Rattle.walk.specs.Walk.{Saturated, StepBy, ended}
 use Rattle.alive.proofs.Leaves.{leaf-says, leaf-to}
 use Rattle.alive.proofs.States.{alive-at, back-part, leaf-kind, led-more, part-alive, state-alive}
+use Rattle.meaning.proofs.Cases.{true-false}
 
 -- ---- the ends, node by node
 

@@ -22,12 +22,13 @@ use Rattle.index.specs.Triples.{objectOf, predicateOf}
 use Rattle.meaning.specs.Limits.{maxNodes, maxStates}
 use Rattle.meaning.specs.Query.{Joins}
 use Rattle.query.specs.Tree.{firstNumber, kindOf}
-use Rattle.states.proofs.Marking.{adds-both, adds-none, adds-same, true-false}
+use Rattle.states.proofs.Marking.{adds-both, adds-none, adds-same}
 use Rattle.states.specs.State.{nodeAt, partAt, state}
 use Rattle.states.specs.Table.{Adds, Table}
 use Rattle.walk.proofs.KindLaws.{kind-chain, kind-either, kind-repeat, kind-test}
 use Rattle.walk.specs.Parts.{Child, Part, chain, either, leaf, listed, partOf, repeat, test}
 use Rattle.walk.specs.Walk.{StepBy}
+use Rattle.meaning.proofs.Cases.{true-false}
 
 -- What a part leads to, where it is p.
 module _ (tree table : List ℕ) (i after n : ℕ) (p : Part) (e : partOf tree i ≡ p) where

@@ -2,7 +2,7 @@
 use lib.ListN.{length, length-append, set, take}
 use lib.Seq.{length-take-le, take-suc-set}
 use mathlib.Core.List.{List, List·Memᴰ·append-cases, Memᴰ·append-left, Memᴰ·append-right, [], append-assoc, append-nil, _++_, _∷_}
-use mathlib.Core.Logic.{⊎-elim, _≢_, _⊎_}
+use mathlib.Core.Logic.{⊎-elim}
 use mathlib.Core.Path.{ap, refl, subst, sym, _∙_, _≡_}
 use native.Mathlib.Decide.{decLt, ℕ-discrete}
 use native.Mathlib.Numerals.{add-one}
@@ -18,13 +18,16 @@ use Rattle.answers.specs.Keys.{pairKey}
 use Rattle.meaning.specs.Limits.{maxPairs}
 use Rattle.meaning.specs.Member.{here, there, _∈_}
 use Rattle.meaning.specs.Ordered.{InOrder, ListOf, Over, before, empty}
-use Rattle.states.proofs.Marking.{true-false}
 use Rattle.states.specs.State.{state}
 use Rattle.states.specs.Table.{has, Marked}
 use Rattle.walk.proofs.Alive.{alive-saturated}
 use Rattle.walk.specs.Parts.{listed, partOf}
 use Rattle.walk.specs.Walk.{ended, onward, start}
 use mathlib.Core.Bool.{Bool, false, true}
+use Rattle.meaning.proofs.Cases.{true-false}
+use Rattle.meaning.proofs.Lists.Counting.{listed-over}
+use Rattle.meaning.proofs.Lists.Ordered.{<-strict}
+use Rattle.meaning.proofs.Lists.SetLists.{joined-order}
 
 -- ---- one start, end by end
 
@@ -146,18 +149,6 @@ module _ (seen : List ℕ) (part stamp start : ℕ) where
 
 -- ---- lists of a set, piece by piece
 
-append-order : (xs ys : List ℕ) → InOrder _<_ xs → InOrder _<_ ys → ((x y : ℕ) → x ∈ xs → y ∈ ys → x < y) → InOrder _<_ (xs ++ ys)
-append-order [] ys a b h = b
-append-order (x ∷ xs) ys (before p a) b h =
-    before (λ y m. ⊎-elim (λ n. p y n) (λ n. h x y (here refl) n) (List·Memᴰ·append-cases xs m)) (append-order xs ys a b (λ z y m n. h z y (there m) n))
-
-apart : (x y : ℕ) → x < y → x ≢ y
-apart x y l e = omega arith
-
-differ : (xs : List ℕ) → InOrder _<_ xs → InOrder _≢_ xs
-differ [] a = empty
-differ (x ∷ xs) (before p a) = before (λ y m. apart x y (p y m)) (differ xs a)
-
 module _ (Q : ℕ → Type 0) where
   abbrev Below : ℕ → ℕ → Type 0
   Below b x = Q x × (x < b)
@@ -168,7 +159,7 @@ module _ (Q : ℕ → Type 0) where
 
   list-append : {b c : ℕ} {xs ys : List ℕ} → b ≤ c → ListOf _<_ (Below b) xs → InOrder _<_ ys → ((x : ℕ) → x ∈ ys → Q x × (b ≤ x) × (x < c)) → ((x : ℕ) → Q x → b ≤ x → x < c → x ∈ ys) → ListOf _<_ (Below c) (xs ++ ys)
   list-append {b} {c} {xs} {ys} h l up sound complete = record {
-    ascending = append-order xs ys (l .ascending) up (λ x y m n. let p = l .members x .0 m .1 in let q = sound y n .1 in omega arith);
+    ascending = joined-order xs ys (l .ascending) up (λ x y m n. let p = l .members x .0 m .1 in let q = sound y n .1 in omega arith);
     members = λ x. ((λ m. ⊎-elim (λ n. let p = l .members x .0 n in let g = p .1 in (p .0, omega arith)) (λ n. let p = sound x n in (p .0, p .2)) (List·Memᴰ·append-cases xs m)), (λ (q, g). back x q g (decLt x b)));
   }
     where
@@ -187,7 +178,7 @@ module _ (Q : ℕ → Type 0) where
       back x q g (no n) = absurd (none x q (omega arith) g)
 
   list-over : {c : ℕ} {k : ℕ} {xs : List ℕ} → ListOf _<_ (Below c) xs → k < length xs → Over k Q
-  list-over {c} {k} {xs} l h = record { some = xs; differ = differ xs (l .ascending); members = λ x m. l .members x .0 m .0; over = h }
+  list-over l h = listed-over <-strict (l .ascending) (λ x m. l .members x .0 m .0) h
 
 -- ---- the pairs
 

@@ -6,10 +6,8 @@ use mathlib.Core.List.{List, [], _∷_}
 use mathlib.Core.Logic.{inl, inr}
 use mathlib.Core.Option.{Option, none, some, Option·some-injective}
 use mathlib.Core.Path.{_≡_, refl, sym, ap, _∙_}
-use native.Mathlib.Omega.{arith}
 use Prim.Native.Nat.{ℕ, _≤_}
 use Rattle.cases.proofs.Run.{isTerm, smallCore}
-use Rattle.evaluate.proofs.Over.{listed-few, no-more, over-carried}
 use Rattle.meaning.proofs.Lists.Members.{both, every-at}
 use Rattle.meaning.proofs.Lists.Places.{placed}
 use Rattle.meaning.proofs.Model.Core.{coreNodes, given-iff, node-in}
@@ -28,16 +26,13 @@ use Rattle.meaning.specs.Pack.{Constructor, Pack}
 use Rattle.meaning.specs.Query.{Expr}
 use Rattle.meaning.specs.Tests.{every, thereAnd}
 use Rattle.spelling.specs.Iri.{IsTerm}
+use Rattle.meaning.proofs.Lists.Counting.{listed-few, over-carried}
 
 -- ---- 9
 
--- different elements of a list are no more than its length
-few-in : {A : Type 0} {xs : List A} {k : ℕ} → length xs ≤ k → ¬ Over k (λ x. x ∈ xs)
-few-in {xs = xs} h o = let r = no-more (o .some) xs (o .differ) (o .members) in let s = o .over in omega arith
-
 module _ (P : Pack) (wf : Resolved P) where
   few-iris : length (coreNodes P) ≤ maxIris → ¬ Over maxIris (CoreIri P)
-  few-iris h o = few-in h (over-carried (CoreIri P) (λ n. n ∈ coreNodes P) (λ t n. iriNode (t .0) (t .1) ≡ n) (λ t i. (iriNode (t .0) (t .1), node-in P wf i, refl)) one o)
+  few-iris h o = listed-few (λ x m. m) h (over-carried (CoreIri P) (λ n. n ∈ coreNodes P) (λ t n. iriNode (t .0) (t .1) ≡ n) (λ t i. (iriNode (t .0) (t .1), node-in P wf i, refl)) one o)
     where
       one : (t u : ℕ × List ℕ) (n : Node) → iriNode (t .0) (t .1) ≡ n → iriNode (u .0) (u .1) ≡ n → t ≡ u
       one t u n e f =
@@ -47,7 +42,7 @@ module _ (P : Pack) (wf : Resolved P) where
           λ i. (c i, vs i)
 
   few-triples : length (facts P) ≤ maxCoreTriples → ¬ Over maxCoreTriples (CoreTriple P)
-  few-triples h o = few-in h (over-carried (CoreTriple P) (λ f. f ∈ facts P) (λ t f. triple (t .0) (t .1) (t .2) ≡ f) (λ t g. (triple (t .0) (t .1) (t .2), given-iff P wf _ .1 g, refl)) one o)
+  few-triples h o = listed-few (λ x m. m) h (over-carried (CoreTriple P) (λ f. f ∈ facts P) (λ t f. triple (t .0) (t .1) (t .2) ≡ f) (λ t g. (triple (t .0) (t .1) (t .2), given-iff P wf _ .1 g, refl)) one o)
     where
       one : (t u : Node × ℕ × Node) (f : Fact) → triple (t .0) (t .1) (t .2) ≡ f → triple (u .0) (u .1) (u .2) ≡ f → t ≡ u
       one t u f d e =
@@ -98,7 +93,7 @@ module _ (σ : Spelling) (P : Pack) (e : Expr) (nodes : List BuiltNode) (ordered
       λ i. (x i, y i)
 
   pub not-many : {records : List (List ℕ)} → PairList σ P e nodes records → length records ≤ maxPairs → ¬ TooManyPairs σ P e
-  not-many l h o = listed-few l h (over-carried (NamedPair σ P e) (PairRecord σ P e nodes) Ends image one o)
+  not-many l h o = listed-few (λ x. l .members x .1) h (over-carried (NamedPair σ P e) (PairRecord σ P e nodes) Ends image one o)
 
 -- ---- a term of the pack
 

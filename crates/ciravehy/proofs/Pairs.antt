@@ -1,17 +1,12 @@
 -- A list of certain pairs is no longer than refusal 12 allows. Assumes nothing.
-use borrow.Author.Tests.{ltb-true, ltb-false}
-use lib.Dec.{ltb}
 use lib.ListN.{getElem?, length}
 use mathlib.Core.List.{List, [], _∷_}
-use mathlib.Core.Logic.{_≢_}
 use mathlib.Core.Option.{some}
-use mathlib.Core.Path.{_≡_, sym, subst, _∙_}
-use native.Mathlib.Omega.{arith}
+use mathlib.Core.Path.{_≡_, sym, _∙_}
 use Prim.Native.Nat.{ℕ, _≤_}
 use Rattle.evaluate.proofs.Built.{built-listed}
-use Rattle.evaluate.proofs.Over.{over-carried}
 use Rattle.meaning.proofs.Lists.Members.{element}
-use Rattle.meaning.proofs.Lists.Ordered.{≺-irrefl}
+use Rattle.meaning.proofs.Lists.Ordered.{by-key}
 use Rattle.meaning.proofs.Theory.Simulated.{is-core}
 use Rattle.meaning.specs.Built.{BuiltNode, core}
 use Rattle.meaning.specs.Certain.{NamedPair, PairList, PairRecord, TooManyPairs}
@@ -19,15 +14,10 @@ use Rattle.meaning.specs.Core.{CoreNode, Node}
 use Rattle.meaning.specs.Graph.{Spelling}
 use Rattle.meaning.specs.Limits.{maxPairs}
 use Rattle.meaning.specs.Listing.{NodesInOrder}
-use Rattle.meaning.specs.Ordered.{InOrder, _≺_, before, empty}
 use Rattle.meaning.specs.Pack.{Pack}
 use Rattle.meaning.specs.Query.{Expr}
-use Rattle.meaning.proofs.Cases.{case-on}
-
--- what ascends is all different
-different : {xs : List (List ℕ)} → InOrder _≺_ xs → InOrder _≢_ xs
-different empty = empty
-different (before {x} f o) = before (λ y m e. ≺-irrefl x (subst (λ z. x ≺ z) (sym e) (f y m))) (different o)
+use Rattle.meaning.proofs.Lists.Counting.{listed-over, over-carried}
+use Rattle.meaning.proofs.Cases.{case-lt}
 
 module _ (σ : Spelling) (P : Pack) (e : Expr) (nodes : List BuiltNode) (ordered : NodesInOrder P nodes) where
   -- the numbers are the places of these two nodes
@@ -56,7 +46,6 @@ module _ (σ : Spelling) (P : Pack) (e : Expr) (nodes : List BuiltNode) (ordered
 
   pub few-pairs : (records : List (List ℕ)) → PairList σ P e nodes records → ¬ TooManyPairs σ P e → length records ≤ maxPairs
   few-pairs records l few =
-      case-on (ltb maxPairs (length records))
-      (λ h. absurd (few (over-carried (PairRecord σ P e nodes) (NamedPair σ P e) Ends image one
-      (record { some = records; differ = different (l .ascending); members = λ x m. l .members x .0 m; over = ltb-true maxPairs (length records) h }))))
-      (λ h. let k = ltb-false maxPairs (length records) h in omega arith)
+      case-lt maxPairs (length records)
+      (λ h. absurd (few (over-carried (PairRecord σ P e nodes) (NamedPair σ P e) Ends image one (listed-over (by-key (λ x. x)) (l .ascending) (λ x m. l .members x .0 m) h))))
+      (λ h. h)

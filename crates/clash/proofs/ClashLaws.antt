@@ -13,11 +13,12 @@ use Rattle.core.specs.Keys.{keyOf, objectOf, originOf, predicateOf, subjectOf, 
 use Rattle.clash.specs.Clash.{ClashAt, Clashes, LimitedAt, SameOrigin}
 use Rattle.core_lists.specs.Input.{Input}
 use Rattle.core_lists.proofs.Keys.{key-less, less-key}
-use Rattle.core_lists.proofs.Places.{EdgeAt, at, at-is, edge-at, edge-key, limits-masked, masked, place-of, place-small, predicate-small, same-node-at, same-place, shaped, well}
+use Rattle.core_lists.proofs.Places.{EdgeAt, edge-at, edge-key, limits-masked, masked, place-of, place-small, predicate-small, same-node-at, same-place, shaped, well}
 use Rattle.core_lists.proofs.Proper.{proper}
 use Rattle.core_lists.proofs.Shaped.{limits-shape}
 use Rattle.meaning.proofs.Lists.Members.{element}
-use Rattle.meaning.proofs.Lists.Places.{inside, placed}
+use Rattle.meaning.proofs.Lists.OrderedPlaces.{greater-later, lower-earlier}
+use Rattle.meaning.proofs.Lists.Places.{entry-at, entry-is, inside, placed}
 use Rattle.meaning.proofs.Model.Clash.{Limits}
 use Rattle.meaning.specs.Built.{core}
 use Rattle.meaning.specs.Clash.{FirstClash}
@@ -28,7 +29,6 @@ use Rattle.meaning.specs.Member.{_∈_, here, there}
 use Rattle.meaning.specs.NoGraph.{TwoObjects}
 use Rattle.meaning.specs.Ordered.{InOrder, before}
 use Rattle.meaning.specs.Pack.{Pack, limits}
-use Rattle.sets.proofs.Ascending.{greater-later, lower-earlier}
 use Rattle.shapes.specs.Shapes.{SomePasses}
 
 module _ (table : List (List ℕ)) (triples masks : List ℕ) where
@@ -75,15 +75,15 @@ module _ {P : Pack} {table : List (List ℕ)} {nodes triples masks : List ℕ} (
     earlier-place : core n ◃ core m → i < j
     earlier-place h =
         let k = key-less P (I .bounded) n m (proper P (well I) c) (proper P (well I) d) h in
-        let x = at-is nodes i (keyOf n) e in
-        let y = at-is nodes j (keyOf m) f in
+        let x = entry-is nodes i (keyOf n) e in
+        let y = entry-is nodes j (keyOf m) f in
         lower-earlier nodes (I .held .node-keys .ascending) i j (inside nodes i (keyOf n) e) (omega arith)
 
     place-earlier : i < j → core n ◃ core m
     place-earlier h =
         let k = greater-later nodes (I .held .node-keys .ascending) i j h (inside nodes j (keyOf m) f) in
-        let x = at-is nodes i (keyOf n) e in
-        let y = at-is nodes j (keyOf m) f in
+        let x = entry-is nodes i (keyOf n) e in
+        let y = entry-is nodes j (keyOf m) f in
         less-key P (I .bounded) n m (proper P (well I) c) (proper P (well I) d) (omega arith)
 
   -- ---- a clash has a key at which the search stops
@@ -117,7 +117,7 @@ module _ {P : Pack} {table : List (List ℕ)} {nodes triples masks : List ℕ} (
         let r = placed m in
         let n = next-le triples (I .held .triple-keys .ascending) (r .0) y y′ (r .1) m′ (omega arith) in
         let k = getD triples (suc (r .0)) 0 in
-        let ia = at-is triples (r .0) y (r .1) in
+        let ia = entry-is triples (r .0) y (r .1) in
         let n1 = n .1 in let n2 = n .2 in
         let q : originOf y ≡ originOf k = omega arith in
         let es : subjectOf k ≡ i = omega arith in
@@ -263,7 +263,7 @@ module _ {P : Pack} {table : List (List ℕ)} {nodes triples masks : List ℕ} (
   -- what stands at a place where the search stops
   clash-is : (i : ℕ) → suc i < length triples → Searched table triples masks (suc i) → originOf (getD triples i 0) ≡ originOf (getD triples (suc i) 0)
       → LimitedAt table triples masks (suc i) true → ClashAt P nodes triples i
-  clash-is i h s q l = go (getD triples i 0) (getD triples (suc i) 0) (at triples i (omega arith)) (at triples (suc i) h) (greater-later triples asc i (suc i) (omega arith) h) q l clear
+  clash-is i h s q l = go (getD triples i 0) (getD triples (suc i) 0) (entry-at triples i (omega arith)) (entry-at triples (suc i) h) (greater-later triples asc i (suc i) (omega arith) h) q l clear
     where
       asc : InOrder _<_ triples
       asc = I .held .triple-keys .ascending

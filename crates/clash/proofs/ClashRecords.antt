@@ -11,17 +11,16 @@ use Rattle.clash.specs.Clash.{ClashAt, ClashWritten}
 use Rattle.core_lists.specs.Input.{Input, KeysSmall, Placed}
 use Rattle.node_list.specs.Records.{Arities, coreNumbers, overwritten}
 use Rattle.node_list.proofs.CoreList.{numbers-long}
-use Rattle.core_lists.proofs.Places.{at-is, masked, place-small, predicate-small, well}
+use Rattle.core_lists.proofs.Places.{masked, place-small, predicate-small, well}
 use Rattle.core_lists.proofs.Proper.{proper}
 use Rattle.node_list.proofs.Records.{core-record}
 use Rattle.node_list.proofs.Written.{parts-written, written-long}
-use Rattle.meaning.proofs.Lists.Places.{inside}
+use Rattle.meaning.proofs.Lists.Places.{entry-is, inside, ∈-at}
 use Rattle.meaning.specs.Built.{core}
 use Rattle.meaning.specs.Core.{CoreNode, Node, asObject, asSubject}
 use Rattle.meaning.specs.Limits.{clashWidth, firstLiteral, maxPredicates, maxValues, nodeWidth, placeRoom}
 use Rattle.meaning.specs.Listing.{NodeRecord}
 use Rattle.meaning.specs.Pack.{Pack}
-use Rattle.sets.proofs.Ascending.{∈-at}
 
 parts-at : (at k : ℕ) (a b out : List ℕ) → length a ≡ k → at + k ≤ length out → overwritten (at + k) b (overwritten at a out) ≡ overwritten at (a ++ b) out
 parts-at at k a b out e h = rw (← e) (parts-written at a b out (subst (λ n. at + n ≤ length out) (sym e) h))
@@ -73,7 +72,7 @@ module _ {P : Pack} {table : List (List ℕ)} {nodes triples masks : List ℕ} (
   node-record : (n : Node) (i j : ℕ) → j ≡ i → CoreNode P n → getElem? nodes i ≡ some (keyOf n) → NodeRecord P (core n) (coreNumbers arities (getD nodes j 0) (getD masks j 0))
   node-record n i j q c e =
       subst (λ x. NodeRecord P (core n) (coreNumbers arities (getD nodes x 0) (getD masks x 0))) (sym q)
-      (subst (λ k. NodeRecord P (core n) (coreNumbers arities k (getD masks i 0))) (sym (at-is nodes i (keyOf n) e))
+      (subst (λ k. NodeRecord P (core n) (coreNumbers arities k (getD masks i 0))) (sym (entry-is nodes i (keyOf n) e))
       (core-record P (I .bounded) arities ar (getD masks i 0) n (proper P (well I) c) (masked I n i c e)))
 
   pub clash-written : {i : ℕ} (out out₁ out₂ out₃ : List ℕ) → clashWidth ≤ length out → let f = getD triples i 0 in let g = getD triples (i + 1) 0 in
@@ -114,10 +113,10 @@ module _ {P : Pack} {table : List (List ℕ)} {nodes triples masks : List ℕ} (
       gn = coreNumbers arities (getD nodes (objectOf g) 0) (getD masks (objectOf g) 0)
 
       ef : f ≡ tripleKey (x .subject) (x .clash .predicate) (x .first)
-      ef = at-is triples i _ (x .first-key)
+      ef = entry-is triples i _ (x .first-key)
 
       eg : g ≡ tripleKey (x .subject) (x .clash .predicate) (x .second)
-      eg = let e : i + 1 ≡ suc i = omega arith in ap (λ (n : ℕ). getD triples n 0) e ∙ at-is triples (suc i) _ (x .second-key)
+      eg = let e : i + 1 ≡ suc i = omega arith in ap (λ (n : ℕ). getD triples n 0) e ∙ entry-is triples (suc i) _ (x .second-key)
 
       pf : (subjectOf (tripleKey (x .subject) (x .clash .predicate) (x .first)) ≡ x .subject) × (predicateOf (tripleKey (x .subject) (x .clash .predicate) (x .first)) ≡ x .clash .predicate)
           × (objectOf (tripleKey (x .subject) (x .clash .predicate) (x .first)) ≡ x .first)

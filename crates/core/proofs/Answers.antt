@@ -6,7 +6,6 @@ use mathlib.Core.Path.{_≡_}
 use native.Mathlib.Omega.{arith}
 use Prim.Native.Nat.{ℕ, _+_, _≤_, _<_}
 use Rattle.core.proofs.Iris.{iris-over, iris-within, many-over}
-use Rattle.core.proofs.Lists.{list-as, only-new}
 use Rattle.core.proofs.NodeSources.{node-sources}
 use Rattle.core.proofs.Sources.{sources}
 use Rattle.core.specs.Bounds.{Bounded}
@@ -20,6 +19,8 @@ use Rattle.meaning.specs.NoGraph.{CoreIri}
 use Rattle.meaning.specs.Ordered.{ListOf, Over}
 use Rattle.meaning.specs.Pack.{Pack}
 use Rattle.sets.specs.Ordered.{rankOf}
+use Rattle.meaning.proofs.Lists.SetLists.{list-as}
+use Rattle.meaning.proofs.Lists.Members.{only-new}
 
 -- the node keys that the heads give
 abbrev Nodes : List (List ℕ) → ℕ → List ℕ → List ℕ → ℕ → Type 0

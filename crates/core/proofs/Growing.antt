@@ -7,7 +7,6 @@ use mathlib.Core.Path.{_≡_, refl, subst}
 use native.Mathlib.Decide.{decLt}
 use native.Mathlib.Omega.{arith}
 use Prim.Native.Nat.{ℕ, _+_, _≤_, _<_}
-use Rattle.core.proofs.Lists.{list-as, front-more, take-in}
 use Rattle.core.specs.Collected.{Adding, Beyond, FromKeys, FromRules, Grown}
 use Rattle.core.specs.Heads.{keysOf}
 use Rattle.core.specs.declared.counted.Counted.{Counted}
@@ -17,6 +16,8 @@ use Rattle.meaning.specs.Ordered.{InOrder, ListOf}
 use Rattle.sets.proofs.Insert.{insert-ascending, insert-length, insert-only}
 use Rattle.sets.proofs.Insertion.{added-list, present-list}
 use Rattle.sets.specs.Ordered.{WasAdded, WasFull, WasPresent, insertSorted}
+use Rattle.meaning.proofs.Lists.SetLists.{list-as}
+use Rattle.meaning.proofs.Lists.Members.{front-more, take-in}
 
 swapped : {A B : Type 0} → (A ⊎ B) → B ⊎ A
 swapped (inl a) = inr a

@@ -4,8 +4,7 @@ use mathlib.Core.List.{List, []}
 use mathlib.Core.Path.{_≡_, refl, ap}
 use native.Mathlib.Omega.{arith}
 use Prim.Native.Nat.{ℕ, _+_, _≤_, _<_}
-use Rattle.core.proofs.Counting.{choose, front-ascending, low-in, low-part, most-low, over-of, pigeonhole}
-use Rattle.core.proofs.Lists.{take-in}
+use Rattle.core.proofs.Counting.{low-in, low-part, most-low}
 use Rattle.core.proofs.Proper.{Proper, core-proper, iri-low, key-injective, literal-key}
 use Rattle.core.specs.Bounds.{Bounded}
 use Rattle.core.specs.Held.{NodeKey}
@@ -18,6 +17,11 @@ use Rattle.meaning.specs.Ordered.{InOrder, ListOf, Over}
 use Rattle.meaning.specs.Pack.{Pack}
 use Rattle.sets.proofs.Rank.{rank-le}
 use Rattle.sets.specs.Ordered.{rankOf}
+use Rattle.meaning.proofs.Lists.SetLists.{in-order-take}
+use Rattle.meaning.proofs.Lists.Members.{take-in}
+use Rattle.meaning.proofs.Lists.Counting.{listed-over, over-by, pigeonhole}
+use Rattle.meaning.proofs.Lists.Ordered.{<-strict}
+use native.Mathlib.Nat.{le-refl}
 
 module _ {P : Pack} (b : Bounded P) where
   abbrev iriKey : ℕ × List ℕ → ℕ
@@ -33,10 +37,9 @@ module _ {P : Pack} (b : Bounded P) where
 
   pub iris-over : (ks : List ℕ) → InOrder _<_ ks → ((k : ℕ) → k ∈ ks → NodeKey P k) → maxIris < rankOf firstLiteral ks → Over maxIris (CoreIri P)
   iris-over ks a h l =
-      over-of maxIris
-      (choose iriKey (CoreIri P) (take (rankOf firstLiteral ks) ks) (front-ascending (rankOf firstLiteral ks) a)
-      (λ k m. is-iri k (h k (take-in (rankOf firstLiteral ks) m)) (low-part firstLiteral ks k m)))
-      (omega (arith, length-take (rankOf firstLiteral ks) ks, rank-le firstLiteral ks))
+      let low = take (rankOf firstLiteral ks) ks in
+      over-by iriKey (CoreIri P) maxIris (le-refl maxIris) (λ k m. is-iri k (h k (take-in (rankOf firstLiteral ks) m)) (low-part firstLiteral ks k m))
+      (listed-over <-strict {xs = low} (in-order-take (rankOf firstLiteral ks) a) (λ k m. m) (omega (arith, length-take (rankOf firstLiteral ks) ks, rank-le firstLiteral ks)))
 
   key-high : (k : ℕ) → NodeKey P k → k < firstLiteral + maxValues
   key-high k n = go (n .node) (n .is) (core-proper b (n .inCore))

@@ -1,4 +1,3 @@
-pub mod Lists
 pub mod Growing
 pub mod Loops
 pub mod Powers

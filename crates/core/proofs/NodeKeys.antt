@@ -1,15 +1,15 @@
 -- The node keys of one match: the subject's alone, or the subject's and the object's. Assumes nothing.
 use borrow.Author.Tests.{eq-eqb, ne-eqb}
 use lib.ListN.{length, take}
-use mathlib.Core.List.{List, [], _∷_}
+use mathlib.Core.List.{List, List·Memᴰ·eq-of-singleton, [], _∷_}
 use mathlib.Core.Logic.{_↔_, _⊎_, inl, inr}
 use mathlib.Core.Path.{_≡_}
 use Prim.Native.Nat.{ℕ}
 use Rattle.core.proofs.Growing.{beyond-as}
-use Rattle.core.proofs.Lists.{list-as, one}
 use Rattle.core.specs.Collected.{Beyond, Grown, nodeKeys, objectKey, subjectKey}
 use Rattle.core.specs.Heads.{kindNumber}
 use Rattle.meaning.specs.Member.{_∈_, here, there}
+use Rattle.meaning.proofs.Lists.SetLists.{list-as}
 
 module _ (head : List ℕ) (k : ℕ) where
   pub keys-of-type : kindNumber head ≡ 0 → nodeKeys head k ≡ subjectKey head k ∷ []
@@ -27,7 +27,7 @@ module _ (head : List ℕ) (k : ℕ) where
 
   two : {y x z : ℕ} → y ∈ (x ∷ z ∷ []) → (y ≡ x) ⊎ (y ≡ z)
   two (here e) = inl e
-  two (there m) = inr (one m)
+  two (there m) = inr (List·Memᴰ·eq-of-singleton m)
 
   both : {y x z : ℕ} → (y ≡ x) ⊎ (y ≡ z) → y ∈ (x ∷ z ∷ [])
   both (inl e) = here e
@@ -46,7 +46,7 @@ module _ (head : List ℕ) (k : ℕ) where
 
       back : (y : ℕ) → (y ∈ take n d) ⊎ (y ∈ nodeKeys head k) → (y ∈ take n d) ⊎ (y ≡ subjectKey head k)
       back y (inl m) = inl m
-      back y (inr m) = inr (one (rw (keys-of-type e) at m))
+      back y (inr m) = inr (List·Memᴰ·eq-of-singleton (rw (keys-of-type e) at m))
 
   pub subject-beyond : (n : ℕ) (d : List ℕ) → Beyond (length d) (λ y. (y ∈ take n d) ⊎ (y ≡ subjectKey head k))
       → Beyond (length d) (λ y. (y ∈ take n d) ⊎ (y ∈ nodeKeys head k))

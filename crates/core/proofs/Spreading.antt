@@ -10,7 +10,6 @@ use native.Mathlib.Decide.{ℕ-discrete}
 use native.Mathlib.Nat.{not-suc-le-zero, le-of-suc-le-suc}
 use native.Mathlib.Omega.{arith}
 use Prim.Native.Nat.{ℕ, zero, suc, _+_, _^_, _≤_, _<_, zero-le}
-use Rattle.core.proofs.Lists.{front-more, zeros-at}
 use Rattle.core.specs.Keys.{objectOf, predicateOf, subjectOf}
 use Rattle.core.specs.Spread.{Carried, PassShown, Passed, PassedOnce, Passes, RoundShown, SpreadFrom, along, held, maskRoom}
 use Rattle.meaning.specs.Member.{_∈_}
@@ -19,10 +18,11 @@ use Rattle.meaning.specs.Tables.{setOfMask}
 use Rattle.meaning.specs.TypeSet.{_∈ₜ_}
 use Rattle.shapes.proofs.Sets.{none-in, union-in}
 use Rattle.shapes.specs.Shapes.{SomeShape, Tabled, TargetsOf}
-use Rattle.sets.proofs.Ascending.{∈-at}
 use Rattle.sets.proofs.Progress.{nearer}
 use Rattle.sets.specs.Buffers.{zeros}
 use Rattle.sets.specs.Progress.{Progress}
+use Rattle.meaning.proofs.Lists.Places.{zeros-at, ∈-at}
+use Rattle.meaning.proofs.Lists.Members.{front-more}
 
 -- ---- one triple
 

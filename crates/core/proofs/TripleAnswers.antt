@@ -7,8 +7,6 @@ use mathlib.Core.Option.{some, Option·some-injective}
 use mathlib.Core.Path.{_≡_, refl, sym, ap, ap₂, _∙_, subst}
 use native.Mathlib.Omega.{arith}
 use Prim.Native.Nat.{ℕ, _≤_, _<_}
-use Rattle.core.proofs.Counting.{choose, over-of, pigeonhole}
-use Rattle.core.proofs.Lists.{list-as, only-new}
 use Rattle.core.proofs.Proper.{core-proper, key-injective}
 use Rattle.core.proofs.Sources.{sources}
 use Rattle.core.proofs.TripleSources.{at-rank, rank-at, triple-sources}
@@ -21,6 +19,7 @@ use Rattle.core.specs.Outcomes.{TriplesAnswer, TriplesListed}
 use Rattle.core.specs.declared.counted.Counted.{Counted}
 use Rattle.core.specs.declared.counted.Counted.the-variants.{Count, TooLarge}
 use Rattle.meaning.proofs.Lists.Places.{inside, placed}
+use Rattle.meaning.proofs.Lists.SetLists.{list-as}
 use Rattle.meaning.specs.Core.{CoreEdge, CoreNode, Node, asObject, asSubject, headFact, triple}
 use Rattle.meaning.specs.Limits.{maxCoreNodes, maxCoreTriples, maxPredicates, placeRoom, predicateRoom}
 use Rattle.meaning.specs.Member.{_∈_}
@@ -29,6 +28,10 @@ use Rattle.meaning.specs.Ordered.{ListOf, Over}
 use Rattle.meaning.specs.Pack.{Head, Pack, hasType, linksTo, linksToValue}
 use Rattle.sets.proofs.Rank.{rank-le}
 use Rattle.sets.specs.Ordered.{rankOf}
+use Rattle.meaning.proofs.Lists.Members.{only-new}
+use Rattle.meaning.proofs.Lists.Counting.{listed-over, over-by, pigeonhole}
+use Rattle.meaning.proofs.Lists.Ordered.{<-strict}
+use native.Mathlib.Nat.{le-refl}
 
 -- a key's parts
 parts-one : (s p o s′ p′ o′ : ℕ) → p < predicateRoom → p′ < predicateRoom → o < placeRoom → o′ < placeRoom → tripleKey s p o ≡ tripleKey s′ p′ o′ → (s ≡ s′) × (p ≡ p′) × (o ≡ o′)
@@ -66,9 +69,8 @@ module _ {rules : List (List ℕ)} {count : ℕ} {heads counts : List ℕ} (fit 
     pub triples-beyond : {k : ℕ} → k ≡ maxCoreTriples → Beyond k (λ y. (y ∈ []) ⊎ Triples nodes rules count heads counts y)
         → Over maxCoreTriples (CoreTriple P)
     triples-beyond e o =
-        over-of maxCoreTriples
-        (choose keyed (CoreTriple P) (o .some) (o .ascending) (λ k m. named k (triple-iff k .0 (o .members k m))))
-        (omega (arith, o .over, e))
+        over-by keyed (CoreTriple P) maxCoreTriples (le-refl maxCoreTriples) (λ k m. named k (triple-iff k .0 (o .members k m)))
+        (listed-over <-strict (o .ascending) (λ k m. m) (omega (arith, o .over, e)))
 
     -- a triple's predicate is that of a head
     pub predicate-small : {n m : Node} {p : ℕ} → CoreEdge P n p m → p < maxPredicates

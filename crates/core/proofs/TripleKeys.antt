@@ -1,12 +1,11 @@
 -- The triple key of one match: none for a type, one for a link. Assumes nothing.
 use borrow.Author.Tests.{eq-eqb, ne-eqb}
 use lib.ListN.{length, take}
-use mathlib.Core.List.{List, [], _∷_}
+use mathlib.Core.List.{List, List·Memᴰ·eq-of-singleton, [], _∷_}
 use mathlib.Core.Logic.{_↔_}
 use mathlib.Core.Path.{_≡_}
 use Prim.Native.Nat.{ℕ, _+_, _*_, _≤_, _<_}
 use Rattle.core.proofs.Growing.{grown-start}
-use Rattle.core.proofs.Lists.{one}
 use Rattle.core.specs.Collected.{Grown, objectKey, subjectKey, tripleKeys}
 use Rattle.core.specs.Heads.{kindNumber, namedNumber}
 use Rattle.core.specs.Keys.{tripleKey}
@@ -36,4 +35,4 @@ module _ (nodes head : List ℕ) (k : ℕ) where
   pub link-triples : (kindNumber head ≡ 0 → ⊥) → {s o : ℕ} → s ≡ rankOf (subjectKey head k) nodes → o ≡ rankOf (objectKey head k) nodes
       → (y : ℕ) → (y ≡ (s * predicateRoom + namedNumber head) * placeRoom + o) ↔ (y ∈ tripleKeys nodes head k)
   unfolding tripleKey
-  link-triples n e f y = rw (link-triple n, e, f) (here, one)
+  link-triples n e f y = rw (link-triple n, e, f) (here, List·Memᴰ·eq-of-singleton)

@@ -1,13 +1,12 @@
 -- The passes put together: the nodes that are listed have places, the triples that are listed name them, and the masks hold
 -- their types. Assumes nothing.
 use lib.ListN.{length, getD, take, length-take}
-use mathlib.Core.List.{List}
+use mathlib.Core.List.{List, List·Memᴰ·eq-of-singleton}
 use mathlib.Core.Logic.{_⊎_, inl, inr}
 use mathlib.Core.Path.{_≡_, refl, sym, _∙_, ap, subst}
 use native.Mathlib.Decide.{ℕ-discrete}
 use native.Mathlib.Omega.{arith}
 use Prim.Native.Nat.{ℕ, _≤_, _<_}
-use Rattle.core.proofs.Lists.{one, only-new, zeros-at}
 use Rattle.core.proofs.NodeKeys.{link-keys, subject-in}
 use Rattle.core.proofs.TripleKeys.{link-triple, no-triple}
 use Rattle.core.proofs.TypeSources.{decoded, types-at}
@@ -24,6 +23,8 @@ use Rattle.meaning.specs.Pack.{Pack}
 use Rattle.sets.proofs.Rank.{rank-member}
 use Rattle.sets.specs.Buffers.{zeros}
 use Rattle.sets.specs.Ordered.{rankOf}
+use Rattle.meaning.proofs.Lists.Members.{only-new}
+use Rattle.meaning.proofs.Lists.Places.{zeros-at}
 
 -- ---- types, from cleared masks on
 
@@ -52,7 +53,7 @@ module _ {rules : List (List ℕ)} {count : ℕ} {heads counts : List ℕ} (fit 
             let o = rank-member (objectKey head k) nodes a (known (objectKey head k) (link-keys head k n (objectKey head k) .0 (inr refl))) .inside in
             let d = decoded (rankOf (subjectKey head k) nodes) (namedNumber head) (rankOf (objectKey head k) nodes) (omega (arith, f .named))
             (omega (arith, o, few)) in
-            let e = one (rw (link-triple nodes head k n) at m) in
+            let e = List·Memᴰ·eq-of-singleton (rw (link-triple nodes head k n) at m) in
             subst Placed (sym e)
             (record { from = omega (arith, d .0, s, few); named = omega (arith, d .1, f .named); to = omega (arith, d .2, o, few) })
 

@@ -1,12 +1,11 @@
 -- The core by the places of its nodes: which node, which types, which edges. Assumes nothing.
 use lib.ListN.{getD, getElem?, length}
-use mathlib.Core.List.{List, [], _∷_}
+use mathlib.Core.List.{List}
 use mathlib.Core.Logic.{_↔_}
-use mathlib.Core.Option.{Option, some, Option·none-ne-some, Option·some-injective}
+use mathlib.Core.Option.{Option, some, Option·some-injective}
 use mathlib.Core.Path.{_≡_, refl, sym, ap, _∙_}
-use native.Mathlib.Nat.{le-of-suc-le-suc, not-suc-le-zero}
 use native.Mathlib.Omega.{arith}
-use Prim.Native.Nat.{ℕ, zero, suc, _%_, _<_}
+use Prim.Native.Nat.{ℕ, _%_, _<_}
 use Rattle.core.proofs.Declared.{edge-predicate}
 use Rattle.core.proofs.Shapes.{codes-fit, tabled}
 use Rattle.core.specs.Keys.{keyOf, objectOf, predicateOf, subjectOf, tripleKey}
@@ -15,41 +14,21 @@ use Rattle.core_lists.proofs.Keys.{key-one}
 use Rattle.core_lists.proofs.Proper.{proper}
 use Rattle.meaning.proofs.Lists.Bits.{mask-lt}
 use Rattle.meaning.proofs.Lists.Members.{element}
-use Rattle.meaning.proofs.Lists.Places.{inside, placed}
+use Rattle.meaning.proofs.Lists.Ordered.{<-strict}
+use Rattle.meaning.proofs.Lists.OrderedPlaces.{one-place}
+use Rattle.meaning.proofs.Lists.Places.{entry-at, inside, placed, ∈-at}
 use Rattle.meaning.proofs.Model.Clash.{Limits}
 use Rattle.meaning.proofs.Model.Resolved.{Resolved, resolved}
 use Rattle.meaning.specs.Built.{BuiltNode, HasType, PTarget, PTargets, Requires, core, invented}
 use Rattle.meaning.specs.Core.{CoreEdge, CoreNode, CoreType, Node, asObject, asTyped, given, passed}
 use Rattle.meaning.specs.Limits.{literalWeight, maxPredicates, maxTypes, placeRoom, predicateRoom, typeSets}
 use Rattle.meaning.specs.Member.{_∈_}
-use Rattle.meaning.specs.Ordered.{InOrder, before}
 use Rattle.meaning.specs.Pack.{Pack, Target, type}
 use Rattle.meaning.specs.Tables.{setOfMask}
 use Rattle.meaning.specs.TypeSet.{TypeSet, _∈ₜ_}
-use Rattle.sets.proofs.Ascending.{∈-at}
 use Rattle.shapes.specs.Shapes.{CodesFit, Tabled}
 
 -- ---- places in a list
-
-pub at : (xs : List ℕ) (i : ℕ) → i < length xs → getElem? xs i ≡ some (getD xs i 0)
-at [] i h = absurd (not-suc-le-zero h)
-at (x ∷ xs) zero h = refl
-at (x ∷ xs) (suc i) h = at xs i (le-of-suc-le-suc h)
-
-pub at-is : (xs : List ℕ) (i x : ℕ) → getElem? xs i ≡ some x → getD xs i 0 ≡ x
-at-is [] i x e = absurd (Option·none-ne-some x e)
-at-is (y ∷ ys) zero x e = Option·some-injective y x e
-at-is (y ∷ ys) (suc i) x e = at-is ys i x e
-
--- an ascending list has each number once
-pub place-once : (xs : List ℕ) → InOrder _<_ xs → (i j x : ℕ) → getElem? xs i ≡ some x → getElem? xs j ≡ some x → i ≡ j
-place-once [] a i j x p q = absurd (Option·none-ne-some x p)
-place-once (y ∷ ys) a zero zero x p q = refl
-place-once (y ∷ ys) (before f a) zero (suc j) x p q =
-    absurd (let h = f x (element ys j x q) in let e = Option·some-injective y x p in let z : ⊥ = omega arith in z)
-place-once (y ∷ ys) (before f a) (suc i) zero x p q =
-    absurd (let h = f x (element ys i x p) in let e = Option·some-injective y x q in let z : ⊥ = omega arith in z)
-place-once (y ∷ ys) (before f a) (suc i) (suc j) x p q = ap suc (place-once ys a i j x p q)
 
 -- ---- what the keys of a well placed core say
 
@@ -120,8 +99,8 @@ module _ {P : Pack} {table : List (List ℕ)} {nodes triples masks : List ℕ} (
 
   pub node-at : (i : ℕ) → i < length nodes → NodeAt i
   node-at i h =
-      let k = I .held .node-keys .members (getD nodes i 0) .0 (element nodes i (getD nodes i 0) (at nodes i h)) in
-      record { node = k .node; inCore = k .inCore; is = at nodes i h ∙ ap {B = Option ℕ} some (k .is) }
+      let k = I .held .node-keys .members (getD nodes i 0) .0 (element nodes i (getD nodes i 0) (entry-at nodes i h)) in
+      record { node = k .node; inCore = k .inCore; is = entry-at nodes i h ∙ ap {B = Option ℕ} some (k .is) }
 
   pub place-of : {n : Node} → CoreNode P n → (i : ℕ) × (getElem? nodes i ≡ some (keyOf n))
   place-of {n} c = placed (I .held .node-keys .members (keyOf n) .1 (record { node = n; inCore = c; is = refl }))
@@ -130,7 +109,7 @@ module _ {P : Pack} {table : List (List ℕ)} {nodes triples masks : List ℕ} (
   same-node-at {n} {m} i c d e f = key-one P (I .bounded) n m (proper P well c) (proper P well d) (Option·some-injective (keyOf n) (keyOf m) (sym e ∙ f))
 
   pub same-place : (n : Node) (i j : ℕ) → getElem? nodes i ≡ some (keyOf n) → getElem? nodes j ≡ some (keyOf n) → i ≡ j
-  same-place n i j e f = place-once nodes (I .held .node-keys .ascending) i j (keyOf n) e f
+  same-place n i j e f = one-place <-strict nodes (I .held .node-keys .ascending) (keyOf n) i j e f
 
   -- its types
   pub masked : (n : Node) (i : ℕ) → CoreNode P n → getElem? nodes i ≡ some (keyOf n) → Masked P (core n) (getD masks i 0)

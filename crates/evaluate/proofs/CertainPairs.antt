@@ -30,8 +30,8 @@ use Rattle.meaning.specs.WellFormed.{dangling}
 use Rattle.meaning.proofs.Cases.{case-on}
 use Rattle.states.specs.Table.{has}
 use Rattle.evaluate.proofs.Built.{built-listed, built-whole}
-use Rattle.evaluate.proofs.Over.{listed-few, over-carried}
 use Rattle.evaluate.proofs.Places.{joined, joined-back}
+use Rattle.meaning.proofs.Lists.Counting.{listed-few, over-carried}
 
 -- ---- pairs as numbers
 
@@ -150,7 +150,7 @@ module _ (P : Pack) (not-7 : dangling P ≡ false) (σ : Spelling) (distinct : D
 
   -- and no more than are listed
   pub not-too-many : (xs : List ℕ) → ListOf _<_ Found xs → length xs ≤ maxPairs → ¬ TooManyPairs σ P e
-  not-too-many xs l h o = listed-few l h (over-carried (NamedPair σ P e) Found (λ q x. Numbers x q) image one o)
+  not-too-many xs l h o = listed-few (λ x. l .members x .1) h (over-carried (NamedPair σ P e) Found (λ q x. Numbers x q) image one o)
     where
       image : (q : Node × Node) → NamedPair σ P e q → (x : ℕ) × Found x × Numbers x q
       image q (a, b, c) =

@@ -12,7 +12,6 @@ use Rattle.pack.proofs.Accepted.{well-formed}
 use Rattle.alive.specs.Lists.{Lists}
 use Rattle.answers.specs.Graph.{HeldIn, Numbered, Resolved}
 use Rattle.core.proofs.Declared.{edge-predicate}
-use Rattle.evaluate.proofs.Built.{in-order-at}
 use Rattle.evaluate.proofs.InLists.{formed}
 use Rattle.meaning.proofs.Lists.Places.{inside, placed, same-at, there-is}
 use Rattle.evaluate.specs.GraphIn.{GraphIn}
@@ -21,7 +20,7 @@ use Rattle.graph.proofs.Fronts.{nodes-are, triples-are}
 use Rattle.graph.specs.Fronts.{GraphFronts, frontsOf}
 use Rattle.index.specs.Triples.{GraphFits, SubjectsRise, TripleIn, objectOf, predicateOf, subjectOf}
 use Rattle.meaning.proofs.Lists.Members.{element}
-use Rattle.meaning.proofs.Lists.Ordered.{by-key}
+use Rattle.meaning.proofs.Lists.OrderedPlaces.{in-order-at}
 use Rattle.meaning.proofs.Model.Resolved.{resolved}
 use Rattle.meaning.specs.Built.{BuiltEdge, BuiltNode, fromCore, made}
 use Rattle.meaning.specs.Certain.{built}
@@ -211,5 +210,5 @@ module _ {pack : Text} {P : Pack} {nodes : List ℕ} {count : ℕ} {triples : Li
   subjects-rise k l =
       let (r, e) = record-of k (omega arith) in
       let (s, f) = record-of (k + 1) l in
-      let h = first-rises r s (in-order-at (by-key (λ x. x)) (listed .triple-records) (listed .lists .edges .ascending) r s k (k + 1) (omega arith) e f) in
+      let h = first-rises r s (in-order-at (listed .triple-records) (listed .lists .edges .ascending) r s k (k + 1) (omega arith) e f) in
       omega (arith, subject-at k r e, subject-at (k + 1) s f)

@@ -13,7 +13,7 @@ use Rattle.evaluate.specs.GraphIn.{GraphIn}
 use Rattle.evaluate.specs.Kinds.{FirstInvented, kindAt}
 use Rattle.evaluate.specs.Named.{NamedFirst}
 use Rattle.graph.proofs.Fronts.{nodes-are, record-length}
-use Rattle.meaning.proofs.Lists.Ordered.{by-key}
+use Rattle.meaning.proofs.Lists.OrderedPlaces.{in-order-at}
 use Rattle.meaning.proofs.Lists.Places.{inside, there-is}
 use Rattle.meaning.specs.Built.{BuiltNode, core, invented}
 use Rattle.meaning.specs.Core.{Node, iriNode, literalNode}
@@ -22,7 +22,6 @@ use Rattle.meaning.specs.Listing.{NodeRecord, inventedKind, kind, nodeKey}
 use Rattle.meaning.specs.Ordered.{_≺_, less, equal}
 use Rattle.meaning.specs.Pack.{Pack, Text}
 use Rattle.meaning.proofs.Cases.{case-on}
-use Rattle.evaluate.proofs.Built.{in-order-at}
 use Rattle.evaluate.proofs.Held.{count-is, inOrder}
 
 -- ---- the kind of a node is the first number of its record and of its key
@@ -80,7 +79,7 @@ module _ {pack : Text} {P : Pack} {nodes : List ℕ} {count : ℕ} {triples : Li
   -- kinds do not fall
   kinds-rise : (n m : ℕ) (b c : BuiltNode) → n < m → getElem? (inOrder g) n ≡ some b → getElem? (inOrder g) m ≡ some c → kind b ≤ kind c
   kinds-rise n m b c l x y =
-      let h = first-rises (nodeKey b) (nodeKey c) (key-some b) (in-order-at (by-key nodeKey) (inOrder g) (g .has .graph .lists .ordered .ascending) b c n m l x y) in
+      let h = first-rises (nodeKey b) (nodeKey c) (key-some b) (in-order-at (inOrder g) (g .has .graph .lists .ordered .ascending) b c n m l x y) in
       omega (arith, key-kind b, key-kind c)
 
   pub named-first : {r : ℕ} → FirstInvented nodes count r → NamedFirst (inOrder g) r

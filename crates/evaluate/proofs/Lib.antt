@@ -3,7 +3,6 @@ pub mod Built
 pub mod InLists
 pub mod Held
 pub mod KindOrder
-pub mod Over
 pub mod CertainPairs
 pub mod Places
 mod Readied

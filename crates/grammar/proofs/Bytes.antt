@@ -4,7 +4,7 @@ use lib.Dec.{eqb}
 use lib.ListN.{length, take, drop, getD, replicate, drop-of-length-le}
 use lib.Seq.{drop-cons, getD-drop}
 use mathlib.Core.Bool.{Bool, true, false, cond}
-use mathlib.Core.List.{List, [], _∷_, _++_}
+use mathlib.Core.List.{[], _∷_, _++_}
 use mathlib.Core.Path.{_≡_, refl, ap, _∙_}
 use native.Mathlib.Nat.{add-zero}
 use native.Mathlib.Numerals.{add-one}
@@ -30,12 +30,6 @@ pub getD-within : (q : Text) (i c : ℕ) → getD q i noByte ≡ c → c < noByt
 getD-within [] i c e h = absurd (omega arith)
 getD-within (x ∷ q) zero c e h = omega arith
 getD-within (x ∷ q) (suc i) c e h = let r = getD-within q i c e h in omega arith
-
--- Within a list the default does not matter.
-pub getD-default : (l : List ℕ) (i d d′ : ℕ) → i < length l → getD l i d ≡ getD l i d′
-getD-default [] i d d′ h = absurd (omega arith)
-getD-default (x ∷ l) zero d d′ h = refl
-getD-default (x ∷ l) (suc i) d d′ h = getD-default l i d d′ (omega arith)
 
 -- ---- runs
 

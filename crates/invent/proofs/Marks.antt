@@ -16,6 +16,7 @@ use Rattle.core_lists.proofs.Places.{types-below}
 use Rattle.invent.proofs.SetNumbers.{number-lt, number-one, number-set}
 use Rattle.core_lists.proofs.Shaped.{requires-shape, targets-shape}
 use Rattle.meaning.proofs.Lists.Bits.{same-members}
+use Rattle.meaning.proofs.Lists.Places.{zeros-at}
 use Rattle.meaning.specs.Built.{BuiltNode, PTargets, invented}
 use Rattle.meaning.specs.Limits.{literalWeight, memberSets, typeSets}
 use Rattle.meaning.specs.Pack.{Pack, type, requires}
@@ -125,9 +126,4 @@ module _ (table : List (List ℕ)) (mask p : ℕ) (d : List ℕ) where
 
 -- cleared flags are not set
 pub none-set : (n : ℕ) (d : List ℕ) → d ≡ replicate n 0 → (j : ℕ) → getD d j 0 ≡ 1 → ⊥
-none-set n d e j h = go n j (subst (λ x. getD x j 0 ≡ 1) e h)
-  where
-    go : (n j : ℕ) → _≡_ {A = ℕ} (getD (replicate n 0) j 0) 1 → ⊥
-    go zero j q = omega arith
-    go (suc n) zero q = omega arith
-    go (suc n) (suc j) q = go n j q
+none-set n d e j h = let q = subst (λ x. getD x j 0 ≡ 1) e h in omega (arith, zeros-at n j)

@@ -14,11 +14,11 @@ use Rattle.iris.specs.declared.arguments.Arguments.{Arguments}
 use Rattle.iris.specs.declared.iri.IriRead.{IriRead}
 use Rattle.meaning.specs.Pack.{Constructor, Pack, Text}
 use Rattle.meaning.specs.Tests.{begins}
-use Rattle.names.proofs.Records.{front}
 use Rattle.pack.specs.Checked.{OfPack, accepted, wellFormed}
 use Rattle.spelling.proofs.MatchedAt.{begins-length}
 use Rattle.spelling.specs.ReadBack.{argumentsBy, readBack, readBackBy, readFromBy, under}
 use Rattle.spelling.specs.Segment.{segment}
+use Rattle.meaning.proofs.Lists.Places.{drop-entry}
 
 -- ---- the first c constructors do not begin the text
 
@@ -60,7 +60,7 @@ module _ {s text counts numbers : List ℕ} {c : ℕ} (l : SettingLoaded s count
     next-constructor q = record {
       is = λ P w.
           let k = constructor-at l h P w in
-          rw add-one (rw (front (constructorsOf P) c (k .it) (k .listed), sym (prefix-begins P w) ∙ q) at (t .is P w));
+          rw add-one (rw (drop-entry (constructorsOf P) c (k .it) (k .listed), sym (prefix-begins P w) ∙ q) at (t .is P w));
     }
 
     pub this-constructor : b ≡ true → {a : Arguments} {r : IriRead}
@@ -71,4 +71,4 @@ module _ {s text counts numbers : List ℕ} {c : ℕ} (l : SettingLoaded s count
         let k = constructor-at l h P w in
         let o = argumentsBy segment (P .setting .values) (arityOf numbers c) (drop (prefixLength numbers c) text) in
         n ∙ ap (numbered c) (p P w) ∙ numbered-is c o
-        ∙ ap iriRead (rw (k .arity-is, ← length-text (k .stands)) (rw (front (constructorsOf P) c (k .it) (k .listed), sym (prefix-begins P w) ∙ q) at (t .is P w)))
+        ∙ ap iriRead (rw (k .arity-is, ← length-text (k .stands)) (rw (drop-entry (constructorsOf P) c (k .it) (k .listed), sym (prefix-begins P w) ∙ q) at (t .is P w)))

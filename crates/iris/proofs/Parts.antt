@@ -15,11 +15,11 @@ use Rattle.iris.specs.Read.{firstPart, foundOf, partEnd}
 use Rattle.iris.specs.declared.arguments.Found.the-variants.{At, Nothing}
 use Rattle.meaning.specs.Pack.{Pack, Text}
 use Rattle.meaning.specs.Tests.{sameText}
-use Rattle.names.proofs.Records.{front}
 use Rattle.pack.specs.Checked.{OfPack, accepted, wellFormed}
 use Rattle.spelling.specs.Iri.{slash}
 use Rattle.spelling.specs.ReadBack.{findBy}
 use Rattle.spelling.specs.Segment.{segment}
+use Rattle.meaning.proofs.Lists.Places.{drop-entry}
 
 -- ---- the first v values are others
 
@@ -60,7 +60,7 @@ module _ {s part counts numbers : List ℕ} {v : ℕ} (l : SettingLoaded s count
       is = λ P w.
           let x = value-at l h P w in
           sym (map-suc v (findBy segment (drop (v + 1) (valuesOf P)) part))
-          ∙ rw add-one (rw (front (valuesOf P) v (x .it) (x .listed), sym (same P w) ∙ q) at (f .is P w));
+          ∙ rw add-one (rw (drop-entry (valuesOf P) v (x .it) (x .listed), sym (same P w) ∙ q) at (f .is P w));
     }
 
     pub found-here : r ≡ true → OfPack s (λ P. At v ≡ foundOf (findBy segment (P .setting .values) part))
@@ -68,7 +68,7 @@ module _ {s part counts numbers : List ℕ} {v : ℕ} (l : SettingLoaded s count
     found-here q P w =
         let x = value-at l h P w in
         let z : v + 0 ≡ v = omega arith in
-        let g : some (v + 0) ≡ findBy segment (valuesOf P) part = rw (front (valuesOf P) v (x .it) (x .listed), sym (same P w) ∙ q) at (f .is P w) in
+        let g : some (v + 0) ≡ findBy segment (valuesOf P) part = rw (drop-entry (valuesOf P) v (x .it) (x .listed), sym (same P w) ∙ q) at (f .is P w) in
         rw (← g, z)
 
 -- ---- the end of a part

@@ -1,13 +1,13 @@
 -- Records held one after another: one more at the end; numbers past them may change. Assumes nothing.
 use Rattle.meaning.proofs.Lists.Parts.{record-end, same-part}
-use lib.ListN.{drop, getElem?, length, take}
+use lib.ListN.{drop, length, take}
 use lib.Seq.{drop-at, drop-drop, length-take-le, take-at}
 use mathlib.Core.List.{List, [], _∷_, _++_, append-assoc}
-use mathlib.Core.Option.{some, Option·none-ne-some, Option·some-injective}
+use mathlib.Core.Option.{Option·none-ne-some}
 use mathlib.Core.Path.{_≡_, refl, sym, ap, subst, _∙_}
 use native.Mathlib.Omega.{arith}
-use Prim.Native.Nat.{ℕ, zero, suc, _+_, _*_, _≤_}
-use Rattle.meaning.proofs.Lists.Places.{inside}
+use Prim.Native.Nat.{ℕ, _+_, _*_, _≤_}
+use Rattle.meaning.proofs.Lists.Places.{inside, snoc-at}
 use Rattle.records.specs.Held.{Held}
 use Rattle.records.specs.Kept.{Put}
 
@@ -24,13 +24,6 @@ put-there {xs} {at} {w} {out} p h e =
     ∙ take-at xs (drop (at + length xs) out) w e
 
 -- ---- one record more
-
--- a place of a list with one more is one of the list, or the last
-snoc-at : {A Q : Type 0} (xs : List A) (a : A) (i : ℕ) (x : A) → getElem? (xs ++ (a ∷ [])) i ≡ some x → (getElem? xs i ≡ some x → Q) → (i ≡ length xs → a ≡ x → Q) → Q
-snoc-at [] a zero x e f g = g refl (Option·some-injective a x e)
-snoc-at [] a (suc i) x e f g = absurd (Option·none-ne-some x e)
-snoc-at (y ∷ ys) a zero x e f g = f e
-snoc-at (y ∷ ys) a (suc i) x e f g = snoc-at ys a i x e f (λ p q. g (ap suc p) q)
 
 module _ {A : Type 0} (N : A → List ℕ → Type 0) (w : ℕ) where
   pub held-none : (at : ℕ) (out : List ℕ) → Held N w [] at out

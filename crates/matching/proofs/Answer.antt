@@ -12,20 +12,21 @@ use Rattle.meaning.specs.Limits.{atomsLength, atomWidth, candidatesLength, maxA
 use Rattle.meaning.specs.Member.{_∈_, here, there}
 use Rattle.meaning.specs.Ordered.{empty}
 use Rattle.meaning.specs.Pack.{Row, Atom}
-use Rattle.sets.proofs.Ascending.{∈-at}
 use Rattle.meaning.proofs.Cases.{case-on}
 use Rattle.matching.specs.declared.Heads.{Heads}
 use Rattle.matching.specs.declared.Heads.the-variants.{Listed, Over}
 use Rattle.matching.specs.Plan.{masked, variablesAt, candidatesAt, KeyVariables, AtomsBelow, AtomsBytes, SameVariables, Bindings, Candidate, Prepared, Plan, Solution, Reaches, Grown}
 use Rattle.matching.specs.Rule.{RuleHeld, Answers}
-use Rattle.matching.proofs.Bytes.{stacked-small, ∈-index}
-use Rattle.matching.proofs.Grown.{list-iff, over-sub}
+use Rattle.matching.proofs.Bytes.{stacked-small}
 use Rattle.matching.proofs.Held.{atom-relation, atom-count, atom-variables, row-relation, row-cell, map-long}
 use Rattle.matching.proofs.Matched.{atom-at, atom-of, row-at, rows-long}
+use Rattle.meaning.proofs.Lists.SetLists.{list-as}
+use Rattle.meaning.proofs.Lists.Places.{∈-at, ∈-index}
+use Rattle.meaning.proofs.Lists.Counting.{over-sub}
 
 -- the keys of a set that was empty
 pub grown-answers : (r : Heads) (keys keys′ : List ℕ) {P Q : ℕ → Type 0} → ((k : ℕ) → P k ↔ Q k) → length keys′ ≡ length keys → Grown r keys 0 P keys′ → Answers r keys′ Q
-grown-answers (Listed m) keys keys′ f e g = (omega (arith, g .room, e), list-iff (λ k. (⊎-elim (λ m. elim m [ ]) (f k .0), λ q. inr (f k .1 q))) (g .list))
+grown-answers (Listed m) keys keys′ f e g = (omega (arith, g .room, e), list-as (λ k. (⊎-elim (λ m. elim m [ ]) (f k .0), λ q. inr (f k .1 q))) (g .list))
 grown-answers Over keys keys′ f e g = rw e (over-sub (λ k. ⊎-elim (λ m. elim m [ ]) (f k .0)) (g .over))
 
 -- an atom that has no candidate leaves no head

@@ -8,14 +8,13 @@ use native.Mathlib.Omega.{arith}
 use Prim.Native.Nat.{ℕ, zero, suc, _+_, _*_, _-_, _^_, _≤_, _<_, zero-le}
 use Rattle.meaning.specs.Core.{Assignment}
 use Rattle.meaning.specs.Limits.{keyRoom, maxValues, maxVariables, unused}
-use Rattle.meaning.specs.Member.{_∈_}
 use Rattle.meaning.specs.Ordered.{InOrder, before}
-use Rattle.sets.proofs.Ascending.{∈-at}
 use Rattle.sets.proofs.Rank.{rank-le, rank-above, rank-below}
 use Rattle.sets.specs.Ordered.{rankOf}
 use Rattle.matching.specs.Plan.{stacked, KeyVariables, Bindings, Extends, SpanOf}
 use Rattle.matching.proofs.Bytes.{pow-next, below-room, stacked-drop}
 use Rattle.matching.proofs.Columns.{Small}
+use Rattle.meaning.proofs.Lists.Places.{∈-at}
 
 -- the columns from c on have a number between these
 pub record Bounds (vs env : List ℕ) (c low high : ℕ) : Type 0 where

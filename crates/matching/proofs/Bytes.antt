@@ -2,10 +2,10 @@
 use lib.ListN.{length, getD, drop}
 use lib.Seq.{drop-cons}
 use mathlib.Core.List.{List, [], _∷_, map}
-use mathlib.Core.Path.{_≡_, refl, sym, ap₂, subst}
+use mathlib.Core.Path.{_≡_, refl, sym, subst}
 use native.Mathlib.Nat.{pow-suc, add-zero, add-suc}
 use native.Mathlib.Omega.{arith}
-use Prim.Native.Nat.{ℕ, zero, suc, _+_, _*_, _-_, _^_, _≤_, _<_, zero-le, suc-le-suc}
+use Prim.Native.Nat.{ℕ, zero, suc, _+_, _*_, _-_, _^_, _≤_, _<_}
 use Rattle.meaning.specs.Core.{Assignment}
 use Rattle.meaning.specs.Member.{_∈_, here, there}
 use Rattle.matching.specs.Plan.{stacked}
@@ -39,14 +39,6 @@ pub stacked-drop : (σ : Assignment) (vs : List ℕ) (c : ℕ) → c < length vs
     → stacked (map σ (drop c vs)) ≡ stacked (map σ (drop (suc c) vs)) * maxValues + σ (getD vs c 0)
 unfolding stacked
 stacked-drop σ vs c h = rw (drop-cons vs c 0 h)
-
-pub ∈-index : {x : ℕ} {xs : List ℕ} → x ∈ xs → (i : ℕ) × (i < length xs) × (getD xs i 0 ≡ x)
-∈-index (here e) = (0, suc-le-suc zero-le, sym e)
-∈-index (there m) = let r = ∈-index m in (suc (r .0), suc-le-suc (r .1), r .2)
-
-pub map-same : (ρ σ : Assignment) (vs : List ℕ) → ((v : ℕ) → v ∈ vs → ρ v ≡ σ v) → map ρ vs ≡ map σ vs
-map-same ρ σ [] h = refl
-map-same ρ σ (v ∷ vs) h = ap₂ {C = List ℕ} (λ x l. x ∷ l) (h v (here refl)) (map-same ρ σ vs (λ w i. h w (there i)))
 
 -- what equal numbers say of each variable
 pub stacked-same : (ρ σ : Assignment) (vs : List ℕ) → ((v : ℕ) → v ∈ vs → ρ v < maxValues) → ((v : ℕ) → v ∈ vs → σ v < maxValues)

@@ -7,10 +7,10 @@ use native.Mathlib.Omega.{arith}
 use Prim.Native.Nat.{ℕ, _+_, _*_, _/_, _≤_, _<_}
 use Rattle.meaning.specs.Core.{Assignment}
 use Rattle.meaning.specs.Member.{_∈_}
-use Rattle.sets.proofs.Ascending.{∈-at}
 use Rattle.matching.specs.Plan.{Among, CellsAre, columnOf, FirstColumns, ColumnsBytes, ColumnsAre, RowsBytes, KeyVariables}
 use Rattle.matching.proofs.FirstColumn.{column-has}
 use Rattle.meaning.specs.Limits.{rowWidth}
+use Rattle.meaning.proofs.Lists.Places.{∈-at}
 
 -- each variable has the cell of its first column
 abbrev pub cellOf : List ℕ → ℕ → List ℕ → Assignment

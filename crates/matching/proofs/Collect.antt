@@ -15,9 +15,9 @@ use Rattle.sets.specs.Ordered.{WasAdded, WasPresent, WasFull}
 use Rattle.meaning.specs.Core.{Assignment}
 use Rattle.meaning.specs.Limits.{rowWidth, unused}
 use Rattle.matching.specs.Plan.{stacked, masked, Among, CellsAre, FirstColumns, KeyFrom, Candidate}
-use Rattle.matching.proofs.Bytes.{map-same}
 use Rattle.matching.proofs.Cells.{cellOf, Cells, cells-same, cells-done, columns-are}
-use Rattle.matching.proofs.Grown.{list-iff}
+use Rattle.meaning.proofs.Lists.SetLists.{list-as}
+use Rattle.meaning.proofs.Lists.Members.{map-same}
 
 -- ---- one key
 
@@ -78,7 +78,7 @@ module _ (rows : List ℕ) (relation : ℕ) (own order start : List ℕ) where
       within = omega arith;
       few = omega (arith, i .few);
       long = i .long;
-      list = list-iff (λ k. (later, λ e. sooner e (d (k, e .candidate)))) (i .list);
+      list = list-as (λ k. (later, λ e. sooner e (d (k, e .candidate)))) (i .list);
       recent = i .recent;
     }
 
@@ -97,7 +97,7 @@ module _ (rows : List ℕ) (relation : ℕ) (own order start : List ℕ) where
       within = omega arith;
       few = omega (arith, i .few, w .0);
       long = l ∙ i .long;
-      list = list-iff (λ k. (forth k, back k)) (w .1);
+      list = list-as (λ k. (forth k, back k)) (w .1);
       recent = λ h. w .1 .members key .1 (inl refl);
     }
       where
@@ -130,5 +130,5 @@ module _ (rows : List ℕ) (relation : ℕ) (own order start : List ℕ) where
       → (n ≤ length out₀) × ListOf _<_ (Candidate rows relation own order start) (take n out)
   collect-done i h l = (
     omega (arith, i .few, i .within, l),
-    list-iff (λ k. (λ e. e .candidate, λ c. record { candidate = c; before = omega (arith, c .within, h) })) (i .list),
+    list-as (λ k. (λ e. e .candidate, λ c. record { candidate = c; before = omega (arith, c .within, h) })) (i .list),
   )

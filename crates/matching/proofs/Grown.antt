@@ -1,23 +1,20 @@
 -- Laws of a set of keys that grows: nothing new, some more, one more. Assumes nothing.
 use lib.ListN.{length, take, length-take}
 use mathlib.Core.List.{List, _∷_}
-use mathlib.Core.Logic.{_≢_, _⊎_, _↔_, inl, inr, ⊎-elim}
+use mathlib.Core.Logic.{_⊎_, _↔_, inl, inr, ⊎-elim}
 use mathlib.Core.Path.{_≡_, sym, subst}
 use native.Mathlib.Omega.{arith}
 use Prim.Native.Nat.{ℕ, _+_, _≤_, _<_}
 use Rattle.meaning.specs.Member.{_∈_, here, there}
-use Rattle.meaning.specs.Ordered.{InOrder, empty, before, ListOf, Over as OverSet}
+use Rattle.meaning.specs.Ordered.{InOrder, before, ListOf}
 use Rattle.sets.proofs.Insertion.{added-list, present-list}
 use Rattle.sets.specs.Ordered.{WasAdded, WasPresent, WasFull}
 use Rattle.matching.specs.declared.Heads.{Heads}
 use Rattle.matching.specs.declared.Heads.the-variants.{Listed, Over}
 use Rattle.matching.specs.Plan.{GrownTo, GrownOver, Grown}
-
-pub over-sub : {P Q : ℕ → Type 0} {c : ℕ} → ((k : ℕ) → P k → Q k) → OverSet c P → OverSet c Q
-over-sub f o = record { some = o .some; differ = o .differ; members = λ k m. f k (o .members k m); over = o .over }
-
-pub list-iff : {P Q : ℕ → Type 0} {xs : List ℕ} → ((k : ℕ) → P k ↔ Q k) → ListOf _<_ P xs → ListOf _<_ Q xs
-list-iff f l = record { ascending = l .ascending; members = λ k. (λ m. f k .0 (l .members k .0 m), λ q. l .members k .1 (f k .1 q)) }
+use Rattle.meaning.proofs.Lists.SetLists.{list-as}
+use Rattle.meaning.proofs.Lists.Counting.{over-sub}
+use Rattle.meaning.proofs.Lists.Ordered.{<-strict, all-different}
 
 -- the set is what it was where each key is there already
 pub grown-same : (keys : List ℕ) (n : ℕ) {Q : ℕ → Type 0} → n ≤ length keys → InOrder _<_ (take n keys) → ((k : ℕ) → Q k → k ∈ take n keys)
@@ -29,7 +26,7 @@ either f (inl a) = inl a
 either f (inr b) = inr (f b)
 
 pub grown-iff : {keys keys′ : List ℕ} {m n : ℕ} {P Q : ℕ → Type 0} → ((k : ℕ) → P k ↔ Q k) → GrownTo m keys n P keys′ → GrownTo m keys n Q keys′
-grown-iff f g = record { room = g .room; list = list-iff (λ k. (either (f k .0), either (f k .1))) (g .list) }
+grown-iff f g = record { room = g .room; list = list-as (λ k. (either (f k .0), either (f k .1))) (g .list) }
 
 pub over-iff : {keys : List ℕ} {n : ℕ} {P Q : ℕ → Type 0} → ((k : ℕ) → P k → Q k) → GrownOver keys n P → GrownOver keys n Q
 over-iff f g = record { over = over-sub (λ k. either (f k)) (g .over) }
@@ -53,17 +50,13 @@ module _ {keys keys₁ : List ℕ} {n m : ℕ} {P Q : ℕ → Type 0} (g : Grown
   pub grown-more : {m₂ : ℕ} {keys₂ : List ℕ} → GrownTo m₂ keys₁ m Q keys₂ → GrownTo m₂ keys n (λ k. P k ⊎ Q k) keys₂
   grown-more h = record {
     room = rw e at (h .room);
-    list = list-iff (λ k. (λ s. part (first (g .list .members k .0) s), λ s. first (g .list .members k .1) (join s))) (h .list);
+    list = list-as (λ k. (λ s. part (first (g .list .members k .0) s), λ s. first (g .list .members k .1) (join s))) (h .list);
   }
 
   pub over-more : GrownOver keys₁ m Q → GrownOver keys n (λ k. P k ⊎ Q k)
   over-more h = record { over = rw e at (over-sub (λ k s. part (first (g .list .members k .0) s)) (h .over)) }
 
 -- ---- one key
-
-differ : {xs : List ℕ} → InOrder _<_ xs → InOrder _≢_ xs
-differ empty = empty
-differ (before {x = x} p a) = before {x = x} (λ y m e. let h : x < y = p y m in omega (arith, h, e)) (differ a)
 
 swap : {A B : Type 0} → A ⊎ B → B ⊎ A
 swap (inl a) = inr a
@@ -74,16 +67,16 @@ module _ (x n : ℕ) (keys keys′ : List ℕ) (a : InOrder _<_ (take n keys)) w
   own = record { ascending = a; members = λ k. (λ m. m, λ m. m) }
 
   pub one-added : WasAdded n x keys keys′ → GrownTo (n + 1) keys n (λ k. k ≡ x) keys′
-  one-added w = record { room = omega (arith, w .room); list = list-iff (λ k. (swap, swap)) (added-list w own) }
+  one-added w = record { room = omega (arith, w .room); list = list-as (λ k. (swap, swap)) (added-list w own) }
 
   pub one-present : n ≤ length keys → WasPresent n x keys keys′ → GrownTo n keys n (λ k. k ≡ x) keys′
-  one-present h w = record { room = h; list = list-iff (λ k. (swap, swap)) (present-list w own) }
+  one-present h w = record { room = h; list = list-as (λ k. (swap, swap)) (present-list w own) }
 
   pub one-over : WasFull n x keys keys′ → GrownOver keys n (λ k. k ≡ x)
   one-over w = record {
     over = record {
       some = x ∷ take n keys;
-      differ = before {x = x} (λ y m e. w .new (subst (λ z. z ∈ take n keys) (sym e) m)) (differ a);
+      differ = before {x = x} (λ y m e. w .new (subst (λ z. z ∈ take n keys) (sym e) m)) (all-different <-strict a);
       members = member;
       over = omega (arith, w .full, length-take n keys);
     };

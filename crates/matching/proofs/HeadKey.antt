@@ -9,10 +9,10 @@ use Prim.Native.Nat.{ℕ, _+_, _*_, _^_, _≤_, _<_, zero-le}
 use Rattle.meaning.specs.Limits.{keyRoom, maxValues, unused}
 use Rattle.meaning.specs.Member.{_∈_}
 use Rattle.meaning.specs.Tables.{packed}
-use Rattle.sets.proofs.Ascending.{∈-at}
 use Rattle.matching.specs.Plan.{Bound, AllBound, Bindings, bindingOf, KeyVariables, KeyOf}
 use Rattle.matching.specs.declared.keys.Head.the-variants.{Key, Open}
-use Rattle.matching.proofs.Bytes.{pow-next, below-room, ∈-index}
+use Rattle.matching.proofs.Bytes.{pow-next, below-room}
+use Rattle.meaning.proofs.Lists.Places.{∈-at, ∈-index}
 
 -- the key of the first i variables is made, and they are bound
 pub record Making (vars env : List ℕ) (i key : ℕ) : Type 0 where

@@ -16,13 +16,13 @@ use Rattle.meaning.specs.Limits.{atomWidth, maxValues, maxVariables, rowWidth, 
 use Rattle.meaning.specs.Member.{_∈_}
 use Rattle.meaning.specs.Pack.{Row, Atom}
 use Rattle.meaning.specs.Tables.{packed, rowNumbers, atomNumbers}
-use Rattle.meaning.proofs.Lists.Members.{∈-dec}
-use Rattle.sets.proofs.Ascending.{∈-at}
+use Rattle.meaning.proofs.Lists.Members.{map-same, ∈-dec}
+use Rattle.meaning.proofs.Lists.Places.{∈-at, ∈-index}
 use Rattle.meaning.proofs.Cases.{case-on}
 use Rattle.matching.specs.Plan.{stacked, masked, variablesAt, variablesFrom, candidatesAt, marked, Bound, Bindings, SameVariables, Prepared, Solution}
 use Rattle.matching.specs.Rule.{RuleHeld, HeadKey}
 use Rattle.matching.proofs.Blocks.{BlockAt, block-of, block-at, whole, flat-length}
-use Rattle.matching.proofs.Bytes.{map-same, stacked-same, ∈-index}
+use Rattle.matching.proofs.Bytes.{stacked-same}
 use Rattle.matching.proofs.Held.{atom-wide, row-wide, atom-relation, atom-variables, row-relation, row-cell, row-within, map-at, map-long}
 use Rattle.matching.proofs.Marked.{times, marks-once, marks-small, marks-long}
 use Rattle.matching.proofs.Occurrences.{times-append, times-in, from-in, from-twice}

@@ -11,12 +11,11 @@ use native.Mathlib.Omega.{arith}
 use Prim.Native.Nat.{ℕ, _+_, _*_, _-_, _%_, _≤_, _<_, zero-le}
 use Rattle.meaning.specs.Member.{_∈_}
 use Rattle.meaning.specs.Ordered.{ListOf, empty}
-use Rattle.sets.proofs.Ascending.{∈-at}
 use Rattle.meaning.proofs.Cases.{case-on}
 use Rattle.matching.specs.Plan.{rankBy, Ranked, Written, KeyVariables, AtomsBelow, SameVariables, variablesAt}
-use Rattle.matching.proofs.Bytes.{∈-index}
-use Rattle.matching.proofs.Grown.{list-iff}
 use Rattle.meaning.specs.Limits.{atomsLength, atomWidth, maxAtoms, maxColumns, maxVariables}
+use Rattle.meaning.proofs.Lists.SetLists.{list-as}
+use Rattle.meaning.proofs.Lists.Places.{∈-at, ∈-index}
 
 -- ---- ranks
 
@@ -61,7 +60,7 @@ module _ (own seen : List ℕ) where
       within = omega arith;
       few = omega (arith, i .few, w .0);
       long = l ∙ i .long;
-      list = list-iff (λ k. (forth k, back k)) (w .1);
+      list = list-as (λ k. (forth k, back k)) (w .1);
     }
       where
         forth : (k : ℕ) → (k ≡ key) ⊎ (k ∈ take n out) → Early (c + 1) k
@@ -77,7 +76,7 @@ module _ (own seen : List ℕ) where
 
   pub ranking-done : {out₀ : List ℕ} {c n : ℕ} {out : List ℕ} → Ranking out₀ c n out → length own ≤ c
       → (n ≤ length own) × ListOf _<_ (Ranked own seen) (take n out)
-  ranking-done {out₀} {c} i h = (omega (arith, i .few, i .within), list-iff (λ k. (forth k, back k)) (i .list))
+  ranking-done {out₀} {c} i h = (omega (arith, i .few, i .within), list-as (λ k. (forth k, back k)) (i .list))
     where
       forth : (k : ℕ) → Early c k → Ranked own seen k
       forth k x = record { variable = getD own (x .index) 0; member = ∈-at own (x .index) (omega (arith, x .before, i .within)); is = x .is }

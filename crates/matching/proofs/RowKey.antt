@@ -8,9 +8,9 @@ use native.Mathlib.Omega.{arith}
 use Prim.Native.Nat.{ℕ, suc, _+_, _*_, _-_, _^_, _≤_, _<_}
 use Rattle.meaning.specs.Core.{Assignment}
 use Rattle.meaning.specs.Limits.{keyRoom, maxValues, maxVariables, unused}
-use Rattle.sets.proofs.Ascending.{∈-at}
 use Rattle.matching.specs.Plan.{stacked, masked, KeyVariables, Bindings, ColumnsBytes, ColumnsAre, KeyFrom}
 use Rattle.matching.proofs.Bytes.{pow-next, below-room, stacked-drop}
+use Rattle.meaning.proofs.Lists.Places.{∈-at}
 
 -- the key of the columns from c on
 pub record Keying (rows : List ℕ) (place : ℕ) (vs cols start : List ℕ) (c key : ℕ) : Type 0 where

@@ -12,13 +12,13 @@ use Rattle.meaning.specs.Core.{Assignment}
 use Rattle.meaning.specs.Member.{_∈_}
 use Rattle.meaning.specs.Ordered.{InOrder}
 use Rattle.meaning.specs.Tables.{packed}
-use Rattle.sets.proofs.Ascending.{∈-at}
 use Rattle.matching.specs.Plan.{stacked, variablesAt, candidatesAt, Bound, AllBound, Bindings, Extends, bindingOf, Plan, Solution, Reaches, SpanOf, GrownTo, GrownOver}
 use Rattle.matching.specs.declared.spans.Span.{Span}
-use Rattle.matching.proofs.Bytes.{∈-index, map-same}
 use Rattle.matching.proofs.Columns.{Small, Columns, columns-forth, columns-back}
 use Rattle.matching.proofs.Grown.{grown-same, grown-iff, over-iff, grown-more, over-more}
 use Rattle.meaning.specs.Limits.{atomWidth, maxRows, maxValues, maxVariables}
+use Rattle.meaning.proofs.Lists.Places.{∈-at, ∈-index}
+use Rattle.meaning.proofs.Lists.Members.{map-same}
 
 module _ {atoms : List ℕ} {count : ℕ} {vars cands counts : List ℕ} (p : Plan atoms count vars cands counts) {at : ℕ} (l : at < count) where
   pub own-length : length (variablesAt atoms at) ≡ getD atoms (at * atomWidth + 1) 0

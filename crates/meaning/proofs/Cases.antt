@@ -1,9 +1,11 @@
--- Case analysis on a test, on an option and on a number's lowest digit, with the equation kept. Assumes nothing.
-use mathlib.Core.Bool.{Bool, true, false, _&&_}
+-- Case analysis on a test, on an option, on two numbers and on a number's lowest digit, with the equation kept; tests joined. Assumes nothing.
+use borrow.Author.Tests.{ltb-true, ltb-false}
+use lib.Dec.{ltb}
+use mathlib.Core.Bool.{Bool, true, false, _&&_, _||_, true≢false}
 use mathlib.Core.Option.{Option, none, some}
-use mathlib.Core.Path.{_≡_, refl}
+use mathlib.Core.Path.{_≡_, refl, sym, _∙_}
 use native.Mathlib.Omega.{arith}
-use Prim.Native.Nat.{ℕ, zero, suc, _<_, _%_}
+use Prim.Native.Nat.{ℕ, zero, suc, _≤_, _<_, _%_}
 
 pub case-on : {P : Type 0} (b : Bool) → (b ≡ true → P) → (b ≡ false → P) → P
 case-on true f g = f refl
@@ -12,6 +14,9 @@ case-on false f g = g refl
 pub case-some : {A P : Type 0} (o : Option A) → (o ≡ none → P) → ((a : A) → o ≡ some a → P) → P
 case-some none f g = f refl
 case-some (some a) f g = g a refl
+
+pub case-lt : {P : Type 0} (a b : ℕ) → (a < b → P) → (b ≤ a → P) → P
+case-lt a b f g = case-on (ltb a b) (λ e. f (ltb-true a b e)) (λ e. g (ltb-false a b e))
 
 pub even-or-odd : {P : Type 0} (n : ℕ) → (n % 2 ≡ 0 → P) → (n % 2 ≡ 1 → P) → P
 even-or-odd {P} n f g = go (n % 2) refl
@@ -24,3 +29,10 @@ even-or-odd {P} n f g = go (n % 2) refl
 pub and-both : (a b : Bool) → (a && b) ≡ true → (a ≡ true) × (b ≡ true)
 and-both true b h = (refl, h)
 and-both false b h = absurd (let z : _≡_ {A = ℕ} 0 1 = cc in omega arith)
+
+pub or-neither : (a b : Bool) → (a || b) ≡ false → (a ≡ false) × (b ≡ false)
+or-neither true b h = absurd (true≢false h)
+or-neither false b h = (refl, h)
+
+pub true-false : {b : Bool} → b ≡ true → b ≡ false → ⊥
+true-false p q = true≢false (sym p ∙ q)

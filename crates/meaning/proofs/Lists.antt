@@ -1,10 +1,14 @@
 pub mod Bits
+pub mod Counting
 pub mod Filling
 pub mod First
+pub mod Masks
 pub mod Members
 pub mod Ordered
+pub mod OrderedPlaces
 pub mod Pairs
 pub mod Parts
 pub mod Places
 pub mod Reach
+pub mod SetLists
 pub mod Sorted

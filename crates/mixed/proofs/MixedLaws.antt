@@ -17,10 +17,10 @@ use Rattle.invent.specs.Invent.{InventedSets, setAt}
 use Rattle.mixed.specs.Mixed.{MixedCore, MixedFlags, Somewhere, mixedNode}
 use Rattle.invent.proofs.Invented.{lifted, number-back, setNumber, small-set}
 use Rattle.core_lists.proofs.Keys.{iri-key-lt}
-use Rattle.core_lists.proofs.Places.{NodeAt, at-is, masked, node-at, place-of, typed-node, well}
+use Rattle.core_lists.proofs.Places.{NodeAt, masked, node-at, place-of, typed-node, well}
 use Rattle.core_lists.proofs.Proper.{Proper, proper}
 use Rattle.meaning.proofs.Lists.Bits.{bit-bound, zero-bits}
-use Rattle.meaning.proofs.Lists.Places.{inside}
+use Rattle.meaning.proofs.Lists.Places.{entry-is, inside}
 use Rattle.meaning.specs.Built.{IsBuilt, invented}
 use Rattle.meaning.specs.Core.{CoreNode, CoreType, Node, iriNode, literalNode}
 use Rattle.meaning.specs.Limits.{firstLiteral, literalWeight, maxValues, typeSets}
@@ -88,7 +88,7 @@ module _ {P : Pack} {table : List (List ℕ)} {nodes triples masks : List ℕ} (
       i = s .at
 
       go : NodeAt I i → T (mixedNode (getD nodes i 0) (getD masks i 0)) → MixedKinds P
-      go n t = by (n .node) (n .inCore) (n .is) (subst (λ k. T (mixedNode k (getD masks i 0))) (at-is nodes i (keyOf (n .node)) (n .is)) t)
+      go n t = by (n .node) (n .inCore) (n .is) (subst (λ k. T (mixedNode k (getD masks i 0))) (entry-is nodes i (keyOf (n .node)) (n .is)) t)
         where
           by : (m : Node) → CoreNode P m → getElem? nodes i ≡ some (keyOf m) → T (mixedNode (keyOf m) (getD masks i 0)) → MixedKinds P
           by (iriNode c vs) k e q =
@@ -108,7 +108,7 @@ module _ {P : Pack} {table : List (List ℕ)} {nodes triples masks : List ℕ} (
       record {
         at = i;
         below = inside nodes i (keyOf (literalNode v)) e;
-        holds = subst (λ k. T (mixedNode k (getD masks i 0))) (sym (at-is nodes i (keyOf (literalNode v)) e))
+        holds = subst (λ k. T (mixedNode k (getD masks i 0))) (sym (entry-is nodes i (keyOf (literalNode v)) e))
             (subst T (mixed-literal (keyOf (literalNode v)) (getD masks i 0) (literal-key v)) (not-eq-T (getD masks i 0 % literalWeight) (has-some t (getD masks i 0 % literalWeight) h)));
       }
 
@@ -122,7 +122,7 @@ module _ {P : Pack} {table : List (List ℕ)} {nodes triples masks : List ℕ} (
       record {
         at = i;
         below = inside nodes i (keyOf (iriNode c vs)) e;
-        holds = subst (λ x. T (mixedNode x (getD masks i 0))) (sym (at-is nodes i (keyOf (iriNode c vs)) e))
+        holds = subst (λ x. T (mixedNode x (getD masks i 0))) (sym (entry-is nodes i (keyOf (iriNode c vs)) e))
             (subst T (mixed-iri (keyOf (iriNode c vs)) (getD masks i 0) (iri-key-lt P (I .bounded) c vs (proper P (well I) n))) (masked I (iriNode c vs) i n e .types Literal .1 k));
       }
 

@@ -3,13 +3,13 @@ use borrow.Author.Tests.{not-false, not-true}
 use lib.ListN.{drop, drop-of-length-le, getElem?, length}
 use mathlib.Core.Bool.{Bool, true, false, not}
 use mathlib.Core.List.{List, [], _∷_}
-use mathlib.Core.Option.{some, Option·none-ne-some, Option·some-injective}
+use mathlib.Core.Option.{some}
 use mathlib.Core.Path.{_≡_, refl, sym, ap, _∙_}
 use native.Mathlib.Numerals.{add-one}
 use native.Mathlib.Omega.{arith}
-use Prim.Native.Nat.{ℕ, zero, suc, _+_, _≤_, _<_}
+use Prim.Native.Nat.{ℕ, _+_, _≤_, _<_}
 use Rattle.meaning.specs.Tests.{any, every}
-use Rattle.meaning.proofs.Lists.Places.{there-is}
+use Rattle.meaning.proofs.Lists.Places.{drop-entry, there-is}
 
 -- what a test's answer says
 pub passed : {b x : Bool} → b ≡ x → not b ≡ false → x ≡ true
@@ -19,11 +19,6 @@ pub failed : {b x : Bool} → b ≡ x → not b ≡ true → x ≡ false
 failed {b} e n = sym e ∙ not-true b n
 
 module _ {A : Type 0} where
-  pub front : (xs : List A) (i : ℕ) (x : A) → getElem? xs i ≡ some x → drop i xs ≡ x ∷ drop (suc i) xs
-  front [] i x e = absurd (Option·none-ne-some x e)
-  front (y ∷ xs) zero x e = ap (λ (z : A). z ∷ xs) (Option·some-injective y x e)
-  front (y ∷ xs) (suc i) x e = front xs i x e
-
   -- the entries from i on
   pub record Left (g : List A → Bool) (xs : List A) (i : ℕ) : Type 0 where
     pub is : g (drop i xs) ≡ g xs
@@ -33,7 +28,7 @@ module _ {A : Type 0} where
 
   module _ {g : List A → Bool} {xs : List A} {i : ℕ} (l : Left g xs i) where
     step : {x : A} {b : Bool} → getElem? xs i ≡ some x → g (x ∷ drop (i + 1) xs) ≡ b → b ≡ g xs
-    step {x} e h = sym h ∙ ap (λ (k : ℕ). g (x ∷ drop k xs)) (add-one i) ∙ ap g (sym (front xs i x e)) ∙ l .is
+    step {x} e h = sym h ∙ ap (λ (k : ℕ). g (x ∷ drop k xs)) (add-one i) ∙ ap g (sym (drop-entry xs i x e)) ∙ l .is
 
     pub left-done : {n : ℕ} {b : Bool} → n ≡ length xs → n ≤ i → g [] ≡ b → b ≡ g xs
     left-done m h e = let k : length xs ≤ i = omega (arith, m) in sym e ∙ ap g (sym (drop-of-length-le xs k)) ∙ l .is

@@ -16,6 +16,7 @@ use Rattle.node_list.proofs.Order.{all-nodes, inOrder, nodes-in-order, 
 use Rattle.node_list.proofs.SetList.{count-le, countBefore, set-long, split}
 use Rattle.invent.proofs.Invented.{number-of-at}
 use Rattle.meaning.proofs.Lists.Members.{element}
+use Rattle.meaning.proofs.Lists.Places.{at-later}
 use Rattle.meaning.proofs.Model.Listing.{placed-only, placeIn}
 use Rattle.meaning.specs.Built.{BuiltNode, IsBuilt, core}
 use Rattle.core.specs.Keys.{keyOf}
@@ -70,10 +71,6 @@ two-parts n a b out l h =
     rw (t, e) refl
 
 -- ---- the number of a set
-
-pub at-later : {A : Type 0} (xs ys : List A) (i : ℕ) → getElem? (xs ++ ys) (length xs + i) ≡ getElem? ys i
-at-later [] ys i = ap (λ (x : ℕ). getElem? ys x) (let e : 0 + i ≡ i = omega arith in e)
-at-later (x ∷ xs) ys i = let e : suc (length xs) + i ≡ suc (length xs + i) = omega arith in rw e (at-later xs ys i)
 
 first-at : (flags : List ℕ) (k n : ℕ) → getD flags (slotOf k) 0 ≡ 1 → getElem? (map setNode (setsFrom flags k (suc n))) 0 ≡ some (setNode (slotOf k))
 unfolding setsFrom

@@ -22,6 +22,7 @@ use Rattle.core_lists.proofs.Proper.{proper}
 use Rattle.node_list.proofs.Records.{core-record}
 use Rattle.node_list.proofs.SetList.{slot-first, slot-later}
 use Rattle.meaning.proofs.Lists.Members.{element, ∈-append, ∈-map⁻¹}
+use Rattle.meaning.proofs.Lists.SetLists.{joined-order}
 use Rattle.meaning.proofs.Theory.Invented.{literal-alone, types-some}
 use Rattle.meaning.specs.Built.{BuiltNode, IsBuilt, core, inCore, invented}
 use Rattle.meaning.specs.Core.{CoreNode, Node, iriNode, literalNode}
@@ -34,17 +35,6 @@ use Rattle.meaning.specs.Pack.{Pack}
 use Rattle.meaning.specs.TypeSet.{TypeSet}
 
 -- ---- lists in order, one after the other
-
-pub joined-order : {A : Type 0} {R : A → A → Type 0} (xs ys : List A) → InOrder R xs → InOrder R ys → ((x y : A) → x ∈ xs → y ∈ ys → R x y) → InOrder R (xs ++ ys)
-joined-order [] ys a b h = b
-joined-order {A} {R} (x ∷ xs) ys (before f a) b h = before all (joined-order xs ys a b (λ y z m n. h y z (there m) n))
-  where
-    by : (y : A) → (y ∈ xs) ⊎ (y ∈ ys) → R x y
-    by y (inl m) = f y m
-    by y (inr m) = h x y (here refl) m
-
-    all : (y : A) → y ∈ (xs ++ ys) → R x y
-    all y m = by y (List·Memᴰ·append-cases xs m)
 
 -- ---- the marked sets
 

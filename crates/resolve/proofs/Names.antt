@@ -13,7 +13,7 @@ use Prim.Native.Nat.{ℕ, zero, suc, _+_, _*_, _-_, _≤_, _<_}
 use Rattle.checks.specs.Checked.{SettingLoaded}
 use Rattle.iris.proofs.Loaded.{holds, lent}
 use Rattle.records.specs.Numbers.{TextAt}
-use Rattle.meaning.proofs.Lists.Places.{there-is}
+use Rattle.meaning.proofs.Lists.Places.{inside, there-is}
 use Rattle.meaning.specs.Graph.{Called}
 use Rattle.meaning.specs.Limits.{maxPredicates, predicatesAt, textWidth, unused}
 use Rattle.meaning.specs.Pack.{Pack, Text}
@@ -24,7 +24,9 @@ use Rattle.meaning.proofs.Lists.Parts.{first-at, number-at}
 use Rattle.pack.proofs.Accepted.{well-formed}
 use Rattle.pack.specs.Checked.{OfPack}
 use Rattle.resolve.specs.Wanted.{PredicateIs}
-use Rattle.spelling.proofs.Texts.{or-false, eq-same, begins-append, begins-rest, one-place, getElem-below}
+use Rattle.spelling.proofs.Texts.{eq-same, begins-append, begins-rest}
+use Rattle.meaning.proofs.Cases.{or-neither}
+use Rattle.meaning.proofs.Lists.Pairs.{no-two-place}
 
 -- ---- the same text
 
@@ -92,9 +94,9 @@ called-once P h text p q cp cq =
     let a = anyTwo sameText (S .values) in
     let b = anyTwo sameText (S .types) in
     let c = anyTwo sameText (S .predicates) in
-    let d = or-false (a || b) c (or-false (a || b || c) (anyTwo sameCell (S .shapes)) h .0) .1 in
+    let d = or-neither (a || b) c (or-neither (a || b || c) (anyTwo sameCell (S .shapes)) h .0) .1 in
     let e : getD (S .predicates) p [] ≡ getD (S .predicates) q [] = element-at (S .predicates) p text [] cp ∙ sym (element-at (S .predicates) q text [] cq) in
-    one-place sameText [] (S .predicates) p q d (getElem-below (S .predicates) p cp) (getElem-below (S .predicates) q cq) (eq-same e) (eq-same (sym e))
+    no-two-place sameText [] (S .predicates) p q d (inside (S .predicates) p _ cp) (inside (S .predicates) q _ cq) (eq-same e) (eq-same (sym e))
 
 -- ---- the search for it
 
@@ -108,7 +110,7 @@ before-start s text = record { none = λ P w k h c. absurd (let z : ⊥ = omega 
 module _ {s text counts numbers : List ℕ} {p : ℕ} (l : SettingLoaded s counts numbers) (before : NotBefore s text p) where
   pub unnamed : getD counts 4 0 ≤ p → OfPack s (λ P. PredicateIs P text unused)
   unnamed h P w k = (
-    (λ c. absurd (before .none P w k (omega (arith, getElem-below (P .setting .predicates) k c, names-many l P w)) c)),
+    (λ c. absurd (before .none P w k (omega (arith, inside (P .setting .predicates) k _ c, names-many l P w)) c)),
     (λ c. absurd (let z : ⊥ = omega (arith, c .0, c .1) in z)),
   )
 

@@ -7,15 +7,18 @@ use mathlib.Core.Path.{_≡_, sym, ap, subst, _∙_}
 use native.Mathlib.Omega.{arith}
 use Prim.Native.Nat.{ℕ, _≤_}
 use Rattle.meaning.proofs.Lists.Members.{element}
+use Rattle.meaning.proofs.Lists.Ordered.{by-key}
+use Rattle.meaning.proofs.Lists.OrderedPlaces.{one-place}
 use Rattle.meaning.proofs.Lists.Places.{there-is}
 use Rattle.meaning.specs.Built.{BuiltNode, IsBuilt}
 use Rattle.meaning.specs.Limits.{maxNodes, unused}
+use Rattle.meaning.specs.Listing.{nodeKey}
 use Rattle.meaning.specs.Pack.{Pack}
 use Rattle.resolve.specs.Listed.{Listed}
 use Rattle.resolve.specs.Search.{HasNumbers, First, found, nowhere}
 use Rattle.resolve.specs.Wanted.{NodeIs}
 use Rattle.resolve.proofs.Numbered.{Numbered}
-use Rattle.resolve.proofs.Records.{place-once, below-count, has-numbers}
+use Rattle.resolve.proofs.Records.{below-count, has-numbers}
 
 module _ {P : Pack} {inOrder : List BuiltNode} {nodes : List ℕ} {count : ℕ} (listed : Listed P inOrder nodes count) (few : count ≤ maxNodes) (HasLabel : BuiltNode → Type 0) where
   built-at : (m : ℕ) (b : BuiltNode) → getElem? inOrder m ≡ some b → IsBuilt P b
@@ -36,7 +39,7 @@ module _ {P : Pack} {inOrder : List BuiltNode} {nodes : List ℕ} {count : ℕ} 
           let x = there-is inOrder r (omega (arith, listed .counted)) in
           let e = numbered (x .0) (built-at r (x .0) (x .1)) .0 (has-numbers P listed r (x .0) (x .1) four .0 q) in
           let g = labelled b i .0 h in
-          place-once inOrder (listed .ordered .ascending) m r n (at ∙ ap some g) (x .1 ∙ ap some e)
+          one-place (by-key nodeKey) inOrder (listed .ordered .ascending) n m r (at ∙ ap some g) (x .1 ∙ ap some e)
       forth (nowhere e others) h = absurd (others m (below-count P listed m b at) (numbers .1 (numbered b i .1 (labelled b i .0 h))))
 
       back : First (HasNumbers nodes k v vs) count r → m ≡ r → HasLabel b

@@ -4,31 +4,19 @@ use lib.Seq.{getD-take, getD-append-add, length-take-le, take-append-seam, take-
 use mathlib.Core.List.{List, [], _∷_, _++_, Forall₂, Forall₂·nil, Forall₂·cons, flatten}
 use mathlib.Core.Logic.{_↔_}
 use mathlib.Core.Option.{some, Option·none-ne-some, Option·some-injective}
-use mathlib.Core.Path.{_≡_, refl, sym, ap, subst, _∙_}
+use mathlib.Core.Path.{_≡_, sym, ap, _∙_}
 use native.Mathlib.Omega.{arith}
 use Prim.Native.Nat.{ℕ, zero, suc, _+_, _*_, _≤_, _<_}
-use Rattle.meaning.proofs.Lists.Members.{element}
-use Rattle.meaning.proofs.Lists.Ordered.{≺-irrefl}
+use Rattle.meaning.proofs.Lists.Places.{inside}
 use Rattle.meaning.specs.Built.{BuiltNode, core, invented}
 use Rattle.meaning.specs.Core.{iriNode, literalNode}
 use Rattle.meaning.specs.Limits.{maxArguments, nodeWidth, unused}
-use Rattle.meaning.specs.Listing.{kind, number, padded, arguments, NodeRecord, nodeKey, _◃_}
-use Rattle.meaning.specs.Ordered.{InOrder, before, _≺_}
+use Rattle.meaning.specs.Listing.{kind, number, padded, arguments, NodeRecord}
 use Rattle.meaning.specs.Pack.{Pack}
 use Rattle.resolve.specs.Listed.{Listed}
 use Rattle.resolve.specs.Search.{HasNumbers}
-use Rattle.spelling.proofs.Texts.{getElem-below}
 
 -- ---- a list in order has each element once
-
-pub place-once : (xs : List BuiltNode) → InOrder _◃_ xs → (i j : ℕ) (x : BuiltNode) → getElem? xs i ≡ some x → getElem? xs j ≡ some x → i ≡ j
-place-once [] o i j x e f = absurd (Option·none-ne-some x e)
-place-once (y ∷ ys) o zero zero x e f = refl
-place-once (y ∷ ys) (before h o) zero (suc j) x e f =
-    absurd (≺-irrefl (nodeKey x) (subst (λ z. nodeKey z ≺ nodeKey x) (Option·some-injective y x e) (h x (element ys j x f))))
-place-once (y ∷ ys) (before h o) (suc i) zero x e f =
-    absurd (≺-irrefl (nodeKey x) (subst (λ z. nodeKey z ≺ nodeKey x) (Option·some-injective y x f) (h x (element ys i x e))))
-place-once (y ∷ ys) (before h o) (suc i) (suc j) x e f = ap suc (place-once ys o i j x e f)
 
 -- ---- the numbers of a record
 
@@ -77,7 +65,7 @@ module _ (P : Pack) where
 
   module _ {inOrder : List BuiltNode} {nodes : List ℕ} {count : ℕ} (listed : Listed P inOrder nodes count) (m : ℕ) (b : BuiltNode) (at : getElem? inOrder m ≡ some b) where
     pub below-count : m < count
-    below-count = omega (arith, getElem-below inOrder m at, listed .counted)
+    below-count = omega (arith, inside inOrder m _ at, listed .counted)
 
     number-at : (types : ℕ) × ((j : ℕ) → j < nodeWidth → getD nodes (m * nodeWidth + j) 0 ≡ getD (numbersOf b types) j 0)
     number-at =

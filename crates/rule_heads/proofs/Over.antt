@@ -1,48 +1,19 @@
 -- More keys of one rule's heads than maxHeads make the core too large: different keys are different subjects of its type, or
 -- different triples of its predicate. Assumes nothing.
-use lib.ListN.{length}
 use mathlib.Core.List.{List, [], _∷_, _++_, map, map-append}
-use mathlib.Core.Logic.{_≢_, inl, inr}
-use mathlib.Core.Path.{_≡_, refl, sym, ap, subst, _∙_}
+use mathlib.Core.Logic.{inl, inr}
+use mathlib.Core.Path.{_≡_, refl, ap, _∙_}
 use native.Mathlib.Omega.{arith}
-use Prim.Native.Nat.{ℕ, suc, _≤_}
+use Prim.Native.Nat.{ℕ}
 use Rattle.matching.specs.Rule.{HeadKey}
 use Rattle.meaning.specs.Core.{Node, asTyped, headFact, iriNode, literalNode, nodeOf}
 use Rattle.meaning.specs.Limits.{maxCoreTriples, maxHeads, maxIris}
-use Rattle.meaning.specs.Member.{_∈_, here, there}
+use Rattle.meaning.specs.Member.{_∈_}
 use Rattle.meaning.specs.NoGraph.{CoreIri, CoreTriple, TooLarge}
-use Rattle.meaning.specs.Ordered.{InOrder, Over, before, empty}
+use Rattle.meaning.specs.Ordered.{Over}
 use Rattle.meaning.specs.Pack.{Head, Pack, Rule, Term, hasType, linksTo, linksToValue}
 use Rattle.meaning.specs.Tables.{packed, headArguments}
-
--- ---- as many elements of another set, of which the first are functions
-
-record Drawn {A B : Type 0} (f : B → A) (R : B → Type 0) (xs : List A) : Type 0 where
-  some : List B
-  many : length some ≡ length xs
-  differ : InOrder _≢_ some
-  members : (b : B) → b ∈ some → R b × (f b ∈ xs)
-
-draw : {A B : Type 0} (f : B → A) (R : B → Type 0) (xs : List A) → InOrder _≢_ xs → ((x : A) → x ∈ xs → (b : B) × R b × (x ≡ f b)) → Drawn f R xs
-draw f R [] d h = record { some = []; many = refl; differ = empty; members = λ b m. elim m [ ] }
-draw {A} {B} f R (x ∷ xs) (before p d) h = more (draw f R xs d (λ y m. h y (there m))) (h x (here refl))
-  where
-    more : Drawn f R xs → (b : B) × R b × (x ≡ f b) → Drawn f R (x ∷ xs)
-    more c b = record {
-      some = b .0 ∷ c .some;
-      many = ap suc (c .many);
-      differ = before (λ y m e. p (f y) (c .members y m .1) (b .2 ∙ ap f e)) (c .differ);
-      members = members;
-    }
-      where
-        members : (y : B) → y ∈ (b .0 ∷ c .some) → R y × (f y ∈ (x ∷ xs))
-        members y (here e) = (subst R (sym e) (b .1), here (ap f e ∙ sym (b .2)))
-        members y (there m) = let r = c .members y m in (r .0, there (r .1))
-
-over-by : {A B : Type 0} (f : B → A) {Q : A → Type 0} (R : B → Type 0) {n : ℕ} (m : ℕ) → m ≤ n → ((x : A) → Q x → (b : B) × R b × (x ≡ f b)) → Over n Q → Over m R
-over-by f R m l h o =
-    let d = draw f R (o .some) (o .differ) (λ x i. h x (o .members x i)) in
-    record { some = d .some; differ = d .differ; members = λ b i. d .members b i .0; over = omega (arith, l, o .over, d .many) }
+use Rattle.meaning.proofs.Lists.Counting.{over-by}
 
 -- ---- the keys of a rule's heads
 

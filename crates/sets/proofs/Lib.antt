@@ -1,10 +1,8 @@
 pub mod Fill
 pub mod Copy
-pub mod Ascending
 pub mod Rank
 pub mod Insert
 pub mod Shift
 pub mod Insertion
-pub mod Mask
 pub mod Lowest
 pub mod Progress

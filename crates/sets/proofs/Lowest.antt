@@ -10,7 +10,7 @@ use native.Mathlib.Omega.{arith}
 use Prim.Native.Nat.{ℕ, zero, suc, _*_, _-_, _/_, _%_, _^_, _≤_, _<_, min}
 use Rattle.meaning.specs.TypeSet.{bit}
 use Rattle.meaning.proofs.Cases.{even-or-odd}
-use Rattle.sets.proofs.Mask.{half-lt, intersection-member}
+use Rattle.meaning.proofs.Lists.Masks.{half-lt, intersection-member}
 
 -- the mask without its lowest member
 abbrev pub cleared : ℕ → ℕ

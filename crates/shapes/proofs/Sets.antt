@@ -1,34 +1,18 @@
 -- A mask of 16 bits as a type set: type t's bit is bit t, Literal's is bit 15. Assumes nothing.
 use lib.Bits.{bitAnd, bitOr, and-le-r, and-mask, or-lt}
 use lib.Dec.{leb→le, le→leb, lit<}
-use lib.Pow.{pow-lt, suc-ones}
+use lib.Pow.{pow-lt}
 use mathlib.Core.Logic.{_↔_, _⊎_, inl, inr}
 use mathlib.Core.Path.{_≡_, refl, sym, ap, _∙_, subst}
 use native.Mathlib.Decide.{ℕ-discrete}
-use native.Mathlib.Nat.{pow-suc, not-suc-le-zero, le-of-suc-le-suc}
 use native.Mathlib.Omega.{arith}
-use Prim.Native.Nat.{ℕ, zero, suc, _-_, _/_, _%_, _^_, _≤_, _<_}
+use Prim.Native.Nat.{ℕ, _-_, _/_, _%_, _^_, _≤_, _<_}
 use Rattle.meaning.proofs.Lists.Bits.{bit-one, bit-other, bit-shift, zero-bits}
+use Rattle.meaning.proofs.Lists.Masks.{low-member, union-member}
 use Rattle.meaning.specs.Limits.{literalBit, typeSets}
 use Rattle.meaning.specs.Pack.{Target, Literal, type}
 use Rattle.meaning.specs.Tables.{targetCode, setOfMask}
 use Rattle.meaning.specs.TypeSet.{bit, _∈ₜ_}
-use Rattle.sets.proofs.Mask.{bit-small, intersection-member, union-member}
-
--- 2 ^ k - 1 is the mask of all types below k
-ones-bit : (k t : ℕ) → t < k → bit t (2 ^ k - 1) ≡ 1
-unfolding bit
-ones-bit zero t h = absurd (not-suc-le-zero h)
-ones-bit (suc k) zero h = omega (arith, pow-suc 2 k, suc-ones k)
-ones-bit (suc k) (suc t) h =
-    let e : (2 ^ suc k - 1) / 2 ≡ 2 ^ k - 1 = omega (arith, pow-suc 2 k, suc-ones k) in rw e (ones-bit k t (le-of-suc-le-suc h))
-
--- the members below k
-pub low-member : (k t m : ℕ) → (bit t (bitAnd m (2 ^ k - 1)) ≡ 1) ↔ ((t < k) × (bit t m ≡ 1))
-low-member k t m = (
-  λ h. let b = intersection-member t m (2 ^ k - 1) .0 h in (bit-small k t (2 ^ k - 1) (b .1) (omega (arith, suc-ones k)), b .0),
-  λ h. intersection-member t m (2 ^ k - 1) .1 (h .1, ones-bit k t (h .0)),
-)
 
 -- the types of a mask
 abbrev pub typesIn : ℕ → ℕ

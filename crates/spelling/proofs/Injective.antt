@@ -13,9 +13,12 @@ use Rattle.meaning.specs.Tests.{anyTwo, sameText, begins}
 use Rattle.meaning.specs.WellFormed.{duplicates, prefixClash, prefixes, sameCell}
 use Rattle.spelling.proofs.Segments.{segment-inj, segment-slashless}
 use Rattle.spelling.proofs.Slashes.{Slashless, AllSlashless, joined-inj}
-use Rattle.spelling.proofs.Texts.{or-false, eq-same, begins-both, one-place, getElem-below}
+use Rattle.spelling.proofs.Texts.{eq-same, begins-both}
 use Rattle.spelling.specs.Iri.{joined, textOf, prefixOf, IsTerm, iriBy, iriOf}
 use Rattle.spelling.specs.Segment.{segment}
+use Rattle.meaning.proofs.Lists.Places.{inside}
+use Rattle.meaning.proofs.Cases.{or-neither}
+use Rattle.meaning.proofs.Lists.Pairs.{no-two-place}
 
 -- What a way to write a value has to keep.
 pub record Writes (write : Text → Text) : Type 0 where
@@ -35,12 +38,12 @@ values-differ P h v w lv lw e =
     let a = anyTwo sameText (S .values) in
     let b = anyTwo sameText (S .types) in
     let c = anyTwo sameText (S .predicates) in
-    let d = or-false a b (or-false (a || b) c (or-false (a || b || c) (anyTwo sameCell (S .shapes)) h .0) .0) .0 in
-    one-place sameText [] (S .values) v w d lv lw (eq-same e) (eq-same (sym e))
+    let d = or-neither a b (or-neither (a || b) c (or-neither (a || b || c) (anyTwo sameCell (S .shapes)) h .0) .0) .0 in
+    no-two-place sameText [] (S .values) v w d lv lw (eq-same e) (eq-same (sym e))
 
 prefix-at : (ks : List Constructor) (c : ℕ) {k : Constructor} → getElem? ks c ≡ some k
     → (c < length (map (λ (l : Constructor). l .prefix) ks)) × (getD (map (λ (l : Constructor). l .prefix) ks) c [] ≡ k .prefix)
-prefix-at ks c h = (rw length-map (getElem-below ks c h), go ks c h)
+prefix-at ks c h = (rw length-map (inside ks c _ h), go ks c h)
   where
     go : (ls : List Constructor) (d : ℕ) {l : Constructor} → getElem? ls d ≡ some l → getD (map (λ (m : Constructor). m .prefix) ls) d [] ≡ l .prefix
     go [] d {l} e = let z : _≡_ {A = ℕ} 0 1 = cc in absurd (omega arith)
@@ -57,7 +60,7 @@ pub one-constructor : (P : Pack) → prefixClash P ≡ false → (c d : ℕ) {k 
     → (s t : Text) → prefixOf P c ++ s ≡ prefixOf P d ++ t → c ≡ d
 unfolding prefixClash
 one-constructor P free c d hc hd s t e =
-    one-place (λ a b. begins a b || begins b a) [] (prefixes P) c d free
+    no-two-place (λ a b. begins a b || begins b a) [] (prefixes P) c d free
     (prefix-at (P .setting .constructors) c hc .0) (prefix-at (P .setting .constructors) d hd .0)
     (begins-both (prefixOf P c) (prefixOf P d) s t e) (begins-both (prefixOf P d) (prefixOf P c) t s (sym e))
 

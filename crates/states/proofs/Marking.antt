@@ -11,6 +11,7 @@ use native.Mathlib.Decide.{decLt, ℕ-discrete}
 use native.Mathlib.Omega.{arith}
 use Prim.Native.Nat.{suc, zero, ℕ, _+_, _<_, _≤_}
 use Rattle.states.specs.Table.{Adds, Clean, Marked, NoneOver, Table, Unmarked, free, has}
+use Rattle.meaning.proofs.Cases.{true-false}
 
 -- ---- one number of the table
 
@@ -30,10 +31,6 @@ module _ (mark : ℕ) (table : List ℕ) where
   has-other : (s x : ℕ) → (x ≡ s → ⊥) → has mark (set table s mark) x ≡ has mark table x
   unfolding has
   has-other s x n = ap (λ y. eqb y mark) (getD-set-other table s x mark 0 n)
-
--- A state is marked or not.
-pub true-false : {b : Bool} → b ≡ true → b ≡ false → ⊥
-true-false p q = let z : _≡_ {A = ℕ} 0 1 = cc in omega arith
 
 pub clean-free : {mark n : ℕ} {table : List ℕ} → Clean mark n table → (x : ℕ) → x < n → has mark table x ≡ false
 clean-free {mark} {n} {table} c x l = is-free mark table x (λ e. let z = c .below x l in omega arith)

@@ -14,7 +14,7 @@ use native.Mathlib.Omega.{arith}
 use Prim.Native.Nat.{ℕ, suc, _+_, _*_, _≤_, _<_}
 use Rattle.records.specs.Numbers.{targetNumber}
 use Rattle.meaning.proofs.Lists.Members.{both, element, every-at}
-use Rattle.meaning.proofs.Lists.Places.{there-is}
+use Rattle.meaning.proofs.Lists.Places.{drop-entry, there-is}
 use Rattle.meaning.specs.Limits.{literalBit, literalTarget, maxPredicates, maxTypes, multiplicityRoom, shapeWidth, shapesAt}
 use Rattle.meaning.specs.Pack.{Literal, Multiplicity, Pack, ShapeRecord, Target, anyNumber, atLeastOne, firstShape, multiplicityNumber, one, optional, shapeIn, shapeOf, type}
 use Rattle.meaning.specs.Tables.{ShapeTable, cellAt, cellOf, targetCode}
@@ -23,7 +23,6 @@ use Rattle.meaning.specs.Tests.{every}
 use Rattle.meaning.specs.WellFormed.{dangling, goodDependency, goodRow, goodRule, goodShape, goodTarget}
 use Rattle.names.specs.Given.{ForSetting, SettingGiven}
 use Rattle.meaning.proofs.Lists.Parts.{first-at, number-at}
-use Rattle.names.proofs.Records.{front}
 use Rattle.names.proofs.Shape.{shape-at, shapes-many}
 use Rattle.tables.specs.Tables.{IsResolvedSetting, codeOf, putFirst}
 use Rattle.tables.proofs.Cells.{Square, cell-other, cell-same, or-else-zero, orElse, put-first-square}
@@ -153,12 +152,12 @@ small {counts} {numbers} r i h =
     let types = length (P .setting .types) in
     let predicates = length (P .setting .predicates) in
     let good = good-shape P (r .resolved) x (element (P .setting .shapes) i x (q .1)) in
-    let front = both (ltb (x .owner) types && ltb (x .predicate) predicates) (goodTarget P (x .shape .target)) .0 good in
-    let both-named = both (ltb (x .owner) types) (ltb (x .predicate) predicates) .0 (front .0) in
+    let named = both (ltb (x .owner) types && ltb (x .predicate) predicates) (goodTarget P (x .shape .target)) .0 good in
+    let both-named = both (ltb (x .owner) types) (ltb (x .predicate) predicates) .0 (named .0) in
     record {
       owner = omega (arith, owner-is g i x (q .1), ltb→lt (x .owner) types (both-named .0), g .bounds .types);
       predicate = omega (arith, predicate-is g i x (q .1), ltb→lt (x .predicate) predicates (both-named .1), g .bounds .predicates);
-      target = omega (arith, target-is g i x (q .1), target-small P (x .shape .target) (g .bounds .types) (front .1));
+      target = omega (arith, target-is g i x (q .1), target-small P (x .shape .target) (g .bounds .types) (named .1));
       multiplicity = omega (arith, multiplicity-is g i x (q .1), multiplicity-some (x .shape .multiplicity) .1);
     }
 
@@ -215,7 +214,7 @@ module _ {count : ℕ} {numbers : List ℕ} {table : List (List ℕ)} {n : ℕ} 
           let p = predicate-is g n x (q .1) in
           let t = target-is g n x (q .1) in
           let m = multiplicity-is g n x (q .1) in
-          rw (front (P .setting .shapes) n x (q .1), add-one n, o, p, t, m)
+          rw (drop-entry (P .setting .shapes) n x (q .1), add-one n, o, p, t, m)
           (step table x (drop (suc n) (P .setting .shapes)) (codeOf (targetNumber (x .shape .target)) (multiplicityNumber (x .shape .multiplicity))) (f .square)
           (omega (arith, o, s .owner)) (omega (arith, p, s .predicate)) (cell-code x (shape-at g n x (q .1) .bound))
           (omega (arith, multiplicity-some (x .shape .multiplicity) .0)) i j)

@@ -1,6 +1,6 @@
 -- Lists of records written one after the other. Assumes nothing.
 use lib.ListN.{length, length-append, take, take-append-drop}
-use mathlib.Core.List.{List, [], _++_, append-nil, List·Memᴰ·append-cases, flatten}
+use mathlib.Core.List.{List, [], _++_, append-nil, flatten}
 use mathlib.Core.Logic.{_↔_, _⊎_, inl, inr, Iff·trans}
 use mathlib.Core.Path.{_≡_, refl, sym, ap, subst, _∙_}
 use native.Mathlib.Decide.{ℕ-discrete}
@@ -10,33 +10,13 @@ use Rattle.invent.specs.Invent.{Upto}
 use Rattle.node_list.specs.Records.{overwritten}
 use Rattle.triple_list.specs.Triples.{Listed}
 use Rattle.node_list.proofs.NodesLaws.{flat-join}
-use Rattle.node_list.proofs.Order.{joined-order}
 use Rattle.node_list.proofs.Written.{parts-written}
-use Rattle.meaning.proofs.Lists.Members.{∈-append}
-use Rattle.meaning.specs.Member.{_∈_}
-use Rattle.meaning.specs.Ordered.{ListOf, _≺_, empty}
+use Rattle.meaning.proofs.Lists.SetLists.{empty-list, joined-list}
+use Rattle.meaning.specs.Ordered.{_≺_}
 use Rattle.meaning.specs.Pack.{Pack}
 use Rattle.shapes.specs.Shapes.{Tabled}
 
 -- ---- lists in order
-
-pub joined-list : {A : Type 0} {R : A → A → Type 0} {Q S Z : A → Type 0} {xs ys : List A} → ListOf R Q xs → ListOf R S ys
-    → ((x y : A) → Q x → S y → R x y) → ((x : A) → Z x ↔ (Q x ⊎ S x)) → ListOf R Z (xs ++ ys)
-joined-list {A} {R} {Q} {S} {Z} {xs} {ys} a b o z = record {
-  ascending = joined-order xs ys (a .ascending) (b .ascending) (λ x y m n. o x y (a .members x .0 m) (b .members y .0 n));
-  members = λ x. (λ m. z x .1 (forth x (List·Memᴰ·append-cases xs m)), λ q. ∈-append xs ys (back x (z x .0 q)));
-}
-  where
-    forth : (x : A) → (x ∈ xs) ⊎ (x ∈ ys) → Q x ⊎ S x
-    forth x (inl m) = inl (a .members x .0 m)
-    forth x (inr m) = inr (b .members x .0 m)
-
-    back : (x : A) → Q x ⊎ S x → (x ∈ xs) ⊎ (x ∈ ys)
-    back x (inl q) = inl (a .members x .1 q)
-    back x (inr s) = inr (b .members x .1 s)
-
-pub empty-list : {A : Type 0} {R : A → A → Type 0} {Q : A → Type 0} → ((x : A) → ¬ Q x) → ListOf R Q []
-empty-list n = record { ascending = empty; members = λ x. (λ m. elim m [ ], λ q. absurd (n x q)) }
 
 pub upto-more : {A : Type 0} (Q : ℕ → A → Type 0) (n : ℕ) (x : A) → Upto Q (n + 1) x ↔ (Upto Q n x ⊎ Q n x)
 upto-more {A} Q n x = (λ u. split u (ℕ-discrete (u .at) n), join)

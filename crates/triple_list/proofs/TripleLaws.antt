@@ -18,7 +18,7 @@ use Rattle.core_lists.proofs.Keys.{iri-key-lt, key-one}
 use Rattle.triple_list.proofs.EdgeLaws.{by-subject}
 use Rattle.triple_list.proofs.ListedLaws.{listed-join}
 use Rattle.node_list.proofs.Order.{all-nodes, inOrder, nodes-in-order, setNode}
-use Rattle.core_lists.proofs.Places.{at-is, edge-at, edge-key, masked, masked-targets, node-at, place-of, place-small, predicate-small, requires-masked, targets-masked, well}
+use Rattle.core_lists.proofs.Places.{edge-at, edge-key, masked, masked-targets, node-at, place-of, place-small, predicate-small, requires-masked, targets-masked, well}
 use Rattle.core_lists.proofs.Proper.{proper, subject-iri}
 use Rattle.core_lists.specs.Origin.{HasOrigin}
 use Rattle.invent.proofs.SetNumbers.{mask-set}
@@ -26,7 +26,7 @@ use Rattle.triple_list.proofs.SetOrder.{set-above}
 use Rattle.meaning.proofs.Lists.Bits.{bit-bound}
 use Rattle.meaning.proofs.Lists.Members.{element}
 use Rattle.meaning.proofs.Lists.Ordered.{by-key, list-unique}
-use Rattle.meaning.proofs.Lists.Places.{inside, placed}
+use Rattle.meaning.proofs.Lists.Places.{entry-is, inside, placed}
 use Rattle.meaning.proofs.Model.Listing.{placed-only}
 use Rattle.meaning.specs.Built.{BuiltEdge, BuiltNode, Gets, IsBuilt, PTargets, Requires, arises, core, fromCore, inCore, invented, made}
 use Rattle.meaning.specs.Core.{CoreEdge, CoreNode, Node, asObject, asSubject, iriNode, literalNode}
@@ -112,7 +112,7 @@ module _ {P : Pack} {shapes : List (List ℕ)} {nodes triples masks flags : List
   -- an IRI stands before the literals
   iri-below : (c : ℕ) (vs : List ℕ) (i : ℕ) → CoreNode P (iriNode c vs) → getElem? nodes i ≡ some (keyOf (iriNode c vs)) → i < rankOf firstLiteral nodes
   iri-below c vs i k e =
-      rank-above firstLiteral nodes i (subst (λ x. x < firstLiteral) (sym (at-is nodes i (keyOf (iriNode c vs)) e)) (iri-key-lt P (I .bounded) c vs (proper P (well I) k)))
+      rank-above firstLiteral nodes i (subst (λ x. x < firstLiteral) (sym (entry-is nodes i (keyOf (iriNode c vs)) e)) (iri-key-lt P (I .bounded) c vs (proper P (well I) k)))
       (I .held .node-keys .ascending) (inside nodes i (keyOf (iriNode c vs)) e)
 
   module _ (places : List ℕ) (numbered : Numbered bs places) where

@@ -14,7 +14,8 @@ use Rattle.walk.specs.Parts.{Part, test, repeat, chain, either, partOf, 
 use Rattle.walk.specs.Walk.{Reached, Alive, EdgesJoinNodes}
 use Rattle.walk.proofs.Alive.{Says, forward, backward}
 use Rattle.walk.proofs.Expressions.{exprOf, expr-says, root-at}
-use Rattle.walk.proofs.Trees.{Nest, below, holds-nest}
+use Rattle.walk.proofs.Trees.{Nest, holds-nest}
+use Rattle.meaning.proofs.Cases.{case-lt}
 
 -- What is to be done after a part is one of the parts, or the end.
 pub next-within : (q : Text) (t next : List ℕ) (n : ℕ) → HoldsQuery q t n → Threaded (partOf t) (listed next) n → (i : ℕ) → i < n → listed next i ≤ n
@@ -33,7 +34,7 @@ next-within q t next n held threaded i l = from n i (omega arith) l
 
     from : (f i : ℕ) → n ≤ i + f → i < n → listed next i ≤ n
     from zero i h l = absurd (omega arith)
-    from (suc f) i h l = below i (n - 1)
+    from (suc f) i h l = case-lt i (n - 1)
         (λ s. let (p, a, b, x) = nest .owned i (omega arith) s in
         after i p (partOf t p) b (λ d y. nest .within p d (omega arith) b y .1) x (from f p (omega arith) b) (threaded .linked p b))
         (λ s. let r = threaded .root in let e : n - 1 ≡ i = omega arith in subst (λ y. listed next y ≤ n) e (omega arith))

@@ -1,9 +1,7 @@
 -- The parts of a tree that holds an expression: what each is, and that each but the root is a part of one other.
 -- Assumes nothing.
-use borrow.Author.Tests.{ne-eqb, ltb-true, ltb-false}
-use lib.Dec.{ltb}
+use borrow.Author.Tests.{ne-eqb}
 use lib.ListN.{length, take, drop, getD}
-use mathlib.Core.Bool.{Bool, true, false}
 use mathlib.Core.List.{List}
 use mathlib.Core.Logic.{_⊎_, inl, inr}
 use mathlib.Core.Path.{_≡_, refl, sym, subst, _∙_}
@@ -16,6 +14,7 @@ use Rattle.query.proofs.TreeLaws.{first-is, holds-lt, kind-is, second-is}
 use Rattle.query.specs.Tree.{h-any, h-iri, h-literal, h-nested, h-sequence, h-star, h-stay, h-step, h-union, Holds}
 use Rattle.query.specs.Tree.{part as number}
 use Rattle.walk.specs.Parts.{leaf, test, repeat, chain, either, Child, Ordered, partBy, partOf, leafBy, leafOf}
+use Rattle.meaning.proofs.Cases.{case-lt}
 
 -- ---- the numbers of a part
 
@@ -27,13 +26,6 @@ module _ (t : List ℕ) (i k a b : ℕ) (e : getD t i 0 ≡ number k a b) (la : 
   pub leaf-is : (q : Text) → leafOf q t i ≡ leafBy k (take b (drop a q))
   unfolding leafOf
   leaf-is q = rw (kind-is t i k a b e la lb, first-is t i k a b e la lb, second-is t i k a b e la lb)
-
-pub below : {P : Type 0} (a b : ℕ) → (a < b → P) → (b ≤ a → P) → P
-below {P} a b f g = go (ltb a b) refl
-  where
-    go : (c : Bool) → ltb a b ≡ c → P
-    go true e = f (ltb-true a b e)
-    go false e = g (ltb-false a b e)
 
 -- ---- the parts of a part
 
@@ -59,14 +51,14 @@ nest-leaf t n e = record {
 -- A part behind the one that it has.
 nest-one : (t : List ℕ) (n m : ℕ) → n < m → Nest t n m → ((c : ℕ) → Child (partOf t m) c → c ≡ m - 1) → Child (partOf t m) (m - 1) → Ordered (partOf t m) → Nest t n (m + 1)
 nest-one t n m lt w e own o = record {
-  within = λ i c l h x. below i m
+  within = λ i c l h x. case-lt i m
       (λ s. w .within i c l s x)
       (λ s. let z = e c (moved i (omega arith) c x) in (omega arith, omega arith));
-  apart = λ i j c l h g x y. below j m
+  apart = λ i j c l h g x y. case-lt j m
       (λ s. w .apart i j c l h s x y)
       (λ s. let z = e c (moved j (omega arith) c y) in let u = w .within i c l (omega arith) x in omega arith);
-  ordered = λ i l h. below i m (λ s. w .ordered i l s) (λ s. let p : m ≡ i = omega arith in subst (λ y. Ordered (partOf t y)) p o);
-  owned = λ c l h. below c (m - 1)
+  ordered = λ i l h. case-lt i m (λ s. w .ordered i l s) (λ s. let p : m ≡ i = omega arith in subst (λ y. Ordered (partOf t y)) p o);
+  owned = λ c l h. case-lt c (m - 1)
       (λ s. let (i, a, b, x) = w .owned c l s in (i, a, omega arith, x))
       (λ s. let p : m - 1 ≡ c = omega arith in (m, omega arith, omega arith, subst (Child (partOf t m)) p own));
 }
@@ -77,28 +69,28 @@ nest-one t n m lt w e own o = record {
 -- A part behind the two that it has.
 nest-two : (t : List ℕ) (n m k : ℕ) → n < m → m < k → Nest t n m → Nest t m k → ((c : ℕ) → Child (partOf t k) c → (c ≡ m - 1) ⊎ (c ≡ k - 1)) → Child (partOf t k) (m - 1) → Child (partOf t k) (k - 1) → Ordered (partOf t k) → Nest t n (k + 1)
 nest-two t n m k lm lk v w e own₁ own₂ o = record {
-  within = λ i c l h x. below i m
+  within = λ i c l h x. case-lt i m
       (λ s. v .within i c l s x)
-      (λ s. below i k
+      (λ s. case-lt i k
       (λ r. let z = w .within i c s r x in (omega arith, z .1))
       (λ r. range c i (omega arith) (e c (moved i (omega arith) c x))));
-  apart = λ i j c l h g x y. below j m
+  apart = λ i j c l h g x y. case-lt j m
       (λ s. v .apart i j c l h s x y)
-      (λ s. below j k
-      (λ r. below i m
+      (λ s. case-lt j k
+      (λ r. case-lt i m
       (λ a. let z = v .within i c l a x in let u = w .within j c s r y in omega arith)
       (λ a. w .apart i j c a h r x y))
-      (λ r. below i m
+      (λ r. case-lt i m
       (λ a. let z = v .within i c l a x in first c (e c (moved j (omega arith) c y)) i (z .1) a)
       (λ a. let z = w .within i c a (omega arith) x in second c (e c (moved j (omega arith) c y)) i (z .0) (z .1) (omega arith))));
-  ordered = λ i l h. below i m
+  ordered = λ i l h. case-lt i m
       (λ s. v .ordered i l s)
-      (λ s. below i k (λ r. w .ordered i s r) (λ r. let p : k ≡ i = omega arith in subst (λ y. Ordered (partOf t y)) p o));
-  owned = λ c l h. below c (m - 1)
+      (λ s. case-lt i k (λ r. w .ordered i s r) (λ r. let p : k ≡ i = omega arith in subst (λ y. Ordered (partOf t y)) p o));
+  owned = λ c l h. case-lt c (m - 1)
       (λ s. let (i, a, b, x) = v .owned c l s in (i, a, omega arith, x))
-      (λ s. below c m
+      (λ s. case-lt c m
       (λ r. let p : m - 1 ≡ c = omega arith in (k, omega arith, omega arith, subst (Child (partOf t k)) p own₁))
-      (λ r. below c (k - 1)
+      (λ r. case-lt c (k - 1)
       (λ a. let (i, b, d, x) = w .owned c r a in (i, b, omega arith, x))
       (λ a. let p : k - 1 ≡ c = omega arith in (k, omega arith, omega arith, subst (Child (partOf t k)) p own₂))));
 }

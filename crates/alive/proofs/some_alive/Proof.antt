@@ -4,11 +4,11 @@ use borrow.Author.Needs.{needs}
 use mathlib.Core.Path.{_∙_, sym}
 use native.Mathlib.Omega.{arith}
 use Prim.Native.Nat.{ℕ, _-_, _<_, _≤_}
-use Rattle.states.proofs.Marking.{true-false}
 use Rattle.states.specs.State.{state}
 use Rattle.states.specs.Table.{Marked}
 use Rattle.alive.proofs.some_alive.Statement.{statement}
 use Rattle.alive.proofs.some_alive.Tie as tie
+use Rattle.meaning.proofs.Cases.{true-false}
 
 abbrev Inv-loop : tie.InvT-loop
 Inv-loop nodes parts alive n₀ n = (n ≤ nodes) × ((k : ℕ) → k < n → Marked 1 alive (state (parts - 1) k) → ⊥)

@@ -1,15 +1,17 @@
 -- Laws of membership, and list functions that compute, each with the law that says what is in its result. Assumes nothing.
 use lib.Dec.{T}
-use lib.ListN.{getElem?}
+use lib.ListN.{getD, getElem?, length, take}
+use lib.Seq.{take-suc}
 use mathlib.Core.Bool.{Bool, true, false, _&&_, _||_}
-use mathlib.Core.List.{List, [], _∷_, _++_, map, flatMap, filterMap, filterMap-cons-none, filterMap-cons-some, Memᴰ·of-map, Memᴰ·append-left, Memᴰ·append-right, List·Memᴰ·append-cases}
+use mathlib.Core.List.{List, [], _∷_, _++_, map, flatMap, filterMap, filterMap-cons-none, filterMap-cons-some, Memᴰ·of-map, Memᴰ·append-left, Memᴰ·append-right, List·Memᴰ·append-cases, List·Memᴰ·eq-of-singleton}
 use mathlib.Core.Logic.{_⊎_, _↔_, inl, inr}
 use mathlib.Core.Option.{Option, none, some, Option·none-ne-some, Option·some-injective}
-use mathlib.Core.Path.{_≡_, refl, sym, ap, _∙_, subst}
+use mathlib.Core.Path.{_≡_, refl, sym, ap, ap₂, _∙_, subst}
 use native.Mathlib.Decide.{ℕ-discrete}
 use native.Mathlib.Nat.{not-suc-le-zero}
+use native.Mathlib.Numerals.{add-one}
 use native.Mathlib.Omega.{arith}
-use Prim.Native.Nat.{ℕ, zero, suc, _<_}
+use Prim.Native.Nat.{ℕ, zero, suc, _+_, _<_}
 use Rattle.meaning.specs.Member.{_∈_, here, there}
 use Rattle.meaning.specs.Tests.{any, every}
 
@@ -48,6 +50,11 @@ module _ {A : Type 0} where
   pub ∈-append : {x : A} (xs ys : List A) → (x ∈ xs) ⊎ (x ∈ ys) → x ∈ (xs ++ ys)
   ∈-append xs ys (inl h) = Memᴰ·append-left ys h
   ∈-append xs ys (inr h) = Memᴰ·append-right xs h
+
+  -- a list that only begins has nothing
+  pub only-new : {B : Type 0} {x : A} → (x ∈ []) ⊎ B → B
+  only-new (inl m) = elim m [ ]
+  only-new (inr b) = b
 
   pub element : (xs : List A) (i : ℕ) (x : A) → getElem? xs i ≡ some x → x ∈ xs
   element [] i x e = absurd (Option·none-ne-some x e)
@@ -222,3 +229,34 @@ below-in t (suc n) h = go (ℕ-discrete t n) (below-in t n)
 pub map-each : {A B : Type 0} (f g : A → B) (xs : List A) → map f xs ≡ map g xs → (x : A) → x ∈ xs → f x ≡ g x
 map-each f g (x ∷ xs) e y (here p) = let h : f x ≡ g x = cc in ap f p ∙ h ∙ ap g (sym p)
 map-each f g (x ∷ xs) e y (there m) = let t : map f xs ≡ map g xs = cc in map-each f g xs t y m
+
+-- and functions that agree at each map it to one list
+pub map-same : {A B : Type 0} (f g : A → B) (xs : List A) → ((x : A) → x ∈ xs → f x ≡ g x) → map f xs ≡ map g xs
+map-same f g [] h = refl
+map-same f g (x ∷ xs) h = ap₂ (λ y ys. y ∷ ys) (h x (here refl)) (map-same f g xs (λ y m. h y (there m)))
+
+-- ---- the front of a list
+
+pub take-in : {A : Type 0} (i : ℕ) {y : A} {xs : List A} → y ∈ take i xs → y ∈ xs
+take-in zero m = elim m [ ]
+take-in (suc i) {xs = []} m = elim m [ ]
+take-in (suc i) {xs = x ∷ xs} (here e) = here e
+take-in (suc i) {xs = x ∷ xs} (there m) = there (take-in i m)
+
+-- the first i + 1 elements: the first i, and one more
+pub front-more : (xs : List ℕ) (i : ℕ) → i < length xs → (y : ℕ) → (y ∈ take (i + 1) xs) ↔ ((y ∈ take i xs) ⊎ (y ≡ getD xs i 0))
+front-more xs i h y = rw (add-one, take-suc xs i 0 h) (forth, back)
+  where
+    parted : (y ∈ take i xs) ⊎ (y ∈ (getD xs i 0 ∷ [])) → (y ∈ take i xs) ⊎ (y ≡ getD xs i 0)
+    parted (inl m) = inl m
+    parted (inr m) = inr (List·Memᴰ·eq-of-singleton m)
+
+    joined : (y ∈ take i xs) ⊎ (y ≡ getD xs i 0) → (y ∈ take i xs) ⊎ (y ∈ (getD xs i 0 ∷ []))
+    joined (inl m) = inl m
+    joined (inr e) = inr (here e)
+
+    forth : y ∈ (take i xs ++ getD xs i 0 ∷ []) → (y ∈ take i xs) ⊎ (y ≡ getD xs i 0)
+    forth m = parted (List·Memᴰ·append-cases (take i xs) m)
+
+    back : (y ∈ take i xs) ⊎ (y ≡ getD xs i 0) → y ∈ (take i xs ++ getD xs i 0 ∷ [])
+    back s = ∈-append (take i xs) (getD xs i 0 ∷ []) (joined s)

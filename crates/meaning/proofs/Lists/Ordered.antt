@@ -1,12 +1,13 @@
 -- Laws of lists in order: such a list is fixed by its elements, so "ascending, and exactly the members" says which list it
 -- is. Assumes nothing.
 use mathlib.Core.List.{List, [], _∷_}
-use mathlib.Core.Logic.{_↔_, Iff·trans, Iff·symm}
+use mathlib.Core.Logic.{_↔_, _≢_, Iff·trans, Iff·symm}
 use mathlib.Core.Path.{_≡_, refl, sym, _∙_, subst}
+use native.Mathlib.Nat.{lt-irrefl, lt-trans}
 use native.Mathlib.Omega.{arith}
-use Prim.Native.Nat.{ℕ}
+use Prim.Native.Nat.{ℕ, _<_}
 use Rattle.meaning.specs.Member.{_∈_, here, there}
-use Rattle.meaning.specs.Ordered.{InOrder, ListOf, _≺_, before, equal, less, shorter}
+use Rattle.meaning.specs.Ordered.{InOrder, ListOf, _≺_, before, empty, equal, less, shorter}
 
 -- ---- lists of numbers, entry by entry
 
@@ -34,7 +35,16 @@ pub record Strict {A : Type 0} (R : A → A → Type 0) : Type 0 where
 pub by-key : {A : Type 0} (key : A → List ℕ) → Strict (λ x y. key x ≺ key y)
 by-key key = record { irrefl = λ x h. ≺-irrefl (key x) h; trans = λ x y z g h. ≺-trans g h }
 
+-- the order of numbers
+pub <-strict : Strict _<_
+<-strict = record { irrefl = lt-irrefl; trans = λ x y z h k. lt-trans h k }
+
 module _ {A : Type 0} {R : A → A → Type 0} (strict : Strict R) where
+  -- the elements of a list in order are all different
+  pub all-different : {xs : List A} → InOrder R xs → InOrder _≢_ xs
+  all-different empty = empty
+  all-different (before {x} p a) = before (λ y m e. strict .irrefl x (subst (R x) (sym e) (p y m))) (all-different a)
+
   pub in-order-unique : (xs ys : List A) → InOrder R xs → InOrder R ys → ((z : A) → (z ∈ xs) ↔ (z ∈ ys)) → xs ≡ ys
   in-order-unique [] [] a b h = refl
   in-order-unique [] (y ∷ ys) a b h = elim (h y .1 (here refl)) [ ]

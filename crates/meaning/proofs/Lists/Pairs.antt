@@ -1,9 +1,12 @@
--- Laws of the pairs of a list that grows at its end. Assumes nothing.
-use mathlib.Core.Bool.{Bool, true, false, _||_}
+-- Laws of the pairs of a list: of one that grows at its end, of one in which no two pass a test. Assumes nothing.
+use lib.ListN.{getD, length}
+use mathlib.Core.Bool.{Bool, true, false, _||_, true≢false}
 use mathlib.Core.List.{List, [], _∷_, _++_}
-use mathlib.Core.Path.{_≡_, refl}
+use mathlib.Core.Path.{_≡_, refl, sym, ap, _∙_}
+use native.Mathlib.Nat.{le-of-suc-le-suc, not-suc-le-zero}
 use native.Mathlib.Omega.{arith}
-use Prim.Native.Nat.{ℕ}
+use Prim.Native.Nat.{ℕ, zero, suc, _<_}
+use Rattle.meaning.proofs.Cases.{or-neither}
 use Rattle.meaning.specs.Tests.{any, anyTwo}
 
 or-right : (a : Bool) → (a || true) ≡ true
@@ -39,3 +42,23 @@ module _ {A : Type 0} (f : A → A → Bool) where
       go true b p q ih = absurd (let k : true ≡ false = rw p at e in let z : _≡_ {A = ℕ} 0 1 = cc in omega arith)
       go false true p q ih = absurd (let k : true ≡ false = rw q at h in let z : _≡_ {A = ℕ} 0 1 = cc in omega arith)
       go false false p q ih = rw (any-none (f x) xs y q p) (ih (rw p at e) (rw q at h))
+
+-- ---- lists in which no two entries pass a test
+
+module _ {A : Type 0} (f : A → A → Bool) (d : A) where
+  none-passes : (x : A) (xs : List A) (j : ℕ) → any (f x) xs ≡ false → j < length xs → f x (getD xs j d) ≡ false
+  none-passes x [] j h l = absurd (not-suc-le-zero l)
+  none-passes x (y ∷ xs) zero h l = or-neither (f x y) (any (f x) xs) h .0
+  none-passes x (y ∷ xs) (suc j) h l = none-passes x xs j (or-neither (f x y) (any (f x) xs) h .1) (le-of-suc-le-suc l)
+
+  -- entries that pass it both ways stand at one place
+  pub no-two-place : (xs : List A) (i j : ℕ) → anyTwo f xs ≡ false → i < length xs → j < length xs
+      → f (getD xs i d) (getD xs j d) ≡ true → f (getD xs j d) (getD xs i d) ≡ true → i ≡ j
+  no-two-place [] i j h li lj t u = absurd (not-suc-le-zero li)
+  no-two-place (x ∷ xs) zero zero h li lj t u = refl
+  no-two-place (x ∷ xs) zero (suc j) h li lj t u =
+      absurd (true≢false (sym t ∙ none-passes x xs j (or-neither (any (f x) xs) (anyTwo f xs) h .0) (le-of-suc-le-suc lj)))
+  no-two-place (x ∷ xs) (suc i) zero h li lj t u =
+      absurd (true≢false (sym u ∙ none-passes x xs i (or-neither (any (f x) xs) (anyTwo f xs) h .0) (le-of-suc-le-suc li)))
+  no-two-place (x ∷ xs) (suc i) (suc j) h li lj t u =
+      ap suc (no-two-place xs i j (or-neither (any (f x) xs) (anyTwo f xs) h .1) (le-of-suc-le-suc li) (le-of-suc-le-suc lj) t u)

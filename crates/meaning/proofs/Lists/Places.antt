@@ -1,10 +1,12 @@
 -- Elements of lists by their places. Assumes nothing.
-use lib.ListN.{getElem?, length}
-use mathlib.Core.List.{List, [], _∷_}
+use lib.ListN.{drop, getD, getElem?, length, replicate}
+use mathlib.Core.List.{List, [], _∷_, _++_}
 use mathlib.Core.Option.{none, some, Option·none-ne-some, Option·some-injective}
 use mathlib.Core.Path.{_≡_, refl, sym, ap, _∙_}
 use native.Mathlib.Nat.{le-of-suc-le-suc, not-suc-le-zero}
-use Prim.Native.Nat.{ℕ, zero, suc, _≤_, _<_, suc-le-suc, zero-le}
+use native.Mathlib.Omega.{arith}
+use Prim.Native.Nat.{ℕ, zero, suc, _+_, _≤_, _<_, suc-le-suc, zero-le}
+use Rattle.meaning.proofs.Lists.Members.{element}
 use Rattle.meaning.specs.Member.{_∈_, here, there}
 
 module _ {A : Type 0} where
@@ -34,3 +36,51 @@ module _ {A : Type 0} where
   -- a place holds one thing
   pub same-at : (xs : List A) (i : ℕ) {x y : A} → getElem? xs i ≡ some x → getElem? xs i ≡ some y → x ≡ y
   same-at xs i {x} {y} p q = Option·some-injective x y (sym p ∙ q)
+
+  -- what stands behind another list
+  pub at-later : (xs ys : List A) (i : ℕ) → getElem? (xs ++ ys) (length xs + i) ≡ getElem? ys i
+  at-later [] ys i = ap (λ (x : ℕ). getElem? ys x) (let e : 0 + i ≡ i = omega arith in e)
+  at-later (x ∷ xs) ys i = let e : suc (length xs) + i ≡ suc (length xs + i) = omega arith in rw e (at-later xs ys i)
+
+  -- a place of a list with one more is one of the list, or the last
+  pub snoc-at : {Q : Type 0} (xs : List A) (a : A) (i : ℕ) (x : A) → getElem? (xs ++ (a ∷ [])) i ≡ some x → (getElem? xs i ≡ some x → Q) → (i ≡ length xs → a ≡ x → Q) → Q
+  snoc-at [] a zero x e f g = g refl (Option·some-injective a x e)
+  snoc-at [] a (suc i) x e f g = absurd (Option·none-ne-some x e)
+  snoc-at (y ∷ ys) a zero x e f g = f e
+  snoc-at (y ∷ ys) a (suc i) x e f g = snoc-at ys a i x e f (λ p q. g (ap suc p) q)
+
+  -- the list from a place on begins with what is there
+  pub drop-entry : (xs : List A) (i : ℕ) (x : A) → getElem? xs i ≡ some x → drop i xs ≡ x ∷ drop (suc i) xs
+  drop-entry [] i x e = absurd (Option·none-ne-some x e)
+  drop-entry (y ∷ xs) zero x e = ap (λ (z : A). z ∷ xs) (Option·some-injective y x e)
+  drop-entry (y ∷ xs) (suc i) x e = drop-entry xs i x e
+
+-- ---- numbers by their places
+
+pub entry-at : (xs : List ℕ) (i : ℕ) → i < length xs → getElem? xs i ≡ some (getD xs i 0)
+entry-at [] i h = absurd (not-suc-le-zero h)
+entry-at (x ∷ xs) zero h = refl
+entry-at (x ∷ xs) (suc i) h = entry-at xs i (le-of-suc-le-suc h)
+
+pub entry-is : (xs : List ℕ) (i x : ℕ) → getElem? xs i ≡ some x → getD xs i 0 ≡ x
+entry-is [] i x e = absurd (Option·none-ne-some x e)
+entry-is (y ∷ ys) zero x e = Option·some-injective y x e
+entry-is (y ∷ ys) (suc i) x e = entry-is ys i x e
+
+pub ∈-at : (xs : List ℕ) (i : ℕ) → i < length xs → getD xs i 0 ∈ xs
+∈-at xs i h = element xs i (getD xs i 0) (entry-at xs i h)
+
+pub ∈-index : {x : ℕ} {xs : List ℕ} → x ∈ xs → (i : ℕ) × (i < length xs) × (getD xs i 0 ≡ x)
+∈-index (here e) = (0, suc-le-suc zero-le, sym e)
+∈-index (there m) = let r = ∈-index m in (suc (r .0), suc-le-suc (r .1), r .2)
+
+-- Within a list the default does not matter.
+pub getD-default : (l : List ℕ) (i d d′ : ℕ) → i < length l → getD l i d ≡ getD l i d′
+getD-default [] i d d′ h = absurd (omega arith)
+getD-default (x ∷ l) zero d d′ h = refl
+getD-default (x ∷ l) (suc i) d d′ h = getD-default l i d d′ (omega arith)
+
+pub zeros-at : (n i : ℕ) → _≡_ {A = ℕ} (getD (replicate n 0) i 0) 0
+zeros-at zero i = refl
+zeros-at (suc n) zero = refl
+zeros-at (suc n) (suc i) = zeros-at n i

@@ -9,7 +9,7 @@ use Rattle.node_list.proofs.CoreList.{Records, core-end, core-next, num
 use Rattle.node_list.proofs.list_core.Statement.{statement}
 use Rattle.meaning.specs.Limits.{nodeWidth}
 use Rattle.node_list.proofs.list_core.Tie as tie
-use Rattle.sets.proofs.Ascending.{∈-at}
+use Rattle.meaning.proofs.Lists.Places.{∈-at}
 
 abbrev Inv-loop : tie.InvT-loop
 Inv-loop arities nodes masks out₀ i₀ i-end out i =

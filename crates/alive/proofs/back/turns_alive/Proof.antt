@@ -4,7 +4,6 @@ use lib.ListN.{getD}
 use mir.Facts.{fits-widen}
 use native.Mathlib.Omega.{arith}
 use Rattle.alive.specs.Steps.{At}
-use Rattle.states.proofs.Marking.{true-false}
 use Rattle.states.specs.State.{state}
 use Rattle.states.specs.Table.{has}
 use Rattle.alive.proofs.Backward.{some-before, turns-leaf, turns-left, turns-sequence-no, turns-star, turns-star-yes, turns-test, turns-test-no, turns-union}
@@ -12,6 +11,7 @@ use Rattle.alive.proofs.back.turns_alive.Statement.{statement}
 use borrow.Author.Tests.{not-false, not-true}
 use mathlib.Core.Path.{_∙_, ap, sym}
 use Rattle.alive.proofs.back.turns_alive.Tie as tie
+use Rattle.meaning.proofs.Cases.{true-false}
 
 pub turns-alive-spec : {M : Type 1} → statement M
 turns-alive-spec =

@@ -4,13 +4,14 @@ use lib.ListN.{getD}
 use mir.Facts.{fits-widen}
 use native.Mathlib.Omega.{arith}
 use Rattle.alive.proofs.Backward.{some-before}
-use Rattle.states.proofs.Marking.{adds-at, true-false}
+use Rattle.states.proofs.Marking.{adds-at}
 use Rattle.states.specs.State.{state}
 use Rattle.answers.proofs.Forward.{sequence-one, star-two, test-none, test-one, union-two}
 use Rattle.answers.proofs.onward.visit_parts.Statement.{statement}
 use borrow.Author.Tests.{not-false, not-true}
 use mathlib.Core.Path.{_∙_, ap, sym}
 use Rattle.answers.proofs.onward.visit_parts.Tie as tie
+use Rattle.meaning.proofs.Cases.{true-false}
 
 pub visit-parts-spec : {M : Type 1} → statement M
 visit-parts-spec =

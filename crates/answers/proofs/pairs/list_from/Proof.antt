@@ -1,12 +1,13 @@
 -- `answers::pairs::list_from` meets its contract. Assumes nothing.
 use borrow.Author.Needs.{needs}
 use native.Mathlib.Omega.{arith}
-use Rattle.states.proofs.Marking.{clean-more, over-clean, true-false}
+use Rattle.states.proofs.Marking.{clean-more, over-clean}
 use Rattle.answers.proofs.Listing.{listed-dead, listed-from}
 use Rattle.answers.proofs.pairs.list_from.Statement.{statement}
 use borrow.Author.Tests.{not-true}
 use mathlib.Core.Path.{_∙_}
 use Rattle.answers.proofs.pairs.list_from.Tie as tie
+use Rattle.meaning.proofs.Cases.{true-false}
 
 pub list-from-spec : {M : Type 1} → statement M
 list-from-spec =

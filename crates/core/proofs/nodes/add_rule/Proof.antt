@@ -6,9 +6,9 @@ use Prim.Native.Nat.{_-_}
 use Rattle.core.specs.Collected.{nodeKeys}
 use Rattle.core.proofs.Loops.{KeysDone, keys-start, keys-again, keys-full, keys-done}
 use Rattle.meaning.specs.Member.{_∈_}
-use Rattle.sets.proofs.Ascending.{∈-at}
 use Rattle.core.proofs.nodes.add_rule.Statement.{statement}
 use Rattle.core.proofs.nodes.add_rule.Tie as tie
+use Rattle.meaning.proofs.Lists.Places.{∈-at}
 
 abbrev Inv-loop : tie.InvT-loop
 Inv-loop head keys nodes₀ n near₀ m₀ i₀ i-end nodes near m i = KeysDone (λ k y. y ∈ nodeKeys head k) keys i n m nodes₀ nodes

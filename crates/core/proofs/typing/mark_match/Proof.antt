@@ -2,11 +2,11 @@
 use borrow.Author.Needs.{needs}
 use native.Mathlib.Omega.{arith}
 use Rattle.core.proofs.Marking.{mark-none, mark-one, place-inside}
-use Rattle.sets.proofs.Mask.{weight-made}
 use Prim.Native.Nat.{_<_}
 use lib.ListN.{length}
 use Rattle.core.proofs.typing.mark_match.Statement.{statement}
 use Rattle.core.proofs.typing.mark_match.Tie as tie
+use Rattle.meaning.proofs.Lists.Masks.{weight-made}
 
 -- the subject has a place
 placed : (c : tie.After-rank-near) → c .rank-near .result < length (c .before .before .before .before .before .args .masks .now)

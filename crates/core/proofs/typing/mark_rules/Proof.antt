@@ -2,11 +2,11 @@
 use borrow.Author.Needs.{needs}
 use native.Mathlib.Omega.{arith}
 use Prim.Native.Nat.{_≤_, _<_, _-_}
-use Rattle.core.proofs.Lists.{cut}
 use Rattle.core.specs.Collected.{TypeFact}
 use Rattle.core.proofs.Marking.{RulesMarked, all-start, all-again, all-done}
 use Rattle.core.proofs.typing.mark_rules.Statement.{statement}
 use Rattle.core.proofs.typing.mark_rules.Tie as tie
+use native.Mathlib.Nat.{add-sub-cancel-left}
 
 abbrev Inv-loop : tie.InvT-loop
 Inv-loop count heads nodes masks₀ rules counts r₀ masks r =
@@ -32,9 +32,9 @@ mark-rules-spec =
     (λ c. omega arith)  -- sub-mark-rule
     (λ c. omega arith)  -- part-mark-rule-start
     (λ c. omega (arith, c .before .before .before .before .before .before .pre .0 .few, c .before .before .before .before .before .before .pre .0 .room, c .before .before .before .before .before .before .pre .0 .short (c .before .before .loop .r) (omega arith)))  -- part-mark-rule-end
-    (λ c κs. let s = c .before .before .before .before .before .before .before .before in let l = c .before .before .before .before .loop in let h : l .r < s .args .count = omega arith in (s .pre .0 .fits (l .r) h, rw cut (s .pre .0 .keys (l .r) h), s .pre .1, rw cut (s .pre .2 (l .r) h), omega (arith, s .pre .3, l .inv .1 .long)))  -- mark-rule-requires
+    (λ c κs. let s = c .before .before .before .before .before .before .before .before in let l = c .before .before .before .before .loop in let h : l .r < s .args .count = omega arith in (s .pre .0 .fits (l .r) h, rw add-sub-cancel-left (s .pre .0 .keys (l .r) h), s .pre .1, rw add-sub-cancel-left (s .pre .2 (l .r) h), omega (arith, s .pre .3, l .inv .1 .long)))  -- mark-rule-requires
     (λ c. search needs)  -- add-r
     (λ c. search needs)  -- loop-less
-    (λ c. let a = c .before .before .mark-rule in (omega arith, all-again (c .before .before .before .before .before .before .before .loop .inv .1) _ (rw cut at (a .ensures)) (a .kept .1 .1 .1 .0)))  -- loop-again
+    (λ c. let a = c .before .before .mark-rule in (omega arith, all-again (c .before .before .before .before .before .before .before .loop .inv .1) _ (rw add-sub-cancel-left at (a .ensures)) (a .kept .1 .1 .1 .0)))  -- loop-again
     (λ c. search needs)  -- same-length
     (λ c. all-done (c .before .loop .inv .1) (omega arith)))  -- returns

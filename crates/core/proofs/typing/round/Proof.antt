@@ -5,9 +5,9 @@ use mathlib.Core.Logic.{⊎-elim}
 use native.Mathlib.Omega.{arith}
 use Prim.Native.Nat.{_-_}
 use Rattle.core.proofs.Spreading.{RoundDone, round-start, round-hit, round-miss, round-skip, round-done}
-use Rattle.sets.proofs.Ascending.{∈-at}
 use Rattle.core.proofs.typing.round.Statement.{statement}
 use Rattle.core.proofs.typing.round.Tie as tie
+use Rattle.meaning.proofs.Lists.Places.{∈-at}
 
 abbrev Inv-loop : tie.InvT-loop
 Inv-loop shapes triples passed₀ masks₀ changed₀ i₀ i-end passed masks changed i = RoundDone shapes triples i changed passed₀ passed masks₀ masks

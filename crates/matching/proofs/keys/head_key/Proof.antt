@@ -4,10 +4,10 @@ use lib.ListN.{length}
 use mir.Facts.{fits-widen}
 use native.Mathlib.Omega.{arith}
 use Prim.Native.Nat.{_-_}
-use Rattle.sets.proofs.Ascending.{∈-at}
 use Rattle.matching.proofs.HeadKey.{Making, making-start, making-value, making-room, making-again, making-open, making-done}
 use Rattle.matching.proofs.keys.head_key.Statement.{statement}
 use Rattle.matching.proofs.keys.head_key.Tie as tie
+use Rattle.meaning.proofs.Lists.Places.{∈-at}
 
 abbrev Inv-loop : tie.InvT-loop
 Inv-loop vars env key₀ i₀ i-end key i = Making vars env i key

@@ -4,10 +4,10 @@ use lib.ListN.{length}
 use mir.Facts.{fits-widen}
 use native.Mathlib.Omega.{arith}
 use Prim.Native.Nat.{_-_}
-use Rattle.sets.proofs.Ascending.{∈-at}
 use Rattle.matching.proofs.Marked.{Marking, marking-start, marking-again, marking-done}
 use Rattle.matching.proofs.marks.mark.Statement.{statement}
 use Rattle.matching.proofs.marks.mark.Tie as tie
+use Rattle.meaning.proofs.Lists.Places.{∈-at}
 
 abbrev Inv-loop : tie.InvT-loop
 Inv-loop own marks₀ i₀ i-end marks i = Marking marks₀ own i marks

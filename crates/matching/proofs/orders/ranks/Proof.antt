@@ -4,10 +4,10 @@ use lib.ListN.{length}
 use mir.Facts.{fits-widen}
 use native.Mathlib.Omega.{arith}
 use Prim.Native.Nat.{_-_}
-use Rattle.sets.proofs.Ascending.{∈-at}
 use Rattle.matching.proofs.Order.{Ranking, ranking-start, ranking-again, ranking-done}
 use Rattle.matching.proofs.orders.ranks.Statement.{statement}
 use Rattle.matching.proofs.orders.ranks.Tie as tie
+use Rattle.meaning.proofs.Lists.Places.{∈-at}
 
 abbrev Inv-loop : tie.InvT-loop
 Inv-loop own out₀ seen n₀ c₀ c-end out n c = Ranking own seen out₀ c n out

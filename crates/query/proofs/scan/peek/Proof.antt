@@ -3,10 +3,10 @@ use borrow.Author.Needs.{needs}
 use mathlib.Core.Path.{sym}
 use native.Mathlib.Omega.{arith}
 use lib.ListN.{List·getD-eq-default}
-use Rattle.grammar.proofs.Bytes.{getD-default}
 use Rattle.grammar.specs.Parse.{noByte}
 use Rattle.query.proofs.scan.peek.Statement.{statement}
 use Rattle.query.proofs.scan.peek.Tie as tie
+use Rattle.meaning.proofs.Lists.Places.{getD-default}
 
 shared-slice-read-result : tie.Need-shared-slice-read-result
 shared-slice-read-result c = search needs

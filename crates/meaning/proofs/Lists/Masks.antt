@@ -1,15 +1,15 @@
 -- What is a member of what: unions, intersections, a type added, the bound on a mask's members. Assumes nothing.
 use lib.Arith.{lt-one}
 use lib.Bits.{bitAnd, bitOr}
-use lib.Pow.{pow-lt}
+use lib.Pow.{pow-lt, suc-ones}
 use mathlib.Core.Logic.{_↔_, _⊎_, inl, inr}
 use mathlib.Core.Path.{_≡_}
 use native.Mathlib.Decide.{ℕ-discrete}
-use native.Mathlib.Nat.{pow-suc, one-mul, mod-eq-of-lt}
+use native.Mathlib.Nat.{le-of-suc-le-suc, mod-eq-of-lt, not-suc-le-zero, one-mul, pow-suc}
 use native.Mathlib.Omega.{arith}
-use Prim.Native.Nat.{ℕ, zero, suc, _*_, _/_, _%_, _^_, _<_, zero-le, suc-le-suc}
+use Prim.Native.Nat.{ℕ, zero, suc, _-_, _*_, _/_, _%_, _^_, _<_, zero-le, suc-le-suc}
 use Rattle.meaning.proofs.Lists.Bits.{bit-and, bit-lt, bit-one, bit-or, bit-other, zero-bits}
 use Rattle.meaning.specs.TypeSet.{bit}
 
 pub half-lt : (n d : ℕ) → n < 2 ^ suc d → n / 2 < 2 ^ d
 half-lt n d h = let e = pow-suc 2 d in omega arith
@@ -55,3 +55,18 @@ added-member t u n = (λ h. forth (ℕ-discrete t u) h, back)
     back : (t ≡ u) ⊎ (bit t n ≡ 1) → bit t (bitOr n (2 ^ u)) ≡ 1
     back (inl e) = rw e (union-member u n (2 ^ u) .1 (inr (bit-one u)))
     back (inr h) = union-member t n (2 ^ u) .1 (inl h)
+
+-- 2 ^ k - 1 is the mask of all types below k
+ones-bit : (k t : ℕ) → t < k → bit t (2 ^ k - 1) ≡ 1
+unfolding bit
+ones-bit zero t h = absurd (not-suc-le-zero h)
+ones-bit (suc k) zero h = omega (arith, pow-suc 2 k, suc-ones k)
+ones-bit (suc k) (suc t) h =
+    let e : (2 ^ suc k - 1) / 2 ≡ 2 ^ k - 1 = omega (arith, pow-suc 2 k, suc-ones k) in rw e (ones-bit k t (le-of-suc-le-suc h))
+
+-- the members below k
+pub low-member : (k t m : ℕ) → (bit t (bitAnd m (2 ^ k - 1)) ≡ 1) ↔ ((t < k) × (bit t m ≡ 1))
+low-member k t m = (
+  λ h. let b = intersection-member t m (2 ^ k - 1) .0 h in (bit-small k t (2 ^ k - 1) (b .1) (omega (arith, suc-ones k)), b .0),
+  λ h. intersection-member t m (2 ^ k - 1) .1 (h .1, ones-bit k t (h .0)),
+)

@@ -1,0 +1,103 @@
+-- How many: different elements of a list are no more than its length, numbers in a span are no more than it is wide, and over
+-- how many elements a set has. Assumes nothing.
+use lib.ListN.{length}
+use mathlib.Core.List.{List, [], _∷_}
+use mathlib.Core.Logic.{_≢_}
+use mathlib.Core.Path.{_≡_, refl, sym, ap, _∙_}
+use native.Mathlib.Omega.{arith}
+use Prim.Native.Nat.{ℕ, suc, _+_, _-_, _≤_, _<_, zero-le}
+use Rattle.meaning.proofs.Lists.Ordered.{Strict, all-different}
+use Rattle.meaning.specs.Member.{_∈_, here, there}
+use Rattle.meaning.specs.Ordered.{InOrder, Over, before, empty}
+
+-- ---- no more than the list
+
+without : {A : Type 0} {x : A} {xs : List A} → x ∈ xs → List A
+without (here {xs = ys} e) = ys
+without (there {x = y} m) = y ∷ without m
+
+without-length : {A : Type 0} {x : A} {xs : List A} (m : x ∈ xs) → length xs ≡ suc (length (without m))
+unfolding without
+without-length (here e) = refl
+without-length (there m) = ap suc (without-length m)
+
+without-keeps : {A : Type 0} {x z : A} {xs : List A} (m : x ∈ xs) → z ∈ xs → (z ≡ x → ⊥) → z ∈ without m
+unfolding without
+without-keeps (here e) (here f) n = absurd (n (f ∙ sym e))
+without-keeps (here e) (there k) n = k
+without-keeps (there m) (here f) n = here f
+without-keeps (there m) (there k) n = there (without-keeps m k n)
+
+pub pigeonhole : {A B : Type 0} (f : A → B) (xs : List A) (ys : List B) → InOrder _≢_ xs → ((x : A) → x ∈ xs → f x ∈ ys)
+    → ((x z : A) → x ∈ xs → z ∈ xs → f x ≡ f z → x ≡ z) → length xs ≤ length ys
+pigeonhole f [] ys a h one = zero-le
+pigeonhole f (x ∷ xs) ys (before p a) h one =
+    let m = h x (here refl) in
+    let r = pigeonhole f xs (without m) a
+    (λ z i. without-keeps m (h z (there i)) (λ e. p z i (sym (one z x (there i) (here refl) e))))
+    (λ y z i j. one y z (there i) (there j)) in
+    omega (arith, without-length m)
+
+pub span : (w lo : ℕ) (xs : List ℕ) → InOrder _<_ xs → ((x : ℕ) → x ∈ xs → (lo ≤ x) × (x < lo + w)) → length xs ≤ w
+span w lo [] a h = zero-le
+span w lo (x ∷ xs) (before p a) h =
+    let b = h x (here refl) in
+    let r = span (lo + w - suc x) (suc x) xs a (λ y m. let c = h y (there m) in let l : x < y = p y m in (l, omega arith)) in
+    omega arith
+
+-- ---- over so many elements
+
+module _ {A : Type 0} {Q : A → Type 0} where
+  -- a list in order has as many elements as it is long
+  pub listed-over : {R : A → A → Type 0} → Strict R → {xs : List A} {k : ℕ} → InOrder R xs → ((x : A) → x ∈ xs → Q x) → k < length xs → Over k Q
+  listed-over strict {xs} a f h = record { some = xs; differ = all-different strict a; members = f; over = h }
+
+  -- the elements of a set are no more than a list that has all of them
+  pub listed-few : {xs : List A} {k : ℕ} → ((x : A) → Q x → x ∈ xs) → length xs ≤ k → ¬ Over k Q
+  listed-few {xs} f h o =
+      let r = pigeonhole (λ x. x) (o .some) xs (o .differ) (λ x i. f x (o .members x i)) (λ x z i j e. e) in
+      let s = o .over in omega arith
+
+  pub over-sub : {S : A → Type 0} {k : ℕ} → ((x : A) → Q x → S x) → Over k Q → Over k S
+  over-sub f o = record { some = o .some; differ = o .differ; members = λ x m. f x (o .members x m); over = o .over }
+
+-- ---- one set's elements are another's
+
+module _ {A B : Type 0} (Q : A → Type 0) (S : B → Type 0) (R : A → B → Type 0)
+    (image : (a : A) → Q a → (b : B) × S b × R a b) (one : (a c : A) (b : B) → R a b → R c b → a ≡ c) where
+  -- the images of a list of different elements
+  record Images (xs : List A) : Type 0 where
+    ys : List B
+    many : length ys ≡ length xs
+    differ : InOrder _≢_ ys
+    members : (b : B) → b ∈ ys → S b × (a : A) × (a ∈ xs) × R a b
+
+  images : (xs : List A) → InOrder _≢_ xs → ((a : A) → a ∈ xs → Q a) → Images xs
+  images [] o h = record { ys = []; many = refl; differ = empty; members = λ b m. elim m [ ] }
+  images (x ∷ xs) (before p o) h = made (image x (h x (here refl))) (images xs o (λ a i. h a (there i)))
+    where
+      made : (b : B) × S b × R x b → Images xs → Images (x ∷ xs)
+      made (b, s, r) I = record {
+        ys = b ∷ I .ys;
+        many = ap suc (I .many);
+        differ = before (λ c i e. let (t, a, j, q) = I .members c i in p a j (one x a c (go e) q)) (I .differ);
+        members = members;
+      }
+        where
+          go : {c : B} → b ≡ c → R x c
+          go {c} e = rw (← e) r
+
+          members : (c : B) → c ∈ (b ∷ I .ys) → S c × (a : A) × (a ∈ (x ∷ xs)) × R a c
+          members c (here e) = rw e (s, x, here refl, r)
+          members c (there i) = let (t, a, j, q) = I .members c i in (t, a, there j, q)
+
+  pub over-carried : {k : ℕ} → Over k Q → Over k S
+  over-carried o =
+      let I = images (o .some) (o .differ) (o .members) in
+      record { some = I .ys; differ = I .differ; members = λ b m. I .members b m .0; over = let h = o .over in omega (arith, I .many) }
+
+-- the elements of the first are functions of those of the second
+pub over-by : {A B : Type 0} (f : B → A) {Q : A → Type 0} (S : B → Type 0) {n : ℕ} (m : ℕ) → m ≤ n → ((x : A) → Q x → (b : B) × S b × (x ≡ f b)) → Over n Q → Over m S
+over-by f {Q} S m l h o =
+    let c = over-carried Q S (λ x b. x ≡ f b) h (λ x y b p q. p ∙ sym q) o in
+    record { some = c .some; differ = c .differ; members = c .members; over = let g = c .over in omega arith }
