@@ -9,6 +9,7 @@ pub mod Listing
 pub mod Member
 pub mod NoGraph
 pub mod Ordered
+pub mod Overwritten
 pub mod Pack
 pub mod Query
 pub mod Tables

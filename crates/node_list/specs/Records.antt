@@ -1,17 +1,14 @@
 -- Node records as code writes them, and lists of records in a lent slice. Assumes nothing.
 use lib.Dec.{eqb, ltb}
-use lib.ListN.{drop, getD, getElem?, length, set, take}
+use lib.ListN.{getD, getElem?, length, set}
 use mathlib.Core.Bool.{Bool, cond}
-use mathlib.Core.List.{List, [], _∷_, _++_, flatten, map}
+use mathlib.Core.List.{List, [], _∷_, flatten, map}
 use mathlib.Core.Option.{some}
 use mathlib.Core.Path.{_≡_}
 use Prim.Native.Nat.{ℕ, zero, suc, _+_, _*_, _-_, _/_, _%_, _^_, _<_}
 use Rattle.meaning.specs.Limits.{firstLiteral, literalWeight, maxValues, nodeWidth, termRoom, typeSets, unused}
 use Rattle.meaning.specs.Pack.{Constructor, Pack}
-
--- The first numbers of a slice from a place on are overwritten by others.
-abbrev pub overwritten : ℕ → List ℕ → List ℕ → List ℕ
-overwritten at numbers out = take at out ++ numbers ++ drop (at + length numbers) out
+pub use Rattle.meaning.specs.Overwritten.{overwritten}
 
 -- an argument, or 65,535 where the constructor has none
 unfoldable pub argumentAt : Bool → ℕ → ℕ

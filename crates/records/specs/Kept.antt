@@ -1,10 +1,11 @@
 -- What the functions that write a record's numbers say. Assumes nothing.
-use lib.ListN.{drop, length, replicate, take}
+use lib.ListN.{length, replicate, take}
 use lib.Seq.{slice}
 use mathlib.Core.List.{List, [], _∷_, _++_, flatMap}
 use mathlib.Core.Path.{_≡_}
 use Prim.Native.Nat.{ℕ, _+_, _≤_}
 use Rattle.meaning.specs.Limits.{atomsLength, maxArguments, maxAtoms, maxHeadVariables, maxPackBytes, maxValueBytes}
+use Rattle.meaning.specs.Overwritten.{overwritten}
 use Rattle.meaning.specs.Pack.{Atom, Head}
 use Rattle.meaning.specs.Tables.{atomNumbers, headArguments, headNumbers, rowNumbers, ruleNumbers}
 use Rattle.pack.specs.Kinds.{RecordOf, readerOf}
@@ -34,7 +35,7 @@ use Rattle.records.specs.Numbers.{NumbersOf}
 
 -- out′ is out with the numbers from a place on
 pub record Put (numbers : List ℕ) (at : ℕ) (out out′ : List ℕ) : Type 0 where
-  pub is : out′ ≡ take at out ++ numbers ++ drop (at + length numbers) out
+  pub is : out′ ≡ overwritten at numbers out
 
 -- The record at c was read: its numbers stand from a place on, and d is past it.
 pub record Kept (k : Kind) (s : List ℕ) (c : Cursor) (at : ℕ) (out out′ : List ℕ) (d : Cursor) : Type 0 where
