@@ -1,10 +1,9 @@
 -- Listing the pairs in ascending order, start by start. Assumes nothing.
 use lib.ListN.{length, length-append, set, take}
 use lib.Seq.{length-take-le, take-suc-set}
-use mathlib.Core.List.{List, List·Memᴰ·append-cases, Memᴰ·append-left, Memᴰ·append-right, [], append-assoc, append-nil, _++_, _∷_}
-use mathlib.Core.Logic.{⊎-elim}
+use mathlib.Core.List.{List, [], append-assoc, append-nil, _++_, _∷_}
 use mathlib.Core.Path.{ap, refl, subst, sym, _∙_, _≡_}
-use native.Mathlib.Decide.{decLt, ℕ-discrete}
+use native.Mathlib.Decide.{ℕ-discrete}
 use native.Mathlib.Numerals.{add-one}
 use native.Mathlib.Omega.{arith}
 use Prim.Native.Nat.{suc, zero, ℕ, _+_, _-_, _<_, _≤_}
@@ -17,7 +16,7 @@ use Rattle.answers.specs.declared.pairs.Pairs.the-variants.{Listed, TooM
 use Rattle.answers.specs.Keys.{pairKey}
 use Rattle.meaning.specs.Limits.{maxPairs}
 use Rattle.meaning.specs.Member.{here, there, _∈_}
-use Rattle.meaning.specs.Ordered.{InOrder, ListOf, Over, before, empty}
+use Rattle.meaning.specs.Ordered.{InOrder, ListOf, before, empty}
 use Rattle.states.specs.State.{state}
 use Rattle.states.specs.Table.{has, Marked}
 use Rattle.walk.proofs.Alive.{alive-saturated}
@@ -25,9 +24,7 @@ use Rattle.walk.specs.Parts.{listed, partOf}
 use Rattle.walk.specs.Walk.{ended, onward, start}
 use mathlib.Core.Bool.{Bool, false, true}
 use Rattle.meaning.proofs.Cases.{true-false}
-use Rattle.meaning.proofs.Lists.Counting.{listed-over}
-use Rattle.meaning.proofs.Lists.Ordered.{<-strict}
-use Rattle.meaning.proofs.Lists.SetLists.{joined-order}
+use Rattle.meaning.proofs.Lists.Listing.{list-append, list-none, list-over, list-skip}
 
 -- ---- one start, end by end
 
@@ -146,39 +143,6 @@ module _ (seen : List ℕ) (part stamp start : ℕ) where
       go : (b : Bool) → has stamp seen (state part e) ≡ b → InOrder _<_ (endsFrom seen part stamp start (suc e) f) → InOrder _<_ (endsFrom seen part stamp start e (suc f))
       go true h rec = subst (InOrder _<_) (sym (ends-hit seen part stamp start e f h)) (before (λ y m. let r = in-ends f (suc e) y m in let a = r .from in let b = r .number in omega arith) rec)
       go false h rec = subst (InOrder _<_) (sym (ends-miss seen part stamp start e f h)) rec
-
--- ---- lists of a set, piece by piece
-
-module _ (Q : ℕ → Type 0) where
-  abbrev Below : ℕ → ℕ → Type 0
-  Below b x = Q x × (x < b)
-
-  -- Nothing is below 0, and the rest is added from b up to c.
-  list-none : ListOf _<_ (Below 0) []
-  list-none = record { ascending = empty; members = λ x. ((λ m. elim m [ ]), (λ (q, l). absurd (omega arith))) }
-
-  list-append : {b c : ℕ} {xs ys : List ℕ} → b ≤ c → ListOf _<_ (Below b) xs → InOrder _<_ ys → ((x : ℕ) → x ∈ ys → Q x × (b ≤ x) × (x < c)) → ((x : ℕ) → Q x → b ≤ x → x < c → x ∈ ys) → ListOf _<_ (Below c) (xs ++ ys)
-  list-append {b} {c} {xs} {ys} h l up sound complete = record {
-    ascending = joined-order xs ys (l .ascending) up (λ x y m n. let p = l .members x .0 m .1 in let q = sound y n .1 in omega arith);
-    members = λ x. ((λ m. ⊎-elim (λ n. let p = l .members x .0 n in let g = p .1 in (p .0, omega arith)) (λ n. let p = sound x n in (p .0, p .2)) (List·Memᴰ·append-cases xs m)), (λ (q, g). back x q g (decLt x b)));
-  }
-    where
-      back : (x : ℕ) → Q x → x < c → Dec (x < b) → x ∈ (xs ++ ys)
-      back x q g (yes n) = Memᴰ·append-left ys (l .members x .1 (q, n))
-      back x q g (no n) = Memᴰ·append-right xs (complete x q (omega arith) g)
-
-  list-skip : {b c : ℕ} {xs : List ℕ} → b ≤ c → ListOf _<_ (Below b) xs → ((x : ℕ) → Q x → b ≤ x → x < c → ⊥) → ListOf _<_ (Below c) xs
-  list-skip {b} {c} {xs} h l none = record {
-    ascending = l .ascending;
-    members = λ x. ((λ m. let p = l .members x .0 m in let g = p .1 in (p .0, omega arith)), (λ (q, g). back x q g (decLt x b)));
-  }
-    where
-      back : (x : ℕ) → Q x → x < c → Dec (x < b) → x ∈ xs
-      back x q g (yes n) = l .members x .1 (q, n)
-      back x q g (no n) = absurd (none x q (omega arith) g)
-
-  list-over : {c : ℕ} {k : ℕ} {xs : List ℕ} → ListOf _<_ (Below c) xs → k < length xs → Over k Q
-  list-over l h = listed-over <-strict (l .ascending) (λ x m. l .members x .0 m .0) h
 
 -- ---- the pairs
 

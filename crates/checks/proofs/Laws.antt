@@ -1,24 +1,24 @@
 -- What an answer of the check says, by what its parts answered. Assumes nothing.
 use lib.ListN.{getD, length}
 use mathlib.Core.Bool.{Bool, false, true}
-use mathlib.Core.List.{List, _∷_}
+use mathlib.Core.List.{List}
 use mathlib.Core.Option.{none}
 use mathlib.Core.Path.{_≡_, sym, subst, _∙_}
 use native.Mathlib.Omega.{arith}
-use Prim.Native.Nat.{ℕ, suc, _<_, _≤_}
+use Prim.Native.Nat.{ℕ, _<_, _≤_}
 use Rattle.checks.specs.Checked.{Accepted, CheckedAs}
 use Rattle.checks.specs.declared.Checked.{Checked}
 use Rattle.load.specs.Loaded.{PackLoaded, PackShown}
 use Rattle.meaning.specs.Limits.{settingLength}
-use Rattle.meaning.specs.Member.{_∈_, here, there}
 use Rattle.meaning.specs.WellFormed.{dangling, duplicates, prefixClash}
-use Rattle.names.proofs.Read.{Bytes, given-of}
+use Rattle.names.proofs.Read.{given-of}
 use Rattle.names.specs.Given.{IsPack, PackGiven}
 use Rattle.pack.proofs.Order.{accepted-is, accepted-number}
 use Rattle.pack.specs.Checked.{numberOf, wellFormed}
 use Rattle.pack.specs.Contents.{badSize}
 use Rattle.pack.specs.Unpack.{unpack}
 use Rattle.texts.specs.Compared.{SomePack}
+use Rattle.meaning.proofs.Lists.Bytes.{bytes-known}
 
 -- A refusal.
 pub refuses : {s numbers rows : List ℕ} (r : Checked) (k : ℕ) → r .refusal ≡ k → 0 < k → k ≡ numberOf (wellFormed s) → CheckedAs s r numbers rows
@@ -32,14 +32,6 @@ module _ (s counts numbers rows : List ℕ) where
   pub not-loaded : (w : Bool) → w ≡ false → PackShown w s counts numbers rows → unpack s ≡ none
   not-loaded false e h = h
   not-loaded true e h = absurd (let z : _≡_ {A = ℕ} 0 1 = cc in omega arith)
-
--- every entry of a list whose entries are small is small
-pub bytes-known : (s : List ℕ) → ((k : ℕ) → getD s k 0 < 256) → Bytes s
-bytes-known s small = record { each = go s small }
-  where
-    go : (s : List ℕ) → ((k : ℕ) → getD s k 0 < 256) → (x : ℕ) → x ∈ s → x < 256
-    go (y ∷ ys) h x (here e) = let z = h 0 in omega (arith, e)
-    go (y ∷ ys) h x (there m) = go ys (λ k. h (suc k)) x m
 
 module _ {s counts numbers rows : List ℕ} (l : PackLoaded s counts numbers rows) where
   pub some-pack : SomePack s counts numbers

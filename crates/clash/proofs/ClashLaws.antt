@@ -2,10 +2,10 @@
 -- Assumes nothing.
 use lib.ListN.{getD, getElem?, length}
 use mathlib.Core.Bool.{Bool, true, false}
-use mathlib.Core.List.{List, [], _∷_}
+use mathlib.Core.List.{List}
 use mathlib.Core.Logic.{_≢_}
-use mathlib.Core.Option.{Option, some, Option·none-ne-some, Option·some-injective}
-use mathlib.Core.Path.{_≡_, refl, sym, ap, subst, _∙_}
+use mathlib.Core.Option.{Option, some}
+use mathlib.Core.Path.{_≡_, sym, ap, subst, _∙_}
 use native.Mathlib.Decide.{decLt, ℕ-discrete}
 use native.Mathlib.Omega.{arith}
 use Prim.Native.Nat.{ℕ, zero, suc, _+_, _-_, _%_, _<_, _≤_}
@@ -17,7 +17,7 @@ use Rattle.core_lists.proofs.Places.{EdgeAt, edge-at, edge-key, limits-masked, 
 use Rattle.core_lists.proofs.Proper.{proper}
 use Rattle.core_lists.proofs.Shaped.{limits-shape}
 use Rattle.meaning.proofs.Lists.Members.{element}
-use Rattle.meaning.proofs.Lists.OrderedPlaces.{greater-later, lower-earlier}
+use Rattle.meaning.proofs.Lists.OrderedPlaces.{greater-later, lower-earlier, next-le}
 use Rattle.meaning.proofs.Lists.Places.{entry-at, entry-is, inside, placed}
 use Rattle.meaning.proofs.Model.Clash.{Limits}
 use Rattle.meaning.specs.Built.{core}
@@ -25,9 +25,9 @@ use Rattle.meaning.specs.Clash.{FirstClash}
 use Rattle.meaning.specs.Core.{CoreEdge, CoreNode, Node, asObject, asSubject}
 use Rattle.meaning.specs.Limits.{placeRoom, predicateRoom}
 use Rattle.meaning.specs.Listing.{_◃_}
-use Rattle.meaning.specs.Member.{_∈_, here, there}
+use Rattle.meaning.specs.Member.{_∈_}
 use Rattle.meaning.specs.NoGraph.{TwoObjects}
-use Rattle.meaning.specs.Ordered.{InOrder, before}
+use Rattle.meaning.specs.Ordered.{InOrder}
 use Rattle.meaning.specs.Pack.{Pack, limits}
 use Rattle.shapes.specs.Shapes.{SomePasses}
 
@@ -56,18 +56,6 @@ module _ (table : List (List ℕ)) (triples masks : List ℕ) where
   abbrev Cleared : ℕ → Type 0
   Cleared b = (j : ℕ) → 0 < j → j < length triples → getD triples j 0 < b → Clashes table triples masks j false
 
--- in an ascending list, the one after x stands no later than any greater one
-next-le : (xs : List ℕ) → InOrder _<_ xs → (i x y : ℕ) → getElem? xs i ≡ some x → y ∈ xs → x < y → (suc i < length xs) × (x < getD xs (suc i) 0) × (getD xs (suc i) 0 ≤ y)
-next-le [] a i x y e m l = absurd (Option·none-ne-some x e)
-next-le (z ∷ zs) (before f a) zero x y e (here q) l = absurd (let r = Option·some-injective z x e in let w : ⊥ = omega arith in w)
-next-le (z ∷ zs) (before f a) zero x y e (there m) l = first zs a m f
-  where
-    first : (ws : List ℕ) → InOrder _<_ ws → y ∈ ws → ((w : ℕ) → w ∈ ws → z < w) → (suc 0 < suc (length ws)) × (x < getD ws 0 0) × (getD ws 0 0 ≤ y)
-    first (w ∷ ws) b (here q) g = let r = Option·some-injective z x e in (omega arith, omega arith, omega arith)
-    first (w ∷ ws) (before p b) (there n) g = let r = Option·some-injective z x e in let h = g w (here refl) in let k = p y n in (omega arith, omega arith, omega arith)
-next-le (z ∷ zs) (before f a) (suc i) x y e (here q) l = absurd (let h = f x (element zs i x e) in let w : ⊥ = omega arith in w)
-next-le (z ∷ zs) (before f a) (suc i) x y e (there m) l = let r = next-le zs a i x y e m l in (let h = r .0 in omega arith, r .1, r .2)
-
 module _ {P : Pack} {table : List (List ℕ)} {nodes triples masks : List ℕ} (I : Input P table nodes triples masks) where
   -- ---- places are in node order
 
@@ -75,15 +63,15 @@ module _ {P : Pack} {table : List (List ℕ)} {nodes triples masks : List ℕ} (
     earlier-place : core n ◃ core m → i < j
     earlier-place h =
         let k = key-less P (I .bounded) n m (proper P (well I) c) (proper P (well I) d) h in
-        let x = entry-is nodes i (keyOf n) e in
-        let y = entry-is nodes j (keyOf m) f in
+        let x = entry-is nodes i (keyOf n) 0 e in
+        let y = entry-is nodes j (keyOf m) 0 f in
         lower-earlier nodes (I .held .node-keys .ascending) i j (inside nodes i (keyOf n) e) (omega arith)
 
     place-earlier : i < j → core n ◃ core m
     place-earlier h =
         let k = greater-later nodes (I .held .node-keys .ascending) i j h (inside nodes j (keyOf m) f) in
-        let x = entry-is nodes i (keyOf n) e in
-        let y = entry-is nodes j (keyOf m) f in
+        let x = entry-is nodes i (keyOf n) 0 e in
+        let y = entry-is nodes j (keyOf m) 0 f in
         less-key P (I .bounded) n m (proper P (well I) c) (proper P (well I) d) (omega arith)
 
   -- ---- a clash has a key at which the search stops
@@ -117,7 +105,7 @@ module _ {P : Pack} {table : List (List ℕ)} {nodes triples masks : List ℕ} (
         let r = placed m in
         let n = next-le triples (I .held .triple-keys .ascending) (r .0) y y′ (r .1) m′ (omega arith) in
         let k = getD triples (suc (r .0)) 0 in
-        let ia = entry-is triples (r .0) y (r .1) in
+        let ia = entry-is triples (r .0) y 0 (r .1) in
         let n1 = n .1 in let n2 = n .2 in
         let q : originOf y ≡ originOf k = omega arith in
         let es : subjectOf k ≡ i = omega arith in

@@ -14,16 +14,13 @@ use Rattle.node_list.proofs.CoreList.{numbers-long}
 use Rattle.core_lists.proofs.Places.{masked, place-small, predicate-small, well}
 use Rattle.core_lists.proofs.Proper.{proper}
 use Rattle.node_list.proofs.Records.{core-record}
-use Rattle.node_list.proofs.Written.{parts-written, written-long}
 use Rattle.meaning.proofs.Lists.Places.{entry-is, inside, ∈-at}
 use Rattle.meaning.specs.Built.{core}
 use Rattle.meaning.specs.Core.{CoreNode, Node, asObject, asSubject}
 use Rattle.meaning.specs.Limits.{clashWidth, firstLiteral, maxPredicates, maxValues, nodeWidth, placeRoom}
 use Rattle.meaning.specs.Listing.{NodeRecord}
 use Rattle.meaning.specs.Pack.{Pack}
-
-parts-at : (at k : ℕ) (a b out : List ℕ) → length a ≡ k → at + k ≤ length out → overwritten (at + k) b (overwritten at a out) ≡ overwritten at (a ++ b) out
-parts-at at k a b out e h = rw (← e) (parts-written at a b out (subst (λ n. at + n ≤ length out) (sym e) h))
+use Rattle.meaning.proofs.Lists.Overwriting.{parts-written, written-long}
 
 -- where the objects' records stand
 abbrev pub firstAt : ℕ
@@ -38,11 +35,11 @@ pub four-parts : (p : ℕ) (a b c out : List ℕ) → length a ≡ nodeWidth →
 four-parts p a b c out la lb lc h =
     let o = overwritten 0 a out in
     let lo : length o ≡ length out = written-long 0 nodeWidth a out la (omega arith) in
-    let e₁ : set o nodeWidth p ≡ overwritten 0 (a ++ (p ∷ [])) out = sets-eq (p ∷ []) o nodeWidth (omega arith) ∙ parts-at 0 nodeWidth a (p ∷ []) out la (omega arith) in
+    let e₁ : set o nodeWidth p ≡ overwritten 0 (a ++ (p ∷ [])) out = sets-eq (p ∷ []) o nodeWidth (omega arith) ∙ parts-written 0 nodeWidth a out la (omega arith) (p ∷ []) in
     let l₁ : length (a ++ (p ∷ [])) ≡ firstAt = length-append a (p ∷ []) ∙ omega arith in
-    let e₂ = parts-at 0 firstAt (a ++ (p ∷ [])) b out l₁ (omega arith) in
+    let e₂ = parts-written 0 firstAt (a ++ (p ∷ [])) out l₁ (omega arith) b in
     let l₂ : length (a ++ (p ∷ []) ++ b) ≡ secondAt = length-append (a ++ (p ∷ [])) b ∙ omega arith in
-    let e₃ = parts-at 0 secondAt (a ++ (p ∷ []) ++ b) c out l₂ (omega arith) in
+    let e₃ = parts-written 0 secondAt (a ++ (p ∷ []) ++ b) out l₂ (omega arith) c in
     let l₃ : 0 + length (a ++ (p ∷ []) ++ b ++ c) ≡ clashWidth = (let l = length-append (a ++ (p ∷ []) ++ b) c in omega arith) in
     ap (λ x. overwritten secondAt c (overwritten firstAt b x)) e₁ ∙ ap (overwritten secondAt c) e₂ ∙ e₃ ∙ ap (λ (n : ℕ). a ++ (p ∷ []) ++ b ++ c ++ drop n out) l₃
 
@@ -72,7 +69,7 @@ module _ {P : Pack} {table : List (List ℕ)} {nodes triples masks : List ℕ} (
   node-record : (n : Node) (i j : ℕ) → j ≡ i → CoreNode P n → getElem? nodes i ≡ some (keyOf n) → NodeRecord P (core n) (coreNumbers arities (getD nodes j 0) (getD masks j 0))
   node-record n i j q c e =
       subst (λ x. NodeRecord P (core n) (coreNumbers arities (getD nodes x 0) (getD masks x 0))) (sym q)
-      (subst (λ k. NodeRecord P (core n) (coreNumbers arities k (getD masks i 0))) (sym (entry-is nodes i (keyOf n) e))
+      (subst (λ k. NodeRecord P (core n) (coreNumbers arities k (getD masks i 0))) (sym (entry-is nodes i (keyOf n) 0 e))
       (core-record P (I .bounded) arities ar (getD masks i 0) n (proper P (well I) c) (masked I n i c e)))
 
   pub clash-written : {i : ℕ} (out out₁ out₂ out₃ : List ℕ) → clashWidth ≤ length out → let f = getD triples i 0 in let g = getD triples (i + 1) 0 in
@@ -113,10 +110,10 @@ module _ {P : Pack} {table : List (List ℕ)} {nodes triples masks : List ℕ} (
       gn = coreNumbers arities (getD nodes (objectOf g) 0) (getD masks (objectOf g) 0)
 
       ef : f ≡ tripleKey (x .subject) (x .clash .predicate) (x .first)
-      ef = entry-is triples i _ (x .first-key)
+      ef = entry-is triples i _ 0 (x .first-key)
 
       eg : g ≡ tripleKey (x .subject) (x .clash .predicate) (x .second)
-      eg = let e : i + 1 ≡ suc i = omega arith in ap (λ (n : ℕ). getD triples n 0) e ∙ entry-is triples (suc i) _ (x .second-key)
+      eg = let e : i + 1 ≡ suc i = omega arith in ap (λ (n : ℕ). getD triples n 0) e ∙ entry-is triples (suc i) _ 0 (x .second-key)
 
       pf : (subjectOf (tripleKey (x .subject) (x .clash .predicate) (x .first)) ≡ x .subject) × (predicateOf (tripleKey (x .subject) (x .clash .predicate) (x .first)) ≡ x .clash .predicate)
           × (objectOf (tripleKey (x .subject) (x .clash .predicate) (x .first)) ≡ x .first)

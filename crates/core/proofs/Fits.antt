@@ -1,7 +1,7 @@
 -- The heads that code holds of a bounded pack are within the bounds. Assumes nothing.
 use lib.ListN.{length, getD, length-map, length-append}
 use mathlib.Core.List.{List, [], _∷_, map, List·Memᴰ·append-cases}
-use mathlib.Core.Logic.{_⊎_, inl, ⊎-elim}
+use mathlib.Core.Logic.{inl, ⊎-elim}
 use mathlib.Core.Path.{_≡_, refl, ap, _∙_, subst}
 use native.Mathlib.Omega.{arith}
 use Prim.Native.Nat.{ℕ, _+_, _*_, _^_, _≤_, _<_}

@@ -2,7 +2,7 @@
 -- next, or is too large. Assumes nothing.
 use lib.ListN.{length, getD, take, length-take}
 use mathlib.Core.List.{List, []}
-use mathlib.Core.Logic.{_↔_, _⊎_, inl, inr}
+use mathlib.Core.Logic.{_↔_, _⊎_, inl, inr, ⊎-swap}
 use mathlib.Core.Path.{_≡_, refl, subst}
 use native.Mathlib.Decide.{decLt}
 use native.Mathlib.Omega.{arith}
@@ -12,41 +12,34 @@ use Rattle.core.specs.Heads.{keysOf}
 use Rattle.core.specs.declared.counted.Counted.{Counted}
 use Rattle.core.specs.declared.counted.Counted.the-variants.{Count, TooLarge}
 use Rattle.meaning.specs.Member.{_∈_}
-use Rattle.meaning.specs.Ordered.{InOrder, ListOf}
+use Rattle.meaning.specs.Ordered.{InOrder}
 use Rattle.sets.proofs.Insert.{insert-ascending, insert-length, insert-only}
 use Rattle.sets.proofs.Insertion.{added-list, present-list}
 use Rattle.sets.specs.Ordered.{WasAdded, WasFull, WasPresent, insertSorted}
-use Rattle.meaning.proofs.Lists.SetLists.{list-as}
+use Rattle.meaning.proofs.Lists.SetLists.{list-as, own-list}
 use Rattle.meaning.proofs.Lists.Members.{front-more, take-in}
-
-swapped : {A B : Type 0} → (A ⊎ B) → B ⊎ A
-swapped (inl a) = inr a
-swapped (inr b) = inl b
 
 -- ---- one number
 
-own : {xs : List ℕ} → InOrder _<_ xs → ListOf _<_ (λ y. y ∈ xs) xs
-own a = record { ascending = a; members = λ y. (λ m. m, λ m. m) }
-
 module _ {n x : ℕ} {d d′ : List ℕ} (l : n ≤ length d) (a : InOrder _<_ (take n d)) where
   pub grown-added : WasAdded n x d d′ → length d′ ≡ length d → Grown (λ y. y ≡ x) n (n + 1) d d′
-  grown-added w k = record { fits = omega (arith, w .room); list = list-as (λ y. (swapped, swapped)) (added-list w (own a)) }
+  grown-added w k = record { fits = omega (arith, w .room); list = list-as (λ y. (⊎-swap, ⊎-swap)) (added-list w (own-list a)) }
 
   pub grown-present : WasPresent n x d d′ → length d′ ≡ length d → Grown (λ y. y ≡ x) n n d d′
-  grown-present w k = record { fits = omega arith; list = list-as (λ y. (swapped, swapped)) (present-list w (own a)) }
+  grown-present w k = record { fits = omega arith; list = list-as (λ y. (⊎-swap, ⊎-swap)) (present-list w (own-list a)) }
 
   pub grown-full : WasFull n x d d′ → Beyond (length d) (λ y. (y ∈ take n d) ⊎ (y ≡ x))
   grown-full w = record {
     some = insertSorted x (take n d);
     ascending = insert-ascending x a;
-    members = λ y m. swapped (insert-only x y (take n d) m);
+    members = λ y m. ⊎-swap (insert-only x y (take n d) m);
     over = omega (arith, insert-length x (take n d) (w .new), length-take n d, w .full);
   }
 
 -- ---- no number
 
 pub grown-start : {X : ℕ → Type 0} (n : ℕ) (d : List ℕ) → n ≤ length d → InOrder _<_ (take n d) → ((y : ℕ) → ¬ X y) → Grown X n n d d
-grown-start {X} n d l a none = record { fits = l; list = list-as (λ y. (inl, only y)) (own a) }
+grown-start {X} n d l a none = record { fits = l; list = list-as (λ y. (inl, only y)) (own-list a) }
   where
     only : (y : ℕ) → (y ∈ take n d) ⊎ X y → y ∈ take n d
     only y (inl m) = m

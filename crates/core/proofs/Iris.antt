@@ -4,7 +4,6 @@ use mathlib.Core.List.{List, []}
 use mathlib.Core.Path.{_≡_, refl, ap}
 use native.Mathlib.Omega.{arith}
 use Prim.Native.Nat.{ℕ, _+_, _≤_, _<_}
-use Rattle.core.proofs.Counting.{low-in, low-part, most-low}
 use Rattle.core.proofs.Proper.{Proper, core-proper, iri-low, key-injective, literal-key}
 use Rattle.core.specs.Bounds.{Bounded}
 use Rattle.core.specs.Held.{NodeKey}
@@ -15,7 +14,7 @@ use Rattle.meaning.specs.Member.{_∈_}
 use Rattle.meaning.specs.NoGraph.{CoreIri}
 use Rattle.meaning.specs.Ordered.{InOrder, ListOf, Over}
 use Rattle.meaning.specs.Pack.{Pack}
-use Rattle.sets.proofs.Rank.{rank-le}
+use Rattle.sets.proofs.Rank.{low-in, low-part, most-low, rank-le}
 use Rattle.sets.specs.Ordered.{rankOf}
 use Rattle.meaning.proofs.Lists.SetLists.{in-order-take}
 use Rattle.meaning.proofs.Lists.Members.{take-in}

@@ -6,7 +6,6 @@ pub mod Sources
 pub mod NodeSources
 pub mod Proper
 pub mod TripleSources
-pub mod Counting
 pub mod Iris
 pub mod Answers
 pub mod TripleAnswers

@@ -1,11 +1,10 @@
 -- The triple keys of all heads are the keys of the core's triples. Assumes nothing.
 use borrow.Author.Tests.{lt-ltb, le-ltb}
-use lib.ListN.{length, getD, getElem?}
+use lib.ListN.{getElem?}
 use mathlib.Core.List.{List, [], _∷_, map}
 use mathlib.Core.Logic.{_↔_, inr}
 use mathlib.Core.Option.{some, Option·none-ne-some, Option·some-injective}
 use mathlib.Core.Path.{_≡_, refl, sym, ap, ap₂, _∙_, subst}
-use native.Mathlib.Nat.{not-suc-le-zero, le-of-suc-le-suc}
 use native.Mathlib.Omega.{arith}
 use Prim.Native.Nat.{ℕ, zero, suc, _<_}
 use Rattle.core.proofs.NodeSources.{Fine, bytes-of, fine}
@@ -16,6 +15,7 @@ use Rattle.core.specs.Collected.{tripleKeys}
 use Rattle.core.specs.Held.{NodeKey, TripleKey}
 use Rattle.core.specs.Keys.{keyOf, tripleKey}
 use Rattle.meaning.proofs.Lists.Members.{element, ∈-append}
+use Rattle.meaning.proofs.Lists.Places.{entry-at}
 use Rattle.meaning.proofs.Model.Resolved.{headTerms, headVariables}
 use Rattle.meaning.specs.Core.{Assignment, CoreNode, Fact, Given, Node, asObject, asSubject, headFact, triple, typed}
 use Rattle.meaning.specs.Member.{_∈_, here, there}
@@ -27,18 +27,13 @@ use Rattle.sets.specs.Ordered.{rankOf}
 
 -- ---- places in an ascending list are ranks
 
-get-at : (xs : List ℕ) (i : ℕ) → i < length xs → getElem? xs i ≡ some (getD xs i 0)
-get-at [] i h = absurd (not-suc-le-zero h)
-get-at (x ∷ xs) zero h = refl
-get-at (x ∷ xs) (suc i) h = get-at xs i (le-of-suc-le-suc h)
-
 pub rank-at : (x : ℕ) (xs : List ℕ) (i : ℕ) → InOrder _<_ xs → getElem? xs i ≡ some x → rankOf x xs ≡ i
 rank-at x [] i a e = absurd (Option·none-ne-some x e)
 rank-at x (y ∷ ys) zero a e = let q : y ≡ x = Option·some-injective y x e in rw (le-ltb y x (omega arith))
 rank-at x (y ∷ ys) (suc i) (before p a) e = rw (lt-ltb y x (p x (element ys i x e))) (ap suc (rank-at x ys i a e))
 
 pub at-rank : (x : ℕ) (xs : List ℕ) → InOrder _<_ xs → x ∈ xs → getElem? xs (rankOf x xs) ≡ some x
-at-rank x xs a m = let r = rank-member x xs a m in get-at xs (rankOf x xs) (r .inside) ∙ ap some (r .is)
+at-rank x xs a m = let r = rank-member x xs a m in entry-at xs (rankOf x xs) (r .inside) ∙ ap some (r .is)
 
 -- ---- the triple of a head
 

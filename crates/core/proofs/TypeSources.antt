@@ -20,7 +20,7 @@ use Rattle.meaning.proofs.Lists.Places.{inside}
 use Rattle.meaning.proofs.Model.Resolved.{headTerms}
 use Rattle.meaning.specs.Core.{Assignment, CoreNode, CoreType, Given, Node, asObject, asSubject, asTyped, given, headFact, nodeOf, passed, typed}
 use Rattle.meaning.specs.Limits.{maxCoreNodes, placeRoom, predicateRoom}
-use Rattle.meaning.specs.Member.{_∈_, here}
+use Rattle.meaning.specs.Member.{here}
 use Rattle.meaning.specs.Ordered.{ListOf}
 use Rattle.meaning.specs.Pack.{HasShape, Head, Pack, Target, hasType, linksTo, linksToValue, type}
 use Rattle.meaning.specs.Tables.{packed, setOfMask, headArguments, headNumbers}

@@ -4,13 +4,13 @@ use lib.ListN.{getElem?, length, length-append, length-take, replicate, take}
 use mathlib.Core.List.{List, [], _∷_, _++_, foldl}
 use mathlib.Core.Option.{some, Option·some-injective}
 use mathlib.Core.Path.{_≡_, refl, sym, ap, subst, _∙_}
-use native.Mathlib.Nat.{not-suc-le-zero, le-of-suc-le-suc}
 use native.Mathlib.Omega.{arith}
-use Prim.Native.Nat.{ℕ, zero, suc, _+_, _*_, _<_, _≤_}
+use Prim.Native.Nat.{ℕ, _+_, _*_, _<_, _≤_}
 use Rattle.core.specs.Bounds.{Bounded}
 use Rattle.core.specs.Keys.{keyOf}
 use Rattle.core_lists.proofs.Proper.{Proper}
 use Rattle.meaning.proofs.Lists.Members.{element}
+use Rattle.meaning.proofs.Lists.Ordered.{take-less}
 use Rattle.meaning.proofs.Lists.Places.{inside}
 use Rattle.meaning.proofs.Lists.Sorted.{Compared, alike, compare, higher, lower}
 use Rattle.meaning.proofs.Model.Listing.{core-key-one}
@@ -59,12 +59,6 @@ four-small (a ∷ b ∷ c ∷ d ∷ vs) s = (s .0, (s .1 .0, (s .1 .1 .0, (s .1 
 
 four-long : (vs : List ℕ) → length (four vs) ≡ 4
 four-long vs = length-take 4 (vs ++ replicate 4 0) ∙ (let e = length-append vs (replicate 4 0) in omega arith)
-
-take-less : (n : ℕ) (vs ws r : List ℕ) → vs ≺ ws → length vs ≡ length ws → length vs ≤ n → take n (vs ++ r) ≺ take n (ws ++ r)
-take-less n [] (w ∷ ws) r h e l = absurd (let z : ⊥ = omega arith in z)
-take-less zero (v ∷ vs) (w ∷ ws) r h e l = absurd (not-suc-le-zero l)
-take-less (suc n) (v ∷ vs) (w ∷ ws) r (less h) e l = less h
-take-less (suc n) (v ∷ vs) (w ∷ ws) r (equal q h) e l = equal q (take-less n vs ws r h (omega arith) (le-of-suc-le-suc l))
 
 pub all-small : (n : ℕ) → n ≤ maxValues → (vs : List ℕ) → ((v : ℕ) → v ∈ vs → v < n) → Small vs
 all-small n b [] h = tt

@@ -28,8 +28,6 @@ use Rattle.meaning.specs.Tables.{setOfMask}
 use Rattle.meaning.specs.TypeSet.{TypeSet, _∈ₜ_}
 use Rattle.shapes.specs.Shapes.{CodesFit, Tabled}
 
--- ---- places in a list
-
 -- ---- what the keys of a well placed core say
 
 module _ {nodes triples masks : List ℕ} (l : Placed nodes triples masks) (i : ℕ) (h : i < length triples) where

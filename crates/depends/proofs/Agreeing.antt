@@ -3,7 +3,7 @@ use borrow.Author.Tests.{eqb-true, eqb-false, eq-eqb, ne-eqb}
 use lib.Dec.{eqb}
 use lib.ListN.{length, length-append, replicate, take}
 use lib.Seq.{length-take-le}
-use mathlib.Core.Bool.{Bool, true, false, _&&_, _||_}
+use mathlib.Core.Bool.{Bool, true, false, _&&_, _||_, and-assoc, or-true}
 use mathlib.Core.List.{List, [], _∷_, _++_, foldl, map}
 use mathlib.Core.Path.{_≡_, refl, sym, ap, _∙_}
 use native.Mathlib.Omega.{arith}
@@ -33,10 +33,6 @@ one-more a b k l h g = go (eqb k l) (eqb a b) refl refl
     go true false e f = rw (e, f) (ne-eqb (k * maxValues + a) (l * maxValues + b) (λ z. eqb-false a b f (omega (arith, z, eqb-true k l e))))
     go false q e f = rw e (ne-eqb (k * maxValues + a) (l * maxValues + b) (λ z. eqb-false k l e (omega (arith, z))))
 
-and-assoc : (a b c : Bool) → ((a && b) && c) ≡ (a && (b && c))
-and-assoc true b c = refl
-and-assoc false b c = refl
-
 folded : (m k l : ℕ) (xs ys : List ℕ) → length xs ≡ length ys
     → eqb (foldl step k (chosen m (map low xs))) (foldl step l (chosen m (map low ys))) ≡ (eqb k l && agree m (map low xs) (map low ys))
 unfolding agree chosen
@@ -59,17 +55,10 @@ folded m k l (x ∷ xs) (y ∷ ys) h = go (λ i j. folded (m / 2) i j xs ys (ome
 
 -- ---- columns that are unused are alike
 
-eqb-same : (n : ℕ) → eqb n n ≡ true
-eqb-same n = eq-eqb n n refl
-
-or-true : (b : Bool) → (b || true) ≡ true
-or-true true = refl
-or-true false = refl
-
 agree-same : (m : ℕ) (xs : List ℕ) → agree m xs xs ≡ true
 unfolding agree
 agree-same m [] = refl
-agree-same m (x ∷ xs) = rw (eqb-same x, or-true (eqb (m % 2) 0)) (agree-same (m / 2) xs)
+agree-same m (x ∷ xs) = rw (eq-eqb x x refl, or-true (eqb (m % 2) 0)) (agree-same (m / 2) xs)
 
 low-value : (x : ℕ) → x < maxValues → low x ≡ x
 low-value x h = omega (arith, h)

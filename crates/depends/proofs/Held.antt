@@ -1,8 +1,7 @@
 -- The rows and dependencies that numbers hold, one by one. Assumes nothing.
-use lib.ListN.{drop, getD, getElem?, length, length-append, take}
-use lib.Seq.{drop-at, drop-drop, getD-drop, getD-take, take-at}
+use lib.ListN.{drop, getD, length, length-append, take}
+use lib.Seq.{drop-at, drop-drop, getD-drop, take-at}
 use mathlib.Core.List.{List, [], _∷_, _++_, flatMap, map}
-use mathlib.Core.Option.{some, Option·none-ne-some, Option·some-injective}
 use mathlib.Core.Path.{_≡_, refl, sym, ap, _∙_}
 use native.Mathlib.Numerals.{add-one}
 use native.Mathlib.Omega.{arith}
@@ -10,10 +9,11 @@ use Prim.Native.Nat.{ℕ, zero, suc, _+_, _*_, _/_, _<_}
 use Rattle.meaning.specs.Limits.{dependencyWidth, maxColumns, rowWidth}
 use Rattle.meaning.specs.Pack.{Dependency, Row}
 use Rattle.meaning.specs.Tables.{rowNumbers, RowsHeld}
-use Rattle.meaning.proofs.Lists.Places.{there-is}
+use Rattle.meaning.proofs.Lists.Places.{drop-entry, there-is}
 use Rattle.depends.specs.Answer.{DependenciesHeld}
 use Rattle.depends.specs.Keys.{columnsAt, low}
 use Rattle.depends.proofs.Agreeing.{padded, padded-long}
+use Rattle.meaning.proofs.Lists.Parts.{number-at}
 
 row-long : (x : Row) → length (rowNumbers x) ≡ rowWidth
 row-long x = ap suc (padded-long (x .cells))
@@ -67,14 +67,6 @@ dependencyAt numbers i = record {
   right = getD numbers (i * dependencyWidth + 2) 0;
 }
 
-block-get : (w a k : ℕ) (numbers block : List ℕ) → take w (drop a numbers) ≡ block → k < w → getD numbers (a + k) 0 ≡ getD block k 0
-block-get w a k numbers block e h = sym (getD-drop a numbers k 0) ∙ sym (getD-take w (drop a numbers) k 0 h) ∙ ap (λ (l : List ℕ). getD l k 0) e
-
-drop-there : {A : Type 0} (xs : List A) (i : ℕ) (x : A) → getElem? xs i ≡ some x → drop i xs ≡ x ∷ drop (suc i) xs
-drop-there [] i x e = absurd (Option·none-ne-some x e)
-drop-there (y ∷ ys) zero x e = ap (λ z. z ∷ ys) (Option·some-injective y x e)
-drop-there (y ∷ ys) (suc i) x e = drop-there ys i x e
-
 module _ {ds : List Dependency} {numbers : List ℕ} (held : DependenciesHeld ds numbers) where
   pub dependencies-counted : length numbers / dependencyWidth ≡ length ds
   dependencies-counted = omega (arith, held .many)
@@ -86,7 +78,7 @@ module _ {ds : List Dependency} {numbers : List ℕ} (held : DependenciesHeld ds
       let a : i * dependencyWidth + 0 ≡ i * dependencyWidth = omega arith in
       let e : take dependencyWidth (drop (i * dependencyWidth) numbers) ≡ x .relation ∷ x .left ∷ x .right ∷ [] = held .held .each i x (t .1) in
       let get : (k : ℕ) → k < dependencyWidth → getD numbers (i * dependencyWidth + k) 0 ≡ getD (x .relation ∷ x .left ∷ x .right ∷ []) k 0 =
-      λ k l. block-get dependencyWidth (i * dependencyWidth) k numbers (x .relation ∷ x .left ∷ x .right ∷ []) e l in
+      λ k l. number-at numbers (x .relation ∷ x .left ∷ x .right ∷ []) (i * dependencyWidth) dependencyWidth e k l in
       let r : x .relation ≡ getD numbers (i * dependencyWidth) 0 = sym (rw a at (get 0 (omega arith))) in
       let is : x ≡ dependencyAt numbers i = (λ j. record { relation = r j; left = sym (get 1 (omega arith)) j; right = sym (get 2 (omega arith)) j }) in
-      rw (add-one i) (drop-there ds i x (t .1) ∙ ap (λ z. z ∷ drop (suc i) ds) is)
+      rw (add-one i) (drop-entry ds i x (t .1) ∙ ap (λ z. z ∷ drop (suc i) ds) is)

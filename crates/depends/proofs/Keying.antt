@@ -1,10 +1,10 @@
 -- The loop that makes a row's key: what is left to add, and that it fits. Assumes nothing.
 use borrow.Author.Tests.{eq-eqb, ne-eqb}
 use lib.Dec.{eqb}
-use lib.ListN.{drop, drop-of-length-le, getD, length, length-drop, List·getD-map, take}
+use lib.ListN.{drop, drop-of-length-le, getD, length, length-drop, List·getD-map, take, length-map}
 use lib.Seq.{drop-cons, getD-drop, getD-take, length-take-le}
 use mathlib.Core.Bool.{Bool, true, false}
-use mathlib.Core.List.{List, [], _∷_, foldl, map}
+use mathlib.Core.List.{List, [], _∷_, foldl}
 use mathlib.Core.Path.{_≡_, refl, sym, ap, _∙_}
 use native.Mathlib.Numerals.{add-one}
 use native.Mathlib.Omega.{arith}
@@ -41,13 +41,9 @@ below-more n k v h g = rw (add-one n) (omega (arith, h, g))
 abbrev pub step : ℕ → ℕ → ℕ
 step k v = k * maxValues + v
 
-length-map : (f : ℕ → ℕ) (xs : List ℕ) → length (map f xs) ≡ length xs
-length-map f [] = refl
-length-map f (x ∷ xs) = ap suc (length-map f xs)
-
 pub length-columns : (rows : List ℕ) (first : ℕ) → first + maxColumns ≤ length rows → length (columnsAt rows first) ≡ maxColumns
 unfolding columnsAt
-length-columns rows first h = length-map low (take maxColumns (drop first rows)) ∙ length-take-le maxColumns (drop first rows) (omega (arith, length-drop first rows))
+length-columns rows first h = length-map (take maxColumns (drop first rows)) low ∙ length-take-le maxColumns (drop first rows) (omega (arith, length-drop first rows))
 
 column : (rows : List ℕ) (first c : ℕ) → c < maxColumns → getD (columnsAt rows first) c 0 ≡ low (getD rows (first + c) 0)
 unfolding columnsAt

@@ -1,13 +1,13 @@
 -- The two lists hold the graph by the places of its nodes, and the numbers wanted are those of its names and labels. Assumes
 -- nothing.
-use lib.ListN.{length, getD, getElem?, List·getD-append}
-use lib.Seq.{getD-take, getD-append-add}
+use lib.ListN.{length, getD, getElem?}
+use lib.Seq.{getD-take}
 use mathlib.Core.Bool.{false}
-use mathlib.Core.List.{List, [], _∷_, _++_, Forall₂, Forall₂·nil, Forall₂·cons, flatten}
-use mathlib.Core.Option.{some, Option·none-ne-some, Option·some-injective}
+use mathlib.Core.List.{List, [], _∷_, Forall₂, Forall₂·nil, Forall₂·cons}
+use mathlib.Core.Option.{some}
 use mathlib.Core.Path.{_≡_, refl, sym, ap, subst, _∙_}
 use native.Mathlib.Omega.{arith}
-use Prim.Native.Nat.{ℕ, zero, suc, _+_, _*_, _≤_, _<_}
+use Prim.Native.Nat.{ℕ, suc, _+_, _*_, _≤_, _<_}
 use Rattle.pack.proofs.Accepted.{well-formed}
 use Rattle.alive.specs.Lists.{Lists}
 use Rattle.answers.specs.Graph.{HeldIn, Numbered, Resolved}
@@ -34,26 +34,13 @@ use Rattle.pack.proofs.Unpacking.{unpacked}
 use Rattle.resolve.specs.Listed.{Listed}
 use Rattle.resolve.specs.Wanted.{Wanted}
 use Rattle.spelling.specs.Iri.{plain}
+use Rattle.meaning.proofs.Lists.Blocks.{flatten-at}
 
 -- ---- records one after another
 
 forall-length : {A B : Type 0} {R : A → B → Type 0} {xs : List A} {ys : List B} → Forall₂ R xs ys → length xs ≡ length ys
 forall-length Forall₂·nil = refl
 forall-length (Forall₂·cons h t) = ap suc (forall-length t)
-
--- number j of record k, where each record has three
-flat-at : (rs : List (List ℕ)) → ((r : List ℕ) → r ∈ rs → length r ≡ 3) → (k j : ℕ) (r : List ℕ) → getElem? rs k ≡ some r → j < 3
-    → getD (flatten rs) (k * 3 + j) 0 ≡ getD r j 0
-unfolding flatten
-flat-at [] three k j r e h = absurd (Option·none-ne-some r e)
-flat-at (s ∷ rs) three zero j r e h =
-    ap (λ i. getD (s ++ flatten rs) i 0) (let z : 0 * 3 + j ≡ j = omega arith in z)
-    ∙ List·getD-append s (flatten rs) 0 j (omega (arith, three s (element (s ∷ rs) 0 s refl)))
-    ∙ ap (λ l. getD l j 0) (Option·some-injective s r e)
-flat-at (s ∷ rs) three (suc k) j r e h =
-    ap (λ i. getD (s ++ flatten rs) i 0) (let z : suc k * 3 + j ≡ length s + (k * 3 + j) = omega (arith, three s (element (s ∷ rs) 0 s refl)) in z)
-    ∙ getD-append-add s (flatten rs) (k * 3 + j) 0
-    ∙ flat-at rs (λ q i. three q (element (s ∷ rs) (suc (placed i .0)) q (placed i .1))) k j r e h
 
 module _ {pack : Text} {P : Pack} {nodes : List ℕ} {count : ℕ} {triples : List ℕ} {edges : ℕ} (g : GraphIn pack P nodes count triples edges) where
   abbrev listed : GraphFronts P count edges (frontsOf count nodes edges triples)
@@ -92,7 +79,7 @@ module _ {pack : Text} {P : Pack} {nodes : List ℕ} {count : ℕ} {triples : Li
       let l = inside (listed .triple-records) k r e in
       sym (getD-take (edges * 3) triples (k * 3 + j) 0 (omega (arith, listed .triple-count)))
       ∙ ap (λ l. getD l (k * 3 + j) 0) (triples-are nodes triples listed)
-      ∙ flat-at (listed .triple-records) three k j r e h
+      ∙ flatten-at 3 (listed .triple-records) three k j r e h
 
   subject-at : (k : ℕ) (r : List ℕ) → getElem? (listed .triple-records) k ≡ some r → subjectOf triples k ≡ getD r 0 0
   subject-at k r e = ap (λ i. getD triples i 0) (let z : k * 3 ≡ k * 3 + 0 = omega arith in z) ∙ number-at k r e 0 (omega arith)

@@ -19,10 +19,10 @@ use Rattle.meaning.specs.Built.{BuiltNode, core, invented}
 use Rattle.meaning.specs.Core.{Node, iriNode, literalNode}
 use Rattle.meaning.specs.Limits.{nodeWidth}
 use Rattle.meaning.specs.Listing.{NodeRecord, inventedKind, kind, nodeKey}
-use Rattle.meaning.specs.Ordered.{_≺_, less, equal}
 use Rattle.meaning.specs.Pack.{Pack, Text}
 use Rattle.meaning.proofs.Cases.{case-on}
 use Rattle.evaluate.proofs.Held.{count-is, inOrder}
+use Rattle.meaning.proofs.Lists.Ordered.{first-rises}
 
 -- ---- the kind of a node is the first number of its record and of its key
 
@@ -62,11 +62,6 @@ unfolding nodeKey
 key-some (core (iriNode c vs)) = omega arith
 key-some (core (literalNode v)) = omega arith
 key-some (invented X) = omega arith
-
-first-rises : (r s : List ℕ) → 0 < length r → r ≺ s → getD r 0 0 ≤ getD s 0 0
-first-rises [] s l h = absurd (omega arith)
-first-rises (x ∷ r) (y ∷ s) l (less h) = omega arith
-first-rises (x ∷ r) (y ∷ s) l (equal e h) = omega arith
 
 module _ {pack : Text} {P : Pack} {nodes : List ℕ} {count : ℕ} {triples : List ℕ} {edges : ℕ} (g : GraphIn pack P nodes count triples edges) where
   kind-at : (n : ℕ) (b : BuiltNode) → getElem? (inOrder g) n ≡ some b → kindAt nodes n ≡ kind b

@@ -1,5 +1,5 @@
 -- Laws of bytes and runs. Assumes nothing.
-use borrow.Author.Tests.{eqb-true, ne-eqb}
+use borrow.Author.Tests.{eqb-true}
 use lib.Dec.{eqb}
 use lib.ListN.{length, take, drop, getD, replicate, drop-of-length-le}
 use lib.Seq.{drop-cons, getD-drop}
@@ -13,9 +13,6 @@ use Prim.Native.Nat.{ℕ, zero, suc, _+_, _≤_, _<_}
 use Rattle.grammar.specs.Grammar.{All, none, also, asterisk}
 use Rattle.grammar.specs.Parse.{first, noByte, run}
 use Rattle.meaning.specs.Pack.{Text}
-
-pub eqb-suc : (n : ℕ) → eqb (suc n) 0 ≡ false
-eqb-suc n = ne-eqb (suc n) 0 (λ e. omega arith)
 
 -- A first byte is there.
 pub uncons : (s : Text) (c : ℕ) → first s ≡ c → c < noByte → s ≡ c ∷ drop 1 s

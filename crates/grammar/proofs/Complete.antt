@@ -1,6 +1,6 @@
 -- The reading takes each part of the grammar off the front of a text, whatever fit byte follows it. Assumes nothing.
 use borrow.Author.Tests.{eq-eqb, ne-eqb, le-leb}
-use lib.Dec.{eqb}
+use lib.Dec.{eqb, eqb·suc-zero}
 use lib.ListN.{length, drop, replicate, length-append, length-replicate}
 use lib.Seq.{take-append-seam, drop-append-seam}
 use mathlib.Core.Bool.{true, false}
@@ -13,7 +13,7 @@ use Rattle.meaning.specs.Pack.{Text}
 use Rattle.meaning.specs.Query.{Expr, stay, step, anyStep, atIri, atLiteral, nested, sequence, union}
 use Rattle.grammar.specs.Grammar.{Level, aUnion, aSequence, aStep, anAtom, bar, slash, asterisk, underscore, roundOpen, roundClose, squareOpen, squareClose, angleOpen, angleClose, quote, letter, other, stars, All, none, also, Reads, one-sequence, more-sequences, one-step, more-steps, starred, a-name, an-any, a-stay, a-group, a-test, an-iri, a-literal}
 use Rattle.grammar.specs.Parse.{Out, bad, ok, first, run, joined, parts, withStars, closed, label, name, leaf, atomOf, stepBy, sequenceBy, unionBy, atomAt, parse}
-use Rattle.grammar.proofs.Bytes.{eqb-suc, run-all, all-stars}
+use Rattle.grammar.proofs.Bytes.{run-all, all-stars}
 
 -- ---- parts and separators
 
@@ -93,15 +93,15 @@ module _ (d : ℕ) (o : Out) where
 
   stay-atom : (r : Text) → atomOf (suc d) (roundOpen ∷ roundClose ∷ r) o ≡ ok stay r
   unfolding atomOf
-  stay-atom r = rw (eqb-suc d)
+  stay-atom r = rw (eqb·suc-zero d)
 
   group-atom : (s r : Text) (e : Expr) → eqb (first (s ++ roundClose ∷ r)) roundClose ≡ false → o ≡ ok e (roundClose ∷ r) → atomOf (suc d) (roundOpen ∷ (s ++ roundClose ∷ r)) o ≡ ok e r
   unfolding atomOf closed
-  group-atom s r e h p = rw (eqb-suc d, h, p)
+  group-atom s r e h p = rw (eqb·suc-zero d, h, p)
 
   test-atom : (s r : Text) (e : Expr) → o ≡ ok e (squareClose ∷ r) → atomOf (suc d) (squareOpen ∷ (s ++ squareClose ∷ r)) o ≡ ok (nested e) r
   unfolding atomOf closed
-  test-atom s r e p = rw (eqb-suc d, p)
+  test-atom s r e p = rw (eqb·suc-zero d, p)
 
 -- Whatever is read after an opening bracket.
 pub atom-opens : (d : ℕ) (s : Text) → (o : Out) × (parse anAtom d s ≡ atomOf d s o)

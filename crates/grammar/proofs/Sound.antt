@@ -1,6 +1,6 @@
 -- What the reading takes off the front of a text is in the grammar, with the expression that it gives. Assumes nothing.
 use borrow.Author.Tests.{eqb-true, leb-true}
-use lib.Dec.{eqb, leb, lit<}
+use lib.Dec.{eqb, eqb·suc-zero, leb, lit<}
 use lib.ListN.{length, take, drop, replicate, take-append-drop, length-take}
 use mathlib.Core.Bool.{Bool, true, false, cond, _&&_}
 use mathlib.Core.List.{[], _∷_, _++_, append-assoc}
@@ -12,7 +12,8 @@ use Rattle.grammar.specs.Parse.{atomAt, atomOf, bad, closed, first, join
 use Rattle.meaning.specs.Limits.{maxNameBytes}
 use Rattle.meaning.specs.Pack.{Text}
 use Rattle.meaning.specs.Query.{Expr, stay, step, anyStep, atIri, atLiteral, nested, sequence, union}
-use Rattle.grammar.proofs.Bytes.{eqb-suc, uncons, run-le, all-take, stars-take}
+use Rattle.grammar.proofs.Bytes.{uncons, run-le, all-take, stars-take}
+use Rattle.meaning.proofs.Cases.{and-both}
 
 pub never : {e : Expr} {s : Text} → bad ≡ ok e s → ⊥
 never h = let z : _≡_ {A = ℕ} 0 1 = cc in omega arith
@@ -92,12 +93,6 @@ label-found opens mark d lo lm f rule s o e r h = go (eqb (first (drop k u)) mar
           subst (λ (y : Expr). Reads anAtom d (opens ∷ (take k u ++ mark ∷ [])) y) v (rule (take k u) (all-take (other mark) u)),
         )
 
-and-inv : (a b : Bool) → (a && b) ≡ true → (a ≡ true) × (b ≡ true)
-and-inv true true h = (refl, refl)
-and-inv true false h = (refl, h)
-and-inv false true h = (h, refl)
-and-inv false false h = (h, h)
-
 name-found : (d : ℕ) (s : Text) → Finds anAtom d s (name s)
 unfolding name
 name-found d s e r h = go (leb 1 k && leb k maxNameBytes) refl h
@@ -110,7 +105,7 @@ name-found d s e r h = go (leb 1 k && leb k maxNameBytes) refl h
     go true q h =
         let w : drop k s ≡ r = cc in
         let v : step (take k s) ≡ e = cc in
-        let b = and-inv (leb 1 k) (leb k maxNameBytes) q in
+        let b = and-both (leb 1 k) (leb k maxNameBytes) q in
         let lo = leb-true 1 k (b .0) in
         let hi = leb-true k maxNameBytes (b .1) in
         let n : length (take k s) ≡ k = simp length-take (omega (arith, run-le letter s)) in
@@ -175,7 +170,7 @@ atom-none s o e r h = round (eqb (first s) roundOpen) refl h
 
 atom-some : (d : ℕ) (s : Text) (o : Out) → Finds aUnion d (drop 1 s) o → Finds anAtom (suc d) s (atomOf (suc d) s o)
 unfolding atomOf
-atom-some d s o part e r h = round (eqb (first s) roundOpen) refl (rw (eqb-suc d) at h)
+atom-some d s o part e r h = round (eqb (first s) roundOpen) refl (rw (eqb·suc-zero d) at h)
   where
     square : (b : Bool) → eqb (first s) squareOpen ≡ b → cond b (closed squareClose nested o) (leaf s) ≡ ok e r → Found anAtom (suc d) s e r
     square true q h = closed-found squareOpen squareClose d nested s (lit< tt) (lit< tt) (eqb-true _ _ q) (λ t e x. a-test x) o part e r h

@@ -1,5 +1,4 @@
 -- The loop over the records of a body: those before the cursor are held. Assumes nothing.
-use Rattle.meaning.proofs.Lists.Parts.{record-end}
 use borrow.Author.Tests.{lt-leb}
 use lib.ListN.{length, length-append}
 use mathlib.Core.List.{List, [], _∷_, _++_, append-assoc, append-nil}
@@ -22,6 +21,7 @@ use Rattle.records.specs.Kept.{Kept}
 use Rattle.records.specs.Numbers.{NumbersOf}
 use Rattle.records.proofs.Putting.{put-long}
 use Rattle.load.proofs.Windows.{held-more, held-none}
+use Rattle.meaning.proofs.Lists.Blocks.{record-end}
 
 -- records before others, where these are whole
 abbrev pub before : {A : Type 0} → List A → Option (List A) → Option (List A)

@@ -21,8 +21,9 @@ use Rattle.pack.specs.declared.kinds.Kind.{Kind}
 use Rattle.pack.specs.declared.kinds.Kind.the-variants as K
 use Rattle.records.specs.Held.{BodyHeld, Held, SettingHeld, SettingNumbers, countsOf, width}
 use Rattle.records.specs.Numbers.{NumbersOf}
-use Rattle.load.proofs.Places.{each-at, ends-before}
+use Rattle.load.proofs.Places.{ends-before}
 use Rattle.load.proofs.Windows.{held-kept}
+use Rattle.meaning.proofs.Lists.Below.{each-at}
 
 pub as-part : {i : ℕ} {s : List ℕ} {n : ℕ} {out out′ : List ℕ} {r : Count} → r ≡ Records n → PartShown i s out out′ r → PartLoaded i s n out out′
 as-part {i} {s} {n} {out} {out′} e h = subst (PartShown i s out out′) e h

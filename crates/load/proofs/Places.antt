@@ -4,23 +4,15 @@ use mathlib.Core.List.{List}
 use mathlib.Core.Path.{_≡_, refl, sym}
 use native.Mathlib.Decide.{decLt}
 use native.Mathlib.Omega.{arith}
-use Prim.Native.Nat.{ℕ, zero, suc, _+_, _*_, _-_, _≤_, _<_, zero-le}
+use Prim.Native.Nat.{ℕ, zero, suc, _+_, _*_, _-_, _≤_, _<_}
 use Rattle.load.specs.Bodies.{kindOf, kinds, limitOf, limits, placeOf, places}
 use Rattle.load.specs.Loaded.{Room}
 use Rattle.meaning.specs.Limits.{maxRows, rowsLength, settingLength, rowsBody}
 use Rattle.pack.specs.declared.kinds.Kind.the-variants as K
 use Rattle.records.specs.Held.{width}
+use Rattle.meaning.proofs.Lists.Below.{NoneOf, each-at, past}
 
 -- ---- the rows come last
-
--- i is none of the numbers below n
-abbrev pub NoneOf : ℕ → ℕ → Type 0
-NoneOf zero i = Unit
-NoneOf (suc n) i = NoneOf n i × (i ≡ n → ⊥)
-
-past : (n i : ℕ) → NoneOf n i → n ≤ i
-past zero i t = zero-le
-past (suc n) i t = omega (arith, past n i (t .0), t .1)
 
 module _ (i : ℕ) (t : NoneOf rowsBody i) where
   pub last-kind : K.Row ≡ kindOf i
@@ -34,17 +26,6 @@ module _ (i : ℕ) (t : NoneOf rowsBody i) where
   pub last-place : 0 ≡ placeOf i
   unfolding placeOf
   last-place = sym (List·getD-eq-default places 0 (past rowsBody i t))
-
--- ---- something of each number below n
-
-abbrev pub Each : ℕ → (ℕ → Type 0) → Type 0
-Each zero P = Unit
-Each (suc n) P = P 0 × Each n (λ i. P (suc i))
-
-pub each-at : (n : ℕ) (P : ℕ → Type 0) → Each n P → (i : ℕ) → i < n → P i
-each-at zero P t i h = absurd (let z : ⊥ = omega arith in z)
-each-at (suc n) P t zero h = t .0
-each-at (suc n) P t (suc i) h = each-at n (λ j. P (suc j)) (t .1) i (omega arith)
 
 -- ---- where a body ends
 

@@ -1,27 +1,17 @@
 -- Records held one after another: one more at the end; numbers past them may change. Assumes nothing.
-use Rattle.meaning.proofs.Lists.Parts.{record-end, same-part}
+use Rattle.meaning.proofs.Lists.Parts.{same-part}
 use lib.ListN.{drop, length, take}
-use lib.Seq.{drop-at, drop-drop, length-take-le, take-at}
-use mathlib.Core.List.{List, [], _∷_, _++_, append-assoc}
+use lib.Seq.{drop-drop, take-length}
+use mathlib.Core.List.{List, [], _∷_, _++_}
 use mathlib.Core.Option.{Option·none-ne-some}
-use mathlib.Core.Path.{_≡_, refl, sym, ap, subst, _∙_}
+use mathlib.Core.Path.{_≡_, sym, ap, subst, _∙_}
 use native.Mathlib.Omega.{arith}
 use Prim.Native.Nat.{ℕ, _+_, _*_, _≤_}
 use Rattle.meaning.proofs.Lists.Places.{inside, snoc-at}
 use Rattle.records.specs.Held.{Held}
 use Rattle.records.specs.Kept.{Put}
-
--- what was put, and what stands before it
-pub put-before : {xs : List ℕ} {at : ℕ} {out out′ : List ℕ} → Put xs at out out′ → at ≤ length out → take at out′ ≡ take at out
-put-before {xs} {at} {out} p h =
-    ap (take at) (p .is ∙ append-assoc (take at out) xs (drop (at + length xs) out))
-    ∙ take-at (take at out) (xs ++ drop (at + length xs) out) at (length-take-le at out h)
-
-pub put-there : {xs : List ℕ} {at w : ℕ} {out out′ : List ℕ} → Put xs at out out′ → at ≤ length out → length xs ≡ w → take w (drop at out′) ≡ xs
-put-there {xs} {at} {w} {out} p h e =
-    ap (λ (ys : List ℕ). take w (drop at ys)) (p .is ∙ append-assoc (take at out) xs (drop (at + length xs) out))
-    ∙ ap (take w) (drop-at (take at out) (xs ++ drop (at + length xs) out) at (length-take-le at out h))
-    ∙ take-at xs (drop (at + length xs) out) w e
+use Rattle.meaning.proofs.Lists.Overwriting.{written-before, written-there}
+use Rattle.meaning.proofs.Lists.Blocks.{record-end}
 
 -- ---- one record more
 
@@ -36,9 +26,10 @@ module _ {A : Type 0} (N : A → List ℕ → Type 0) (w : ℕ) where
         snoc-at done a i x e
         (λ f.
         let r = record-end i (length done) w (inside done i x f) in
-        subst (N x) (sym (same-part w (i * w) (length done * w) out′ out r (put-before p (omega arith)))) (h .each i x f))
+        subst (N x) (sym (same-part w (i * w) (length done * w) out′ out r (ap (take (length done * w)) (p .is) ∙ written-before (length done * w) numbers out (omega arith)))) (h .each i x f))
         (λ f g.
-        let here = subst (N a) (sym (put-there p (omega arith) m)) n in
+        let e : take w (drop (length done * w) out′) ≡ numbers = ap (λ (ys : List ℕ). take w (drop (length done * w) ys)) (p .is) ∙ written-there (length done * w) numbers out (omega arith) m in
+        let here = subst (N a) (sym e) n in
         subst (λ (j : ℕ). N x (take w (drop (j * w) out′))) (sym f) (subst (λ (y : A). N y (take w (drop (length done * w) out′))) g here));
   }
 
@@ -59,11 +50,7 @@ module _ {A : Type 0} (N : A → List ℕ → Type 0) (w : ℕ) where
     each = λ i x f.
         let r = record-end i (length xs) w (inside xs i x f) in
         let s : take w (drop (i * w) (drop at out)) ≡ take w (drop (i * w) part) =
-        same-part w (i * w) (length part) (drop at out) part (omega (arith, r, l)) (e ∙ sym (take-all-of part))
+        same-part w (i * w) (length part) (drop at out) part (omega (arith, r, l)) (e ∙ sym (take-length part))
         in
         subst (N x) (sym s) (h .each i x f);
   }
-    where
-      take-all-of : (ys : List ℕ) → take (length ys) ys ≡ ys
-      take-all-of [] = refl
-      take-all-of (y ∷ ys) = ap (λ (zs : List ℕ). y ∷ zs) (take-all-of ys)

@@ -1,20 +1,21 @@
 -- Laws of the candidates that bindings leave: their keys lie between two bounds. Assumes nothing.
 use lib.ListN.{length, getD, drop, drop-of-length-le}
-use mathlib.Core.List.{List, [], _∷_, map}
+use mathlib.Core.List.{List, map}
 use mathlib.Core.Path.{_≡_, ap, subst}
 use native.Mathlib.Decide.{decLt}
-use native.Mathlib.Nat.{le-refl, not-suc-le-zero, le-of-suc-le-suc}
+use native.Mathlib.Nat.{le-refl}
 use native.Mathlib.Omega.{arith}
-use Prim.Native.Nat.{ℕ, zero, suc, _+_, _*_, _-_, _^_, _≤_, _<_, zero-le}
+use Prim.Native.Nat.{ℕ, suc, _+_, _*_, _-_, _^_, _≤_, _<_, zero-le}
 use Rattle.meaning.specs.Core.{Assignment}
 use Rattle.meaning.specs.Limits.{keyRoom, maxValues, maxVariables, unused}
-use Rattle.meaning.specs.Ordered.{InOrder, before}
+use Rattle.meaning.specs.Ordered.{InOrder}
 use Rattle.sets.proofs.Rank.{rank-le, rank-above, rank-below}
 use Rattle.sets.specs.Ordered.{rankOf}
 use Rattle.matching.specs.Plan.{stacked, KeyVariables, Bindings, Extends, SpanOf}
 use Rattle.matching.proofs.Bytes.{pow-next, below-room, stacked-drop}
 use Rattle.matching.proofs.Columns.{Small}
 use Rattle.meaning.proofs.Lists.Places.{∈-at}
+use Rattle.meaning.proofs.Lists.OrderedPlaces.{greater-later}
 
 -- the columns from c on have a number between these
 pub record Bounds (vs env : List ℕ) (c low high : ℕ) : Type 0 where
@@ -76,13 +77,6 @@ module _ {vs env : List ℕ} {c low high : ℕ} (b : Bounds vs env c low high) (
     below = λ σ s x. omega (arith, next σ, b .below σ s x, x .at (getD vs (c - 1) 0) n);
   }
 
-ascending-lt : (xs : List ℕ) (i j : ℕ) → InOrder _<_ xs → i < j → j < length xs → getD xs i 0 < getD xs j 0
-ascending-lt [] i j a h l = absurd (not-suc-le-zero l)
-ascending-lt (x ∷ xs) zero zero (before p a) h l = absurd (omega arith)
-ascending-lt (x ∷ xs) zero (suc j) (before p a) h l = p (getD xs j 0) (∈-at xs j (le-of-suc-le-suc l))
-ascending-lt (x ∷ xs) (suc i) zero (before p a) h l = absurd (not-suc-le-zero h)
-ascending-lt (x ∷ xs) (suc i) (suc j) (before p a) h l = ascending-lt xs i j a (le-of-suc-le-suc h) (le-of-suc-le-suc l)
-
 -- a key that is not above x stands at x's rank or before it
 rank-not-above : (x : ℕ) (xs : List ℕ) (i : ℕ) → InOrder _<_ xs → i < length xs → getD xs i 0 ≤ x → i ≤ rankOf x xs
 rank-not-above x xs i a h l = go (decLt (rankOf x xs) i)
@@ -90,7 +84,7 @@ rank-not-above x xs i a h l = go (decLt (rankOf x xs) i)
     go : Dec (rankOf x xs < i) → i ≤ rankOf x xs
     go (no n) = omega (arith, n)
     go (yes k) =
-        absurd (let m = ascending-lt xs (rankOf x xs) i a k h in
+        absurd (let m = greater-later xs a (rankOf x xs) i k h in
         let q = rank-above x xs (rankOf x xs) (omega (arith, m, l)) a (omega (arith, k, h)) in
         omega (arith, q))
 
@@ -115,7 +109,7 @@ module _ {vs env : List ℕ} {low high : ℕ} {c : ℕ} (b : Bounds vs env c low
       where
         go : Dec (to < i) → Dec (i < to) → i < to
         go d (yes m) = m
-        go (yes m) (no n) = absurd (omega (arith, ascending-lt keys to i a m l, not-above, g))
+        go (yes m) (no n) = absurd (omega (arith, greater-later keys a to i m l, not-above, g))
         go (no m) (no n) = absurd (omega (arith, ap (λ j. getD keys j 0) same, not-above, g))
           where
             same : to ≡ i

@@ -1,4 +1,4 @@
--- Lists of value numbers as one number, and small laws of lists. Assumes nothing.
+-- Lists of value numbers as one number. Assumes nothing.
 use lib.ListN.{length, getD, drop}
 use lib.Seq.{drop-cons}
 use mathlib.Core.List.{List, [], _∷_, map}

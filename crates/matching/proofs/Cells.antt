@@ -2,7 +2,6 @@
 use lib.ListN.{length, getD}
 use mathlib.Core.List.{List}
 use mathlib.Core.Path.{_≡_, sym, ap, _∙_}
-use native.Mathlib.Decide.{ℕ-discrete}
 use native.Mathlib.Omega.{arith}
 use Prim.Native.Nat.{ℕ, _+_, _*_, _/_, _≤_, _<_}
 use Rattle.meaning.specs.Core.{Assignment}
@@ -11,6 +10,7 @@ use Rattle.matching.specs.Plan.{Among, CellsAre, columnOf, FirstColumns,
 use Rattle.matching.proofs.FirstColumn.{column-has}
 use Rattle.meaning.specs.Limits.{rowWidth}
 use Rattle.meaning.proofs.Lists.Places.{∈-at}
+use Rattle.meaning.proofs.Lists.Below.{below-next}
 
 -- each variable has the cell of its first column
 abbrev pub cellOf : List ℕ → ℕ → List ℕ → Assignment
@@ -31,11 +31,7 @@ cells-start rows place firsts = record { same = λ d h. absurd (omega (arith, h)
 
 pub cells-again : {rows : List ℕ} {place : ℕ} {firsts : List ℕ} {c : ℕ} → Cells rows place firsts c
     → getD rows (place + c) 0 ≡ getD rows (place + getD firsts c 0) 0 → Cells rows place firsts (c + 1)
-cells-again {rows} {place} {firsts} {c} i e = record { same = λ d h. go d h (ℕ-discrete d c) }
-  where
-    go : (d : ℕ) → d < c + 1 → Dec (d ≡ c) → getD rows (place + d) 0 ≡ getD rows (place + getD firsts d 0) 0
-    go d h (yes q) = rw q e
-    go d h (no n) = i .same d (omega (arith, h, n))
+cells-again {rows} {place} {firsts} i e = record { same = below-next {Q = λ d. getD rows (place + d) 0 ≡ getD rows (place + getD firsts d 0) 0} (i .same) e }
 
 module _ {rows : List ℕ} {place : ℕ} {own firsts : List ℕ} {c : ℕ} (f : FirstColumns own own firsts) (i : Cells rows place firsts c) where
   first-is : (d : ℕ) → d < length own → getD rows (place + getD firsts d 0) 0 ≡ cellOf rows place own (getD own d 0)

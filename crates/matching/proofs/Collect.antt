@@ -16,20 +16,17 @@ use Rattle.meaning.specs.Core.{Assignment}
 use Rattle.meaning.specs.Limits.{rowWidth, unused}
 use Rattle.matching.specs.Plan.{stacked, masked, Among, CellsAre, FirstColumns, KeyFrom, Candidate}
 use Rattle.matching.proofs.Cells.{cellOf, Cells, cells-same, cells-done, columns-are}
-use Rattle.meaning.proofs.Lists.SetLists.{list-as}
+use Rattle.meaning.proofs.Lists.SetLists.{list-as, own-list}
 use Rattle.meaning.proofs.Lists.Members.{map-same}
 
 -- ---- one key
 
 module _ (key n : ℕ) (out out′ : List ℕ) (a : InOrder _<_ (take n out)) where
-  own : ListOf _<_ (λ k. k ∈ take n out) (take n out)
-  own = record { ascending = a; members = λ k. (λ m. m, λ m. m) }
-
   pub store-added : WasAdded n key out out′ → (n + 1 ≤ n + 1) × ListOf _<_ (λ k. (k ≡ key) ⊎ (k ∈ take n out)) (take (n + 1) out′)
-  store-added w = (omega arith, added-list w own)
+  store-added w = (omega arith, added-list w (own-list a))
 
   pub store-present : WasPresent n key out out′ → (n ≤ n + 1) × ListOf _<_ (λ k. (k ≡ key) ⊎ (k ∈ take n out)) (take n out′)
-  store-present w = (omega arith, present-list w own)
+  store-present w = (omega arith, present-list w (own-list a))
 
   pub store-full : n < length out → WasFull n key out out′ → (n ≤ n + 1) × ListOf _<_ (λ k. (k ≡ key) ⊎ (k ∈ take n out)) (take n out′)
   store-full h w = absurd (omega (arith, h, w .full))

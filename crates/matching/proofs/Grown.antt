@@ -1,18 +1,18 @@
 -- Laws of a set of keys that grows: nothing new, some more, one more. Assumes nothing.
 use lib.ListN.{length, take, length-take}
 use mathlib.Core.List.{List, _∷_}
-use mathlib.Core.Logic.{_⊎_, _↔_, inl, inr, ⊎-elim}
+use mathlib.Core.Logic.{_⊎_, _↔_, inl, inr, ⊎-elim, ⊎-swap, ⊎-map}
 use mathlib.Core.Path.{_≡_, sym, subst}
 use native.Mathlib.Omega.{arith}
 use Prim.Native.Nat.{ℕ, _+_, _≤_, _<_}
 use Rattle.meaning.specs.Member.{_∈_, here, there}
-use Rattle.meaning.specs.Ordered.{InOrder, before, ListOf}
+use Rattle.meaning.specs.Ordered.{InOrder, before}
 use Rattle.sets.proofs.Insertion.{added-list, present-list}
 use Rattle.sets.specs.Ordered.{WasAdded, WasPresent, WasFull}
 use Rattle.matching.specs.declared.Heads.{Heads}
 use Rattle.matching.specs.declared.Heads.the-variants.{Listed, Over}
 use Rattle.matching.specs.Plan.{GrownTo, GrownOver, Grown}
-use Rattle.meaning.proofs.Lists.SetLists.{list-as}
+use Rattle.meaning.proofs.Lists.SetLists.{list-as, own-list}
 use Rattle.meaning.proofs.Lists.Counting.{over-sub}
 use Rattle.meaning.proofs.Lists.Ordered.{<-strict, all-different}
 
@@ -21,15 +21,11 @@ pub grown-same : (keys : List ℕ) (n : ℕ) {Q : ℕ → Type 0} → n ≤ leng
     → GrownTo n keys n Q keys
 grown-same keys n h a f = record { room = h; list = record { ascending = a; members = λ k. (λ m. inl m, λ s. ⊎-elim (λ m. m) (f k) s) } }
 
-either : {A B C : Type 0} → (B → C) → A ⊎ B → A ⊎ C
-either f (inl a) = inl a
-either f (inr b) = inr (f b)
-
 pub grown-iff : {keys keys′ : List ℕ} {m n : ℕ} {P Q : ℕ → Type 0} → ((k : ℕ) → P k ↔ Q k) → GrownTo m keys n P keys′ → GrownTo m keys n Q keys′
-grown-iff f g = record { room = g .room; list = list-as (λ k. (either (f k .0), either (f k .1))) (g .list) }
+grown-iff f g = record { room = g .room; list = list-as (λ k. (⊎-map (λ h. h) (f k .0), ⊎-map (λ h. h) (f k .1))) (g .list) }
 
 pub over-iff : {keys : List ℕ} {n : ℕ} {P Q : ℕ → Type 0} → ((k : ℕ) → P k → Q k) → GrownOver keys n P → GrownOver keys n Q
-over-iff f g = record { over = over-sub (λ k. either (f k)) (g .over) }
+over-iff f g = record { over = over-sub (λ k. ⊎-map (λ h. h) (f k)) (g .over) }
 
 part : {A B C : Type 0} → (A ⊎ B) ⊎ C → A ⊎ (B ⊎ C)
 part (inl (inl h)) = inl h
@@ -41,36 +37,25 @@ join (inl h) = inl (inl h)
 join (inr (inl p)) = inl (inr p)
 join (inr (inr q)) = inr q
 
-first : {A B C : Type 0} → (A → B) → A ⊎ C → B ⊎ C
-first f (inl a) = inl (f a)
-first f (inr c) = inr c
-
 module _ {keys keys₁ : List ℕ} {n m : ℕ} {P Q : ℕ → Type 0} (g : GrownTo m keys n P keys₁) (e : length keys₁ ≡ length keys) where
   -- some keys, and then some more
   pub grown-more : {m₂ : ℕ} {keys₂ : List ℕ} → GrownTo m₂ keys₁ m Q keys₂ → GrownTo m₂ keys n (λ k. P k ⊎ Q k) keys₂
   grown-more h = record {
     room = rw e at (h .room);
-    list = list-as (λ k. (λ s. part (first (g .list .members k .0) s), λ s. first (g .list .members k .1) (join s))) (h .list);
+    list = list-as (λ k. (λ s. part (⊎-map (g .list .members k .0) (λ h. h) s), λ s. ⊎-map (g .list .members k .1) (λ h. h) (join s))) (h .list);
   }
 
   pub over-more : GrownOver keys₁ m Q → GrownOver keys n (λ k. P k ⊎ Q k)
-  over-more h = record { over = rw e at (over-sub (λ k s. part (first (g .list .members k .0) s)) (h .over)) }
+  over-more h = record { over = rw e at (over-sub (λ k s. part (⊎-map (g .list .members k .0) (λ h. h) s)) (h .over)) }
 
 -- ---- one key
 
-swap : {A B : Type 0} → A ⊎ B → B ⊎ A
-swap (inl a) = inr a
-swap (inr b) = inl b
-
 module _ (x n : ℕ) (keys keys′ : List ℕ) (a : InOrder _<_ (take n keys)) where
-  own : ListOf _<_ (λ k. k ∈ take n keys) (take n keys)
-  own = record { ascending = a; members = λ k. (λ m. m, λ m. m) }
-
   pub one-added : WasAdded n x keys keys′ → GrownTo (n + 1) keys n (λ k. k ≡ x) keys′
-  one-added w = record { room = omega (arith, w .room); list = list-as (λ k. (swap, swap)) (added-list w own) }
+  one-added w = record { room = omega (arith, w .room); list = list-as (λ k. (⊎-swap, ⊎-swap)) (added-list w (own-list a)) }
 
   pub one-present : n ≤ length keys → WasPresent n x keys keys′ → GrownTo n keys n (λ k. k ≡ x) keys′
-  one-present h w = record { room = h; list = list-as (λ k. (swap, swap)) (present-list w own) }
+  one-present h w = record { room = h; list = list-as (λ k. (⊎-swap, ⊎-swap)) (present-list w (own-list a)) }
 
   pub one-over : WasFull n x keys keys′ → GrownOver keys n (λ k. k ≡ x)
   one-over w = record {

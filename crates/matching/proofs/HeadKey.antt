@@ -13,6 +13,7 @@ use Rattle.matching.specs.Plan.{Bound, AllBound, Bindings, bindingOf, Ke
 use Rattle.matching.specs.declared.keys.Head.the-variants.{Key, Open}
 use Rattle.matching.proofs.Bytes.{pow-next, below-room}
 use Rattle.meaning.proofs.Lists.Places.{∈-at, ∈-index}
+use Rattle.meaning.proofs.Lists.Below.{below-next}
 
 -- the key of the first i variables is made, and they are bound
 pub record Making (vars env : List ℕ) (i key : ℕ) : Type 0 where
@@ -36,13 +37,9 @@ module _ {vars env : List ℕ} {i key : ℕ} (m : Making vars env i key) (h : i 
   making-again k = record {
     within = omega arith;
     small = omega (arith, pow-next i, m .small, making-value k);
-    bound = λ j l. go j l (native.Mathlib.Decide.ℕ-discrete j i);
+    bound = below-next {Q = λ j. Bound env (getD vars j 0)} (m .bound) k;
     is = rw add-one (rw (drop-cons vars i 0 h) at (m .is));
   }
-    where
-      go : (j : ℕ) → j < i + 1 → Dec (j ≡ i) → Bound env (getD vars j 0)
-      go j l (yes e) = rw e k
-      go j l (no n) = m .bound j (omega arith)
 
   pub making-open : getD env (getD vars i 0) 0 ≡ unused → KeyOf Open vars env
   making-open e = (getD vars i 0, ∈-at vars i h, e)

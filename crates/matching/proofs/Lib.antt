@@ -1,5 +1,4 @@
 pub mod Bytes
-pub mod Parts
 pub mod Grown
 pub mod HeadKey
 pub mod Columns
@@ -12,7 +11,6 @@ pub mod Marked
 pub mod Collect
 pub mod Prepare
 pub mod Order
-pub mod Blocks
 pub mod Held
 pub mod Occurrences
 pub mod Matched

@@ -4,7 +4,7 @@ use lib.Dec.{eqb}
 use lib.ListN.{length, getD, set, take, drop, replicate, drop-of-length-le, length-set}
 use lib.Seq.{drop-cons, getD-set-same, getD-set-other, set-out}
 use mathlib.Core.Bool.{cond}
-use mathlib.Core.List.{List, [], _∷_, _++_, foldl, append-assoc}
+use mathlib.Core.List.{List, [], _∷_, _++_, foldl, append-assoc, foldl-append}
 use mathlib.Core.Logic.{_⊎_, inl, inr, ⊎-elim}
 use mathlib.Core.Path.{_≡_, refl, sym, _∙_}
 use native.Mathlib.Decide.{ℕ-discrete, decLt}
@@ -43,10 +43,6 @@ module _ {seen own : List ℕ} {i : ℕ} {marks : List ℕ} (m : Marking seen ow
   marking-done h = rw drop-of-length-le at (m .is)
 
 -- ---- all atoms, then the head
-
-foldl-append : (f : List ℕ → ℕ → List ℕ) (b : List ℕ) (xs ys : List ℕ) → foldl f b (xs ++ ys) ≡ foldl f (foldl f b xs) ys
-foldl-append f b [] ys = refl
-foldl-append f b (x ∷ xs) ys = foldl-append f (f b x) xs ys
 
 -- the variables of the first j atoms are marked
 pub record Freshening (atoms : List ℕ) (count : ℕ) (vars : List ℕ) (j : ℕ) (seen : List ℕ) : Type 0 where

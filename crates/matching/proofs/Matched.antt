@@ -17,20 +17,15 @@ use Rattle.meaning.specs.Member.{_∈_}
 use Rattle.meaning.specs.Pack.{Row, Atom}
 use Rattle.meaning.specs.Tables.{packed, rowNumbers, atomNumbers}
 use Rattle.meaning.proofs.Lists.Members.{map-same, ∈-dec}
-use Rattle.meaning.proofs.Lists.Places.{∈-at, ∈-index}
+use Rattle.meaning.proofs.Lists.Places.{zeros-at, ∈-at, ∈-index}
 use Rattle.meaning.proofs.Cases.{case-on}
 use Rattle.matching.specs.Plan.{stacked, masked, variablesAt, variablesFrom, candidatesAt, marked, Bound, Bindings, SameVariables, Prepared, Solution}
 use Rattle.matching.specs.Rule.{RuleHeld, HeadKey}
-use Rattle.matching.proofs.Blocks.{BlockAt, block-of, block-at, whole, flat-length}
 use Rattle.matching.proofs.Bytes.{stacked-same}
 use Rattle.matching.proofs.Held.{atom-wide, row-wide, atom-relation, atom-variables, row-relation, row-cell, row-within, map-at, map-long}
 use Rattle.matching.proofs.Marked.{times, marks-once, marks-small, marks-long}
 use Rattle.matching.proofs.Occurrences.{times-append, times-in, from-in, from-twice}
-
-zeros : (n v : ℕ) → _≡_ {A = ℕ} (getD (replicate n 0) v 0) 0
-zeros zero v = refl
-zeros (suc n) zero = refl
-zeros (suc n) (suc v) = zeros n v
+use Rattle.meaning.proofs.Lists.Blocks.{BlockAt, block-at, block-of, length-flat, whole}
 
 -- one of two numbers
 unfoldable pick : {A : Type 0} → Dec A → ℕ → ℕ → ℕ
@@ -50,26 +45,26 @@ pick-second (no n) x y f = refl
 module _ {rows : List Row} {atoms : List Atom} {vars rowN atomN : List ℕ} {count : ℕ} {varN : List ℕ} {varCount : ℕ}
     (h : RuleHeld rows atoms vars rowN atomN count varN varCount) where
   -- atom j, and the place of an atom
-  pub atom-at : (j : ℕ) → j < count → (a : Atom) × (a ∈ atoms) × BlockAt atomWidth atomNumbers atom-wide atomN j a
-  atom-at j l = block-at atomWidth atomNumbers atom-wide atoms atomN (h .atomsHeld .are) j (rw (h .atomsCounted) at l)
+  pub atom-at : (j : ℕ) → j < count → (a : Atom) × (a ∈ atoms) × BlockAt atomNumbers atomWidth atom-wide atomN j a
+  atom-at j l = block-at atomNumbers atomWidth atom-wide atoms atomN (h .atomsHeld .are) j (rw (h .atomsCounted) at l)
 
-  pub atom-of : (a : Atom) → a ∈ atoms → (j : ℕ) × (j < count) × BlockAt atomWidth atomNumbers atom-wide atomN j a
-  atom-of a m = let r = block-of atomWidth atomNumbers atom-wide atoms atomN (h .atomsHeld .are) a m in (r .0, rw (h .atomsCounted) (r .1), r .2)
+  pub atom-of : (a : Atom) → a ∈ atoms → (j : ℕ) × (j < count) × BlockAt atomNumbers atomWidth atom-wide atomN j a
+  atom-of a m = let r = block-of atomNumbers atomWidth atom-wide atoms atomN (h .atomsHeld .are) a m in (r .0, rw (h .atomsCounted) (r .1), r .2)
 
   pub rows-long : length rowN ≡ length rows * rowWidth
-  rows-long = ap length (h .rowsHeld .are) ∙ flat-length rowWidth rowNumbers row-wide rows
+  rows-long = ap length (h .rowsHeld .are) ∙ length-flat rowNumbers rowWidth row-wide rows
 
-  pub row-at : (r : ℕ) → suc r * rowWidth ≤ length rowN → (x : Row) × (x ∈ rows) × BlockAt rowWidth rowNumbers row-wide rowN r x
-  row-at r l = block-at rowWidth rowNumbers row-wide rows rowN (whole rowWidth rowNumbers row-wide rows rowN (h .rowsHeld .are)) r (omega (arith, l, rows-long))
+  pub row-at : (r : ℕ) → suc r * rowWidth ≤ length rowN → (x : Row) × (x ∈ rows) × BlockAt rowNumbers rowWidth row-wide rowN r x
+  row-at r l = block-at rowNumbers rowWidth row-wide rows rowN (whole rowNumbers rowWidth row-wide rows rowN (h .rowsHeld .are)) r (omega (arith, l, rows-long))
 
-  pub row-of : (x : Row) → x ∈ rows → (r : ℕ) × (r < length rows) × BlockAt rowWidth rowNumbers row-wide rowN r x
-  row-of x m = block-of rowWidth rowNumbers row-wide rows rowN (whole rowWidth rowNumbers row-wide rows rowN (h .rowsHeld .are)) x m
+  pub row-of : (x : Row) → x ∈ rows → (r : ℕ) × (r < length rows) × BlockAt rowNumbers rowWidth row-wide rowN r x
+  row-of x m = block-of rowNumbers rowWidth row-wide rows rowN (whole rowNumbers rowWidth row-wide rows rowN (h .rowsHeld .are)) x m
 
   module _ (orders : List ℕ) {start : List ℕ} (s : start ≡ foldl marked (replicate maxVariables 0) (variablesFrom orders 0 count ++ take varCount varN)) where
     pub start-bindings : Bindings start
     start-bindings = record {
       long = ap length s ∙ marks-long (replicate maxVariables 0) (variablesFrom orders 0 count ++ take varCount varN);
-      small = λ v b. rw s (marks-small v (replicate maxVariables 0) (variablesFrom orders 0 count ++ take varCount varN) (λ n. omega (arith, zeros maxVariables v)) (rw s at b));
+      small = λ v b. rw s (marks-small v (replicate maxVariables 0) (variablesFrom orders 0 count ++ take varCount varN) (λ n. omega (arith, zeros-at maxVariables v)) (rw s at b));
     }
 
   module _ {orders start cands counts : List ℕ} (t : SameVariables atomN orders count) (s : start ≡ foldl marked (replicate maxVariables 0) (variablesFrom orders 0 count ++ take varCount varN))

@@ -2,7 +2,7 @@
 use borrow.Author.Tests.{eq-eqb, ne-eqb}
 use lib.Dec.{eqb}
 use lib.ListN.{length, getD, set, take, drop, length-take, length-drop, length-set}
-use lib.Seq.{getD-take, getD-drop, getD-set-same, getD-set-other, ext-getD}
+use lib.Seq.{getD-take, getD-drop, getD-set-same, getD-set-other}
 use mathlib.Core.List.{List}
 use mathlib.Core.Logic.{_⊎_, _↔_, inl, inr}
 use mathlib.Core.Path.{_≡_, refl, sym, ap, _∙_, subst}
@@ -16,6 +16,7 @@ use Rattle.matching.specs.Plan.{rankBy, Ranked, Written, KeyVariables, A
 use Rattle.meaning.specs.Limits.{atomsLength, atomWidth, maxAtoms, maxColumns, maxVariables}
 use Rattle.meaning.proofs.Lists.SetLists.{list-as}
 use Rattle.meaning.proofs.Lists.Places.{∈-at, ∈-index}
+use Rattle.meaning.proofs.Lists.Parts.{part-same}
 
 -- ---- ranks
 
@@ -146,18 +147,6 @@ ordering-start atoms count orders e = record {
   arity = λ i h. absurd (omega (arith, h));
   same = λ i h. absurd (omega (arith, h));
 }
-
--- equal numbers at the places from a on
-part-same : (a k : ℕ) (xs ys : List ℕ) → length xs ≡ length ys → ((i : ℕ) → i < a + k → getD xs i 0 ≡ getD ys i 0) → take k (drop a xs) ≡ take k (drop a ys)
-part-same a k xs ys l h = ext-getD 0 (take k (drop a xs)) (take k (drop a ys)) long same
-  where
-    long : length (take k (drop a xs)) ≡ length (take k (drop a ys))
-    long = omega (arith, l, length-take k (drop a xs), length-take k (drop a ys), length-drop a xs, length-drop a ys)
-
-    same : (c : ℕ) → c < length (take k (drop a xs)) → getD (take k (drop a xs)) c 0 ≡ getD (take k (drop a ys)) c 0
-    same c u =
-        let b : c < k = omega (arith, u, length-take k (drop a xs)) in
-        getD-take k (drop a xs) c 0 b ∙ getD-drop a xs c 0 ∙ h (a + c) (omega (arith, b)) ∙ sym (getD-drop a ys c 0) ∙ sym (getD-take k (drop a ys) c 0 b)
 
 module _ {atoms : List ℕ} {count j : ℕ} {orders : List ℕ} (o : Ordering atoms count j orders) (h : j < count) (below : AtomsBelow atoms count)
     {own seen ranks next : List ℕ} (q : own ≡ variablesAt atoms j) (few : length ranks ≤ length own) (g : ListOf _<_ (Ranked own seen) ranks)

@@ -1,15 +1,15 @@
 -- Laws of collecting each atom's candidates in its own part of a slice. Assumes nothing.
-use lib.ListN.{length, getD, set, take, drop, length-take, length-drop, length-set, length-append}
+use lib.ListN.{length, getD, set, take, drop, length-take, length-drop, length-set}
 use lib.Seq.{getD-set-same, getD-set-other}
 use mathlib.Core.List.{List, _++_}
 use mathlib.Core.Path.{_≡_, refl, _∙_}
 use native.Mathlib.Decide.{ℕ-discrete}
 use native.Mathlib.Omega.{arith}
 use Prim.Native.Nat.{ℕ, _+_, _*_, _-_, _≤_, _<_, zero-le}
-use Rattle.matching.proofs.Parts.{kept-front, put-there}
 use Rattle.meaning.specs.Ordered.{ListOf}
 use Rattle.matching.specs.Plan.{variablesAt, candidatesAt, Candidate, Prepared}
 use Rattle.meaning.specs.Limits.{atomWidth, candidatesLength, maxAtoms, maxRows}
+use Rattle.meaning.proofs.Lists.Overwriting.{kept-front, part-replaced, put-there}
 
 -- the candidates of the first j atoms are listed
 pub record Preparing (rows atoms orders start : List ℕ) (count : ℕ) (out₀ : List ℕ) (j : ℕ) (out counts : List ℕ) : Type 0 where
@@ -50,20 +50,7 @@ module _ {rows atoms orders start : List ℕ} {count : ℕ} {out₀ : List ℕ} 
     counted-small = omega (arith, w .0, part-length)
 
     long-is : length (take (j * maxRows) out ++ (ys ++ drop (j * maxRows + maxRows - j * maxRows) (drop (j * maxRows) out))) ≡ length out
-    long-is = omega (
-      arith,
-      h,
-      few,
-      room,
-      p .long,
-      l,
-      part-length,
-      length-append (take (j * maxRows) out) (ys ++ drop (j * maxRows + maxRows - j * maxRows) (drop (j * maxRows) out)),
-      length-append ys (drop (j * maxRows + maxRows - j * maxRows) (drop (j * maxRows) out)),
-      length-take (j * maxRows) out,
-      length-drop (j * maxRows + maxRows - j * maxRows) (drop (j * maxRows) out),
-      length-drop (j * maxRows) out,
-    )
+    long-is = part-replaced (j * maxRows) (j * maxRows + maxRows - j * maxRows) out ys l
 
     pub prepare-again : Preparing rows atoms orders start count out₀ (j + 1) (take (j * maxRows) out ++ (ys ++ drop (j * maxRows + maxRows - j * maxRows) (drop (j * maxRows) out))) (set counts j n)
     prepare-again = record {

@@ -5,7 +5,7 @@ use mathlib.Core.List.{List, map}
 use mathlib.Core.Logic.{_⊎_, _↔_, inl, inr, ⊎-elim}
 use mathlib.Core.Path.{_≡_, refl, sym, ap, _∙_, subst}
 use native.Mathlib.Decide.{ℕ-discrete}
-use native.Mathlib.Nat.{mod-eq-of-lt}
+use native.Mathlib.Nat.{add-sub-cancel-left, mod-eq-of-lt}
 use native.Mathlib.Omega.{arith}
 use Prim.Native.Nat.{ℕ, _+_, _*_, _-_, _%_, _^_, _≤_, _<_}
 use Rattle.meaning.specs.Core.{Assignment}
@@ -191,11 +191,5 @@ module _ {atoms : List ℕ} {count : ℕ} {vars cands counts : List ℕ} (p : Pl
 
 -- ---- a part from a on, of k elements, as code names it
 
-count-is : (a k : ℕ) → a + k - a ≡ k
-count-is a k = omega arith
-
-pub as-part : (P : List ℕ → Type 0) (a k : ℕ) (xs : List ℕ) → P (take k xs) → P (take (a + k - a) xs)
-as-part P a k xs h = rw (count-is a k) h
-
 pub span-parts : (s : Span) (a k b m : ℕ) (xs env ys : List ℕ) → SpanOf s (take (a + k - a) xs) env (take (b + m - b) ys) → SpanOf s (take k xs) env (take m ys)
-span-parts s a k b m xs env ys h = rw (count-is a k, count-is b m) at h
+span-parts s a k b m xs env ys h = rw (add-sub-cancel-left a k, add-sub-cancel-left b m) at h

@@ -5,7 +5,7 @@ use mathlib.Core.Bool.{Bool, true, false, _&&_, _||_, true≢false}
 use mathlib.Core.Option.{Option, none, some}
 use mathlib.Core.Path.{_≡_, refl, sym, _∙_}
 use native.Mathlib.Omega.{arith}
-use Prim.Native.Nat.{ℕ, zero, suc, _≤_, _<_, _%_}
+use Prim.Native.Nat.{ℕ, zero, suc, _+_, _≤_, _<_, _%_}
 
 pub case-on : {P : Type 0} (b : Bool) → (b ≡ true → P) → (b ≡ false → P) → P
 case-on true f g = f refl
@@ -17,6 +17,9 @@ case-some (some a) f g = g a refl
 
 pub case-lt : {P : Type 0} (a b : ℕ) → (a < b → P) → (b ≤ a → P) → P
 case-lt a b f g = case-on (ltb a b) (λ e. f (ltb-true a b e)) (λ e. g (ltb-false a b e))
+
+pub case-last : {P : Type 0} {n : ℕ} (k : ℕ) → k < n + 1 → (k < n → P) → (k ≡ n → P) → P
+case-last {n = n} k h f g = case-lt k n f (λ l. g (omega arith))
 
 pub even-or-odd : {P : Type 0} (n : ℕ) → (n % 2 ≡ 0 → P) → (n % 2 ≡ 1 → P) → P
 even-or-odd {P} n f g = go (n % 2) refl

@@ -28,19 +28,10 @@ use Rattle.meaning.specs.NoGraph.{MixedKinds, iriLiteral, literalTyped, mixedSe
 use Rattle.meaning.specs.Pack.{Literal, Pack, type}
 use Rattle.meaning.specs.Tables.{setOfMask}
 use Rattle.meaning.specs.TypeSet.{TypeSet, bit, _∈ₜ_}
-use Rattle.sets.proofs.Lowest.{lowest}
+use Rattle.meaning.proofs.Lists.Below.{NoneBelow}
+use Rattle.meaning.proofs.Lists.Lowest.{lowest}
 
 -- ---- a search
-
-pub record NoneBelow (Q : ℕ → Type 0) (i : ℕ) : Type 0 where
-  pub none : (j : ℕ) → j < i → ¬ Q j
-
-pub none-again : {Q : ℕ → Type 0} {i : ℕ} → NoneBelow Q i → ¬ Q i → NoneBelow Q (i + 1)
-none-again {Q} {i} n k = record { none = λ j h. go j h (ℕ-discrete j i) }
-  where
-    go : (j : ℕ) → j < i + 1 → Dec (j ≡ i) → ¬ Q j
-    go j h (yes e) q = k (subst Q e q)
-    go j h (no d) q = n .none j (omega arith) q
 
 pub found-at : {Q : ℕ → Type 0} (i n : ℕ) → i < n → Q i → T true ↔ Somewhere Q n
 found-at i n h q = (λ t. record { at = i; below = h; holds = q }, λ s. tt)
@@ -88,7 +79,7 @@ module _ {P : Pack} {table : List (List ℕ)} {nodes triples masks : List ℕ} (
       i = s .at
 
       go : NodeAt I i → T (mixedNode (getD nodes i 0) (getD masks i 0)) → MixedKinds P
-      go n t = by (n .node) (n .inCore) (n .is) (subst (λ k. T (mixedNode k (getD masks i 0))) (entry-is nodes i (keyOf (n .node)) (n .is)) t)
+      go n t = by (n .node) (n .inCore) (n .is) (subst (λ k. T (mixedNode k (getD masks i 0))) (entry-is nodes i (keyOf (n .node)) 0 (n .is)) t)
         where
           by : (m : Node) → CoreNode P m → getElem? nodes i ≡ some (keyOf m) → T (mixedNode (keyOf m) (getD masks i 0)) → MixedKinds P
           by (iriNode c vs) k e q =
@@ -108,7 +99,7 @@ module _ {P : Pack} {table : List (List ℕ)} {nodes triples masks : List ℕ} (
       record {
         at = i;
         below = inside nodes i (keyOf (literalNode v)) e;
-        holds = subst (λ k. T (mixedNode k (getD masks i 0))) (sym (entry-is nodes i (keyOf (literalNode v)) e))
+        holds = subst (λ k. T (mixedNode k (getD masks i 0))) (sym (entry-is nodes i (keyOf (literalNode v)) 0 e))
             (subst T (mixed-literal (keyOf (literalNode v)) (getD masks i 0) (literal-key v)) (not-eq-T (getD masks i 0 % literalWeight) (has-some t (getD masks i 0 % literalWeight) h)));
       }
 
@@ -122,7 +113,7 @@ module _ {P : Pack} {table : List (List ℕ)} {nodes triples masks : List ℕ} (
       record {
         at = i;
         below = inside nodes i (keyOf (iriNode c vs)) e;
-        holds = subst (λ x. T (mixedNode x (getD masks i 0))) (sym (entry-is nodes i (keyOf (iriNode c vs)) e))
+        holds = subst (λ x. T (mixedNode x (getD masks i 0))) (sym (entry-is nodes i (keyOf (iriNode c vs)) 0 e))
             (subst T (mixed-iri (keyOf (iriNode c vs)) (getD masks i 0) (iri-key-lt P (I .bounded) c vs (proper P (well I) n))) (masked I (iriNode c vs) i n e .types Literal .1 k));
       }
 

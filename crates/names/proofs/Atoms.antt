@@ -13,10 +13,11 @@ use Rattle.meaning.specs.Tables.{atomNumbers}
 use Rattle.meaning.specs.Tests.{elem}
 use Rattle.meaning.specs.WellFormed.{goodAtom, hasArity}
 use Rattle.meaning.proofs.Lists.Members.{element}
+use Rattle.meaning.proofs.Lists.Padding.{unpadded}
 use Rattle.meaning.proofs.Lists.Places.{there-is}
 use Rattle.names.specs.Rule.{AtomsAt}
 use Rattle.names.proofs.Counted.{held-at}
-use Rattle.meaning.proofs.Lists.Parts.{first-at, number-at, slice-at, unpadded}
+use Rattle.meaning.proofs.Lists.Parts.{first-at, number-at, slice-at}
 
 module _ {as′ : List Atom} {numbers : List ℕ} {first n : ℕ} (g : AtomsAt as′ numbers first n) where
   module _ (i : ℕ) (a : Atom) (e : getElem? as′ i ≡ some a) where

@@ -1,6 +1,6 @@
 -- A row's numbers, and whether it is good. Assumes nothing.
 use borrow.Author.Tests.{le-ltb, ne-eqb}
-use lib.Dec.{eqb, ltb}
+use lib.Dec.{eqb, eqb·suc-suc, ltb}
 use lib.ListN.{drop, getD, getElem?, length, length-append, length-take, replicate, take}
 use lib.Seq.{length-take-le, slice, take-take}
 use mathlib.Core.Bool.{Bool, true, false, _&&_}
@@ -8,7 +8,7 @@ use mathlib.Core.List.{List, [], _∷_, _++_}
 use mathlib.Core.Option.{some}
 use mathlib.Core.Path.{_≡_, refl, sym, ap, _∙_}
 use native.Mathlib.Omega.{arith}
-use Prim.Native.Nat.{compare·suc-suc, ℕ, zero, suc, _+_, _*_, _-_, _≤_, _<_}
+use Prim.Native.Nat.{ℕ, zero, suc, _+_, _*_, _≤_, _<_}
 use Rattle.meaning.specs.Limits.{maxColumns, maxRows, relationsAt, rowWidth, unused}
 use Rattle.meaning.specs.Member.{_∈_, here, there}
 use Rattle.meaning.specs.Pack.{Pack, Row}
@@ -19,7 +19,8 @@ use Rattle.meaning.proofs.Lists.Members.{element}
 use Rattle.meaning.proofs.Lists.Places.{inside}
 use Rattle.names.specs.Given.{PackGiven, RowAt, SettingGiven}
 use Rattle.names.proofs.Counted.{arity-none, arity-small, arity-there, count-at}
-use Rattle.meaning.proofs.Lists.Parts.{first-at, flat-at, length-flat, part-of, slice-at}
+use Rattle.meaning.proofs.Lists.Parts.{first-at, part-of, slice-at}
+use Rattle.meaning.proofs.Lists.Blocks.{flat-at, length-flat}
 
 -- ---- the cells
 
@@ -34,9 +35,6 @@ all-spare zero p h = refl
 all-spare (suc n) zero h = refl
 all-spare (suc n) (suc p) h = all-spare n p (omega arith)
 
-eqb-suc : (a b : ℕ) → eqb (suc a) (suc b) ≡ eqb a b
-eqb-suc a b = rw (compare·suc-suc a b)
-
 -- the first k cells are below n and the others unused: there are k, all below n
 pub cells-good : (n : ℕ) → n ≤ unused → (cells : List ℕ) (k w p : ℕ) → k ≤ w → w ≤ p → length cells ≤ w → ((v : ℕ) → v ∈ cells → v < unused)
     → (every (below n) (take k (take w (cells ++ replicate p unused))) && every spare (drop k (take w (cells ++ replicate p unused))))
@@ -46,7 +44,7 @@ cells-good n h [] (suc k) (suc w) (suc p) a b c f = rw (le-ltb unused n h, ne-eq
 cells-good n h (x ∷ xs) zero (suc w) p a b c f = rw (ne-eqb x unused (λ e. let q = f x (here refl) in omega arith), ne-eqb (suc (length xs)) 0 (λ e. omega arith))
 cells-good n h (x ∷ xs) (suc k) (suc w) p a b c f =
     let l = take w (xs ++ replicate p unused) in
-    rw (eqb-suc (length xs) k)
+    rw (eqb·suc-suc (length xs) k)
     (moved (ltb x n) (every (below n) (take k l)) (every spare (drop k l)) (eqb (length xs) k) (every (below n) xs)
     (cells-good n h xs k w p (omega arith) (omega arith) (omega arith) (λ v m. f v (there m))))
   where

@@ -1,17 +1,17 @@
 -- A setting's counts, and its relations and constructors by their arities. Assumes nothing.
 use lib.ListN.{drop, getD, getElem?, length, length-map, take}
 use lib.Seq.{drop-drop, getD-take}
-use mathlib.Core.List.{List, [], _∷_, map}
-use mathlib.Core.Option.{none, some, Option·none-ne-some, Option·some-injective}
+use mathlib.Core.List.{List, [], _∷_}
+use mathlib.Core.Option.{none, some}
 use mathlib.Core.Path.{_≡_, refl, sym, ap, subst, _∙_}
 use native.Mathlib.Omega.{arith}
-use Prim.Native.Nat.{ℕ, zero, suc, _+_, _*_, _≤_, _<_}
+use Prim.Native.Nat.{ℕ, _+_, _*_, _≤_, _<_}
 use Rattle.records.specs.Held.{Held, countsOf}
 use Rattle.meaning.specs.Limits.{constructorWidth, constructorsAt, maxColumns, maxConstructors, maxRelations, relationWidth, relationsAt}
 use Rattle.meaning.specs.Pack.{Constructor, Pack}
 use Rattle.meaning.specs.WellFormed.{constructorArities}
 use Rattle.meaning.proofs.Lists.Members.{element}
-use Rattle.meaning.proofs.Lists.Places.{entry-none, there-is}
+use Rattle.meaning.proofs.Lists.Places.{entry-map, entry-none, there-is}
 use Rattle.names.specs.Given.{SettingGiven}
 use Rattle.meaning.proofs.Lists.Parts.{first-at}
 
@@ -19,11 +19,6 @@ use Rattle.meaning.proofs.Lists.Parts.{first-at}
 pub held-at : {A : Type 0} {N : A → List ℕ → Type 0} {w : ℕ} {xs : List A} {at : ℕ} {numbers : List ℕ} → Held N w xs at numbers
     → (i : ℕ) (x : A) → getElem? xs i ≡ some x → N x (take w (drop (at + i * w) numbers))
 held-at {A} {N} {w} {xs} {at} {numbers} h i x e = subst (λ (l : List ℕ). N x (take w l)) (drop-drop (i * w) at numbers) (h .each i x e)
-
-mapped : {A B : Type 0} (f : A → B) (l : List A) (i : ℕ) (x : A) → getElem? l i ≡ some x → getElem? (map f l) i ≡ some (f x)
-mapped f [] i x e = absurd (Option·none-ne-some x e)
-mapped f (y ∷ l) zero x e = ap some (ap f (Option·some-injective y x e))
-mapped f (y ∷ l) (suc i) x e = mapped f l i x e
 
 module _ {P : Pack} {counts numbers : List ℕ} (g : SettingGiven P counts numbers) where
   pub count-at : (k : ℕ) → k < 8 → getD counts k 0 ≡ getD (countsOf (P .setting)) k 0
@@ -63,4 +58,4 @@ module _ {P : Pack} {counts numbers : List ℕ} (g : SettingGiven P counts numbe
   arguments-there {i} h =
       let q = there-is (P .setting .constructors) i (omega (arith, constructors-many)) in
       let a = first-at numbers _ (constructorsAt + i * constructorWidth) constructorWidth refl (omega arith) ∙ held-at (g .bare .arities) i (q .0) (q .1) in
-      mapped (λ (k : Constructor). k .arity) (P .setting .constructors) i (q .0) (q .1) ∙ ap some (sym a)
+      entry-map (λ (k : Constructor). k .arity) (P .setting .constructors) i (q .0) (q .1) ∙ ap some (sym a)

@@ -1,28 +1,20 @@
 -- A head's numbers: whether what it names is there; and its variables apart. Assumes nothing.
 use lib.Dec.{eqb, ltb}
 use lib.ListN.{getD}
-use mathlib.Core.Bool.{Bool, true, false, _&&_}
-use mathlib.Core.List.{List, [], _∷_, _++_}
-use mathlib.Core.Path.{_≡_, refl, ap, _∙_}
+use mathlib.Core.Bool.{Bool, true, false, _&&_, and-assoc, and-true}
+use mathlib.Core.List.{List, [], _∷_}
+use mathlib.Core.Path.{_≡_, refl, ap, _∙_, sym}
 use native.Mathlib.Omega.{arith}
 use Prim.Native.Nat.{ℕ, _+_}
 use Rattle.meaning.specs.Limits.{headWidth}
 use Rattle.meaning.specs.Pack.{Atom, Head, Pack, hasType, linksTo, linksToValue}
 use Rattle.meaning.specs.Tables.{headArguments, headNumbers}
-use Rattle.meaning.specs.Tests.{every}
 use Rattle.meaning.specs.WellFormed.{constructorArities, goodHead, goodPredicate, goodType, hasArity, inAtoms}
 use Rattle.names.specs.Given.{SettingGiven}
 use Rattle.names.specs.Rule.{HeadAt, headNamed, termNamed}
 use Rattle.names.proofs.Counted.{count-at}
 use Rattle.meaning.proofs.Lists.Parts.{first-at, number-at}
-
-and-assoc : (a b c : Bool) → (a && (b && c)) ≡ (a && b && c)
-and-assoc true b c = refl
-and-assoc false b c = refl
-
-and-true : (a : Bool) → (a && true) ≡ a
-and-true true = refl
-and-true false = refl
+use Rattle.meaning.proofs.Lists.Members.{every-append}
 
 abbrev pub pick : Bool → Bool → Bool → Bool
 pick true a b = a
@@ -46,7 +38,7 @@ named : (P : Pack) (h : Head)
     ≡ headNamed P h
 unfolding headNumbers
 named P (hasType s t) = refl
-named P (linksTo s p o) = and-assoc (termNamed P s) (goodPredicate P p) (termNamed P o)
+named P (linksTo s p o) = sym (and-assoc (termNamed P s) (goodPredicate P p) (termNamed P o))
 named P (linksToValue s p v) = ap (λ (b : Bool). termNamed P s && b) (and-true (goodPredicate P p))
 
 pub head-named : {P : Pack} {counts numbers : List ℕ} → SettingGiven P counts numbers → {at : ℕ} {h : Head} → HeadAt h numbers at
@@ -66,10 +58,6 @@ head-named {P} {counts} {numbers} g {at} {h} a =
     (named P h)
 
 -- ---- a head is good: what it names is there, and all its variables are in atoms
-
-every-append : {A : Type 0} (f : A → Bool) (xs ys : List A) → every f (xs ++ ys) ≡ (every f xs && every f ys)
-every-append f [] ys = refl
-every-append f (x ∷ xs) ys = ap (λ (b : Bool). f x && b) (every-append f xs ys) ∙ and-assoc (f x) (every f xs) (every f ys)
 
 swap : (a i t : Bool) → ((a && t) && i) ≡ ((a && i) && t)
 swap true true true = refl

@@ -1,4 +1,3 @@
-pub mod Records
 pub mod Counted
 pub mod Cells
 pub mod Dependency

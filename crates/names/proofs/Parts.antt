@@ -11,7 +11,9 @@ use Rattle.meaning.specs.Pack.{Atom, Head, Rule, hasType, linksTo, linksToValue
 use Rattle.meaning.specs.Tables.{atomNumbers, headArguments, headNumbers, ruleNumbers}
 use Rattle.meaning.proofs.Lists.Places.{inside}
 use Rattle.names.specs.Rule.{AtomsAt, HeadAt, RuleAt}
-use Rattle.meaning.proofs.Lists.Parts.{first-at, flat-at, length-flat, number-at, part-of, unpadded, slice-by}
+use Rattle.meaning.proofs.Lists.Parts.{first-at, number-at, part-of, slice-by}
+use Rattle.meaning.proofs.Lists.Blocks.{flat-at, length-flat}
+use Rattle.meaning.proofs.Lists.Padding.{unpadded}
 
 -- where they are: how many variables, these, the head
 abbrev pub countAt : ℕ

@@ -1,7 +1,7 @@
 -- What refusal 4 leaves: a pack that is read from bytes is within the bounds of refusal 7. Assumes nothing.
 use borrow.Author.Tests.{eqb-false, leb-true}
 use lib.Dec.{eqb, leb}
-use lib.ListN.{drop, length, length-append, take}
+use lib.ListN.{drop, length, length-append}
 use mathlib.Core.Bool.{Bool, true, false, cond}
 use mathlib.Core.List.{List, [], _∷_}
 use mathlib.Core.Logic.{_≢_}
@@ -23,45 +23,16 @@ use Rattle.pack.proofs.Bounds.{constructor-bounded, rule-fine}
 use Rattle.meaning.proofs.Cases.{and-both}
 use Rattle.pack.proofs.Unpacking.{unpacked}
 use Rattle.names.specs.Given.{Bounds, PackGiven, RowBounds, TargetBound}
-
--- every number is a byte
-pub record Bytes (s : List ℕ) : Type 0 where
-  pub each : (x : ℕ) → x ∈ s → x < 256
-
-bytes-nil : Bytes []
-bytes-nil = record { each = λ x m. elim m [ ] }
-
-bytes-cons : {b : ℕ} {s : List ℕ} → b < 256 → Bytes s → Bytes (b ∷ s)
-bytes-cons {b} {s} h t = record { each = go }
-  where
-    go : (x : ℕ) → x ∈ (b ∷ s) → x < 256
-    go x (here e) = omega (arith, e)
-    go x (there m) = t .each x m
-
-bytes-first : {b : ℕ} {s : List ℕ} → Bytes (b ∷ s) → b < 256
-bytes-first t = t .each _ (here refl)
-
-bytes-rest : {b : ℕ} {s : List ℕ} → Bytes (b ∷ s) → Bytes s
-bytes-rest t = record { each = λ x m. t .each x (there m) }
-
-bytes-drop : (n : ℕ) (s : List ℕ) → Bytes s → Bytes (drop n s)
-bytes-drop zero s t = t
-bytes-drop (suc n) [] t = t
-bytes-drop (suc n) (x ∷ s) t = bytes-drop n s (bytes-rest t)
-
-bytes-take : (n : ℕ) (s : List ℕ) → Bytes s → Bytes (take n s)
-bytes-take zero s t = bytes-nil
-bytes-take (suc n) [] t = t
-bytes-take (suc n) (x ∷ s) t = bytes-cons (bytes-first t) (bytes-take n s (bytes-rest t))
+use Rattle.meaning.proofs.Lists.Bytes.{AllBytes, bytes-cons, bytes-drop, bytes-first, bytes-nil, bytes-rest, bytes-take}
 
 -- ---- readers: what each gives of bytes, and that bytes are left
 
 record Gives {A : Type 0} (m : Reader A) (Q : A → Type 0) : Type 0 where
-  gives : (s : List ℕ) (r : Read A) → Bytes s → m s ≡ some r → Q (r .got) × Bytes (r .rest)
+  gives : (s : List ℕ) (r : Read A) → AllBytes s → m s ≡ some r → Q (r .got) × AllBytes (r .rest)
 
 module _ {A : Type 0} {Q : A → Type 0} where
   gives-give : (a : A) → Q a → Gives (give a) Q
-  gives-give a q = record { gives = λ s r t e. subst (λ (x : Read A). Q (x .got) × Bytes (x .rest)) (Option·some-injective _ r e) (q, t) }
+  gives-give a q = record { gives = λ s r t e. subst (λ (x : Read A). Q (x .got) × AllBytes (x .rest)) (Option·some-injective _ r e) (q, t) }
 
   gives-only : (b : Bool) (a : A) → (b ≡ true → Q a) → Gives (only b a) Q
   gives-only true a f = gives-give a (f refl)
@@ -70,7 +41,7 @@ module _ {A : Type 0} {Q : A → Type 0} where
 gives-then : {A B : Type 0} {Q : A → Type 0} {R : B → Type 0} {m : Reader A} (f : A → Reader B) → Gives m Q → ((a : A) → Q a → Gives (f a) R) → Gives (_>>=_ m f) R
 gives-then {A} {B} {Q} {R} {m} f g h = record { gives = λ s r t e. go s r t (m s) refl e }
   where
-    go : (s : List ℕ) (r : Read B) → Bytes s → (o : Option (Read A)) → m s ≡ o → next o f ≡ some r → R (r .got) × Bytes (r .rest)
+    go : (s : List ℕ) (r : Read B) → AllBytes s → (o : Option (Read A)) → m s ≡ o → next o f ≡ some r → R (r .got) × AllBytes (r .rest)
     go s r t none e n = absurd (Option·none-ne-some r n)
     go s r t (some q) e n = let a = g .gives s q t e in h (q .got) (a .0) .gives (q .rest) r (a .1) n
 
@@ -78,28 +49,28 @@ gives-byte : Gives byte (λ x. x < 256)
 unfolding byte
 gives-byte = record { gives = go }
   where
-    go : (s : List ℕ) (r : Read ℕ) → Bytes s → byte s ≡ some r → (r .got < 256) × Bytes (r .rest)
+    go : (s : List ℕ) (r : Read ℕ) → AllBytes s → byte s ≡ some r → (r .got < 256) × AllBytes (r .rest)
     go [] r t e = absurd (Option·none-ne-some r e)
-    go (b ∷ s) r t e = subst (λ (x : Read ℕ). (x .got < 256) × Bytes (x .rest)) (Option·some-injective _ r e) (bytes-first t, bytes-rest t)
+    go (b ∷ s) r t e = subst (λ (x : Read ℕ). (x .got < 256) × AllBytes (x .rest)) (Option·some-injective _ r e) (bytes-first t, bytes-rest t)
 
 gives-in : (lo hi : ℕ) → Gives (byteIn lo hi) (λ x. x ≤ hi)
 unfolding byteIn
 gives-in lo hi = gives-then _ gives-byte (λ b h. gives-only (within lo hi b) b (λ e. leb-true b hi (and-both (leb lo b) (leb b hi) e .1)))
 
-gives-bytes : (ok : ℕ → Bool) (n : ℕ) → Gives (bytes ok n) (λ xs. (length xs ≡ n) × Bytes xs)
+gives-bytes : (ok : ℕ → Bool) (n : ℕ) → Gives (bytes ok n) (λ xs. (length xs ≡ n) × AllBytes xs)
 unfolding bytes
 gives-bytes ok zero = gives-give [] (refl, bytes-nil)
 gives-bytes ok (suc n) =
     gives-then _ gives-byte (λ b h. gives-then {Q = λ x. x < 256} _ (gives-only (ok b) b (λ e. h)) (λ c k.
     gives-then _ (gives-bytes ok n) (λ bs l. gives-give (c ∷ bs) (ap suc (l .0), bytes-cons k (l .1)))))
 
-gives-sized : (ok : ℕ → Bool) (lo hi : ℕ) → Gives (sized ok lo hi) (λ xs. (length xs ≤ hi) × Bytes xs)
+gives-sized : (ok : ℕ → Bool) (lo hi : ℕ) → Gives (sized ok lo hi) (λ xs. (length xs ≤ hi) × AllBytes xs)
 unfolding sized
 gives-sized ok lo hi =
     gives-then _ (gives-in lo hi) (λ n h. record { gives = λ s r t e. let q = gives-bytes ok n .gives s r t e in ((omega (arith, h, q .0 .0), q .0 .1), q .1) })
 
 gives-tuple : {A : Type 0} {Q : A → Type 0} (make : ℕ → List ℕ → A) (ok : ℕ → Bool) (most : ℕ)
-    → ((r : ℕ) (xs : List ℕ) → length xs ≤ most → Bytes xs → Q (make r xs)) → Gives (tuple make ok most) Q
+    → ((r : ℕ) (xs : List ℕ) → length xs ≤ most → AllBytes xs → Q (make r xs)) → Gives (tuple make ok most) Q
 unfolding tuple
 gives-tuple make ok most f = gives-then _ gives-byte (λ r h. gives-then _ (gives-sized ok 1 most) (λ xs l. gives-give (make r xs) (f r xs (l .0) (l .1))))
 
@@ -167,7 +138,7 @@ gives-rule =
 -- ---- bodies
 
 module _ {A : Type 0} {reader : Reader A} {Q : A → Type 0} (g : Gives reader Q) where
-  all-records : (k : ℕ) (s : List ℕ) (xs : List A) → Bytes s → records reader k s ≡ some xs → (x : A) → x ∈ xs → Q x
+  all-records : (k : ℕ) (s : List ℕ) (xs : List A) → AllBytes s → records reader k s ≡ some xs → (x : A) → x ∈ xs → Q x
   unfolding records
   all-records zero s xs t e x i = absurd (Option·none-ne-some xs e)
   all-records (suc k) [] xs t e x i = absurd (nothing (subst (λ l. x ∈ l) (sym (Option·some-injective [] xs e)) i))
@@ -186,15 +157,15 @@ module _ {A : Type 0} {reader : Reader A} {Q : A → Type 0} (g : Gives reader Q
 
       go : (o : Option (Read A)) → reader (b ∷ s) ≡ o
           → (elim o as (λ _. Option (List A)) [ none ↦ none | some r ↦ also (r .got) (records reader k (r .rest)) ]) ≡ some xs
-          → ((u : List ℕ) (ys : List A) → Bytes u → records reader k u ≡ some ys → x ∈ ys → Q x) → Q x
+          → ((u : List ℕ) (ys : List A) → AllBytes u → records reader k u ≡ some ys → x ∈ ys → Q x) → Q x
       go none h f rest = absurd (Option·none-ne-some xs f)
       go (some r) h f rest = let q = g .gives (b ∷ s) r t h in found r (q .0) (records reader k (r .rest)) f (λ ys. rest (r .rest) ys (q .1))
 
-  in-body : (s : List ℕ) (k : ℕ) (xs : List A) → Bytes s → readAll reader (bodyOf s k) ≡ some xs → (x : A) → x ∈ xs → Q x
+  in-body : (s : List ℕ) (k : ℕ) (xs : List A) → AllBytes s → readAll reader (bodyOf s k) ≡ some xs → (x : A) → x ∈ xs → Q x
   unfolding readAll bodyOf
   in-body s k xs t = all-records _ (bodyOf s k) xs (bytes-take (lengthOf s k) (drop (startOf s k) s) (bytes-drop (startOf s k) s t))
 
-pub bounds-of : (s : List ℕ) (P : Pack) → Bytes s → unpack s ≡ some P → Bounds P
+pub bounds-of : (s : List ℕ) (P : Pack) → AllBytes s → unpack s ≡ some P → Bounds P
 bounds-of s P t e =
     let u = unpacked s P e in
     record {
@@ -222,7 +193,7 @@ bounds-of s P t e =
     }
 
 -- what loading ensures is what the checks of refusal 7 take
-pub given-of : {s : List ℕ} {P : Pack} {counts numbers rows : List ℕ} → Bytes s → unpack s ≡ some P → PackHeld s P counts numbers rows
+pub given-of : {s : List ℕ} {P : Pack} {counts numbers rows : List ℕ} → AllBytes s → unpack s ≡ some P → PackHeld s P counts numbers rows
     → settingLength ≤ length numbers → PackGiven P counts numbers rows
 given-of {s} {P} t e h l = record {
   setting = record { bare = h .setting .bare; bounds = bounds-of s P t e; long = l };

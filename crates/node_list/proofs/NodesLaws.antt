@@ -2,7 +2,7 @@
 use borrow.Author.Tests.{eq-eqb}
 use lib.ListN.{drop, getD, getElem?, length, length-append, length-map, take}
 use lib.Seq.{drop-at, drop-drop, take-at}
-use mathlib.Core.List.{List, [], _∷_, _++_, append-assoc, map, flatten}
+use mathlib.Core.List.{List, [], _∷_, _++_, map, flatten}
 use mathlib.Core.Option.{some}
 use mathlib.Core.Path.{_≡_, refl, sym, ap, subst, _∙_}
 use native.Mathlib.Omega.{arith}
@@ -23,13 +23,9 @@ use Rattle.core.specs.Keys.{keyOf}
 use Rattle.meaning.specs.Limits.{maxCoreNodes, memberSets, nodeListLength, nodeWidth, typeSets}
 use Rattle.meaning.specs.NoGraph.{MixedKinds}
 use Rattle.meaning.specs.Pack.{Pack}
+use Rattle.meaning.proofs.Lists.Blocks.{flat-join}
 
 -- ---- lengths
-
-pub flat-join : (xs ys : List (List ℕ)) → flatten (xs ++ ys) ≡ flatten xs ++ flatten ys
-unfolding flatten
-flat-join [] ys = refl
-flat-join (x ∷ xs) ys = ap (λ (l : List ℕ). x ++ l) (flat-join xs ys) ∙ sym (append-assoc x (flatten xs) (flatten ys))
 
 core-long : (arities ks ms : List ℕ) → length (coreRecords arities ks ms) ≡ length ks
 unfolding coreRecords

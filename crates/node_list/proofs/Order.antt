@@ -34,8 +34,6 @@ use Rattle.meaning.specs.Ordered.{InOrder, _≺_, before, empty, equal, less}
 use Rattle.meaning.specs.Pack.{Pack}
 use Rattle.meaning.specs.TypeSet.{TypeSet}
 
--- ---- lists in order, one after the other
-
 -- ---- the marked sets
 
 pub record Slot (flags : List ℕ) (k n j : ℕ) : Type 0 where

@@ -9,9 +9,9 @@ use native.Mathlib.Decide.{ℕ-discrete}
 use native.Mathlib.Omega.{arith}
 use Prim.Native.Nat.{ℕ, zero, suc, _+_, _*_, _-_, _%_, _<_, _≤_}
 use Rattle.node_list.specs.Records.{SetListed, SetsListed, overwritten, setList, setNumbers, setsFrom, slotOf}
-use Rattle.node_list.proofs.CoreList.{Records, records-again, records-done, records-start}
 use Rattle.meaning.specs.Limits.{maxCoreNodes, memberSets, nodeListLength, nodeWidth, typeSets, unused}
 use Rattle.meaning.proofs.Cases.{case-on}
+use Rattle.meaning.proofs.Lists.Recording.{Records, records-again, records-done, records-start}
 
 pub slot-first : (k : ℕ) → k ≡ 0 → typeSets ≡ slotOf k
 unfolding slotOf

@@ -11,13 +11,14 @@ use Prim.Native.Nat.{ℕ, zero, suc, _-_, _≤_, _<_}
 use Rattle.meaning.specs.Limits.{maxArguments, maxAtoms, maxPrefixBytes}
 use Rattle.meaning.specs.Tests.{within}
 use Rattle.pack.specs.Kinds.{readerOf}
-use Rattle.pack.specs.Readers.{Read, Reader, give, only, next, _>>=_, byte, byteIn, bytes, sized}
+use Rattle.pack.specs.Readers.{Read, Reader, give, only, _>>=_, byte, byteIn, bytes, sized}
 use Rattle.pack.specs.Records.{value, relation, dependency, name, shape, constructor, tuple, atom, atoms, term, headOf, rule, row, variable}
 use Rattle.pack.specs.Shown.{left, Placed, Got, Not}
 use Rattle.pack.specs.Unpack.{also, records, readAll}
 use Rattle.pack.specs.declared.cursor.Cursor.{Cursor}
 use Rattle.pack.specs.declared.kinds.Kind.{Kind}
 use Rattle.pack.specs.declared.kinds.Kind.the-variants as K
+use Rattle.pack.proofs.Bounds.{next-some}
 
 -- ---- readers take bytes away
 
@@ -42,10 +43,6 @@ module _ {A : Type 0} where
   weaker k s r e = omega (arith, k s r e)
 
 module _ {A B : Type 0} where
-  next-some : (o : Option (Read A)) (f : A → Reader B) (r : Read B) → next o f ≡ some r → (q : Read A) × (o ≡ some q) × (f (q .got) (q .rest) ≡ some r)
-  next-some none f r e = absurd (Option·none-ne-some r e)
-  next-some (some q) f r e = (q, refl, e)
-
   bind-keeps : {m : Reader A} (f : A → Reader B) → Keeps m → ((a : A) → Keeps (f a)) → Keeps (_>>=_ m f)
   bind-keeps {m} f k l s r e =
       let h = next-some (m s) f r e in

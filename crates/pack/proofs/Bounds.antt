@@ -51,7 +51,7 @@ module _ {A : Type 0} (reader : Reader A) (Q : A → Type 0) (each : (s : List �
 
 -- ---- readers of texts
 
-next-some : {A B : Type 0} (o : Option (Read A)) (f : A → Reader B) (r : Read B) → next o f ≡ some r
+pub next-some : {A B : Type 0} (o : Option (Read A)) (f : A → Reader B) (r : Read B) → next o f ≡ some r
     → (q : Read A) × (o ≡ some q) × (f (q .got) (q .rest) ≡ some r)
 next-some none f r e = absurd (Option·none-ne-some r e)
 next-some (some q) f r e = (q, refl, e)
@@ -60,7 +60,7 @@ only-some : {A : Type 0} (b : Bool) (a : A) (s : List ℕ) (r : Read A) → only
 only-some true a s r e = (refl, ap (λ (x : Read _). x .got) (sym (Option·some-injective _ r e)))
 only-some false a s r e = absurd (Option·none-ne-some r e)
 
-got-is : {A : Type 0} {r q : Read A} → _≡_ {A = Option (Read A)} (some r) (some q) → r .got ≡ q .got
+pub got-is : {A : Type 0} {r q : Read A} → _≡_ {A = Option (Read A)} (some r) (some q) → r .got ≡ q .got
 got-is e = ap (λ (x : Read _). x .got) (Option·some-injective _ _ e)
 
 byteIn-bound : (lo hi : ℕ) (s : List ℕ) (r : Read ℕ) → byteIn lo hi s ≡ some r → (lo ≤ r .got) × (r .got ≤ hi)
@@ -96,7 +96,7 @@ pub record Sized (ok : ℕ → Bool) (lo hi : ℕ) (xs : List ℕ) : Type 0 wher
   pub few : length xs ≤ hi
   pub each : (x : ℕ) → x ∈ xs → ok x ≡ true
 
-sized-bound : (ok : ℕ → Bool) (lo hi : ℕ) (s : List ℕ) (r : Read (List ℕ)) → sized ok lo hi s ≡ some r → Sized ok lo hi (r .got)
+pub sized-bound : (ok : ℕ → Bool) (lo hi : ℕ) (s : List ℕ) (r : Read (List ℕ)) → sized ok lo hi s ≡ some r → Sized ok lo hi (r .got)
 unfolding sized
 sized-bound ok lo hi s r e =
     let a = next-some (byteIn lo hi s) _ r e in

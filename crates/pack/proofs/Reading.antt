@@ -1,5 +1,5 @@
 -- Laws of readers at a cursor: what one step, and one step after another, gives. Assumes nothing.
-use Rattle.meaning.proofs.Cases.{case-on}
+use Rattle.meaning.proofs.Cases.{and-both, case-on}
 use Rattle.meaning.proofs.Lists.Parts.{drop-slice, slice-front, take-slice}
 use borrow.Author.Tests.{ltb-true, ltb-false, leb-true}
 use lib.Dec.{leb, ltb}
@@ -128,17 +128,13 @@ byte-in-bound {s} {c} {d} {b} lo hi g = go (byte (left s c)) (g .reads)
 
 -- ---- a run of bytes
 
-and-true : (a b : Bool) → (a && b) ≡ true → (a ≡ true) × (b ≡ true)
-and-true true b h = (refl, h)
-and-true false b h = absurd (let z : _≡_ {A = ℕ} 0 1 = cc in omega arith)
-
 module _ (ok : ℕ → Bool) where
   bytes-some : (n : ℕ) (s : List ℕ) → n ≤ length s → every ok (take n s) ≡ true → bytes ok n s ≡ some (record { got = take n s; rest = drop n s })
   unfolding bytes byte
   bytes-some zero s h t = refl
   bytes-some (suc n) [] h t = absurd (not-suc-le-zero h)
   bytes-some (suc n) (b ∷ s) h t =
-      let e = and-true (ok b) (every ok (take n s)) t in
+      let e = and-both (ok b) (every ok (take n s)) t in
       rw (e .0, bytes-some n s (le-of-suc-le-suc h) (e .1))
 
   bytes-none : (n : ℕ) (s : List ℕ) → every ok (take n s) ≡ false → bytes ok n s ≡ none

@@ -1,6 +1,6 @@
 -- The loop over a rule's atoms: those before the cursor are put, and 0 stands past them. Assumes nothing.
-use lib.ListN.{drop, length, length-append, length-replicate, replicate, replicate-append-replicate, take}
-use lib.Seq.{drop-at, drop-append-add, take-append-add, take-at}
+use lib.ListN.{drop, length, length-append, length-replicate, replicate, take}
+use lib.Seq.{drop-append-add, take-append-add, take-at}
 use mathlib.Core.List.{List, [], _∷_, _++_, flatMap, append-assoc, append-nil}
 use mathlib.Core.Option.{Option, none, some, Option·some-injective}
 use mathlib.Core.Path.{_≡_, refl, sym, ap, _∙_}
@@ -19,6 +19,8 @@ use Rattle.pack.specs.declared.cursor.Cursor.{Cursor}
 use Rattle.pack.specs.declared.cursor.Tuple.{Tuple}
 use Rattle.records.specs.Kept.{Put}
 use Rattle.records.proofs.Terms.{length-atom}
+use Rattle.meaning.proofs.Lists.Blocks.{length-flat}
+use Rattle.meaning.proofs.Lists.Padding.{drop-zeros, take-zeros}
 
 -- ---- atoms one after another
 
@@ -67,24 +69,9 @@ flat-snoc : (xs : List Atom) (a : Atom) → flatMap atomNumbers (xs ++ (a ∷ []
 unfolding flatMap
 flat-snoc xs a = flat-append xs (a ∷ []) ∙ ap (λ (t : List ℕ). flatMap atomNumbers xs ++ t) (append-nil (atomNumbers a))
 
-pub length-flat : (xs : List Atom) → length (flatMap atomNumbers xs) ≡ length xs * atomWidth
-unfolding flatMap
-length-flat [] = refl
-length-flat (x ∷ xs) = omega (arith, length-append (atomNumbers x) (flatMap atomNumbers xs), length-atom x, length-flat xs)
-
 -- those of i atoms, and 0 in the rest
 abbrev pub zeros : ℕ → List ℕ
 zeros i = replicate ((maxAtoms - i) * atomWidth) 0
-
-drop-zeros : (k n m : ℕ) → n ≡ k + m → drop {A = ℕ} k (replicate n 0) ≡ replicate m 0
-drop-zeros k n m e =
-    ap (λ (j : ℕ). drop {A = ℕ} k (replicate j 0)) e ∙ ap (drop k) (sym (replicate-append-replicate k m 0))
-    ∙ drop-at (replicate k 0) (replicate m 0) k (length-replicate {A = ℕ} k 0)
-
-take-zeros : (m n k : ℕ) → n ≡ m + k → take {A = ℕ} m (replicate n 0) ≡ replicate m 0
-take-zeros m n k e =
-    ap (λ (j : ℕ). take {A = ℕ} m (replicate j 0)) e ∙ ap (take m) (sym (replicate-append-replicate m k 0))
-    ∙ take-at (replicate m 0) (replicate k 0) m (length-replicate {A = ℕ} m 0)
 
 one-less : (i : ℕ) → i < maxAtoms → drop atomWidth (zeros i) ≡ zeros (i + 1)
 one-less i h =
@@ -95,7 +82,7 @@ all-zeros : (xs : List Atom) → length xs ≤ maxAtoms → flatMap atomNumbers 
 all-zeros xs h =
     let f = flatMap atomNumbers xs in
     let m = (maxAtoms - length xs) * atomWidth in
-    let e : atomsLength ≡ length f + m = omega (arith, length-flat xs) in
+    let e : atomsLength ≡ length f + m = omega (arith, length-flat atomNumbers atomWidth length-atom xs) in
     let t : take {A = ℕ} m (replicate atomsLength 0) ≡ replicate m 0 = take-zeros m atomsLength (length xs * atomWidth) (omega arith) in
     ap (λ (ys : List ℕ). f ++ ys) (sym t) ∙ sym (take-append-add f (replicate atomsLength 0) m) ∙ ap (λ (k : ℕ). take k (f ++ replicate atomsLength 0)) (sym e)
 
@@ -130,7 +117,7 @@ module _ {s : List ℕ} {c₀ c : Cursor} {n i : ℕ} {out : List ℕ} (p : Atom
       (q .0, rw e at (q .1), q .2)
 
   front-long : length (flatMap atomNumbers (p .done)) ≡ i * atomWidth
-  front-long = length-flat (p .done) ∙ ap (λ (k : ℕ). k * atomWidth) (p .many)
+  front-long = length-flat atomNumbers atomWidth length-atom (p .done) ∙ ap (λ (k : ℕ). k * atomWidth) (p .many)
 
   pub atoms-long : n ≤ maxAtoms → length out ≡ atomsLength
   atoms-long few =

@@ -14,8 +14,8 @@ use Rattle.pack.specs.declared.cursor.Cursor.{Cursor}
 use Rattle.pack.specs.declared.cursor.Tuple.{Tuple}
 use Rattle.records.specs.Kept.{Put, argumentsAt, atomsPart, headPart}
 use Rattle.records.proofs.Putting.{put-as, put-next}
-use Rattle.records.proofs.Rows.{length-first, padded}
 use Rattle.records.proofs.Terms.{arguments-are, variablesAt}
+use Rattle.meaning.proofs.Lists.Padding.{padded, padded-wide}
 
 pub length-head : (h : Head) → length (headNumbers h) ≡ headWidth
 unfolding headNumbers
@@ -29,13 +29,13 @@ atoms-many n g = atoms-fine n _ _ (g .reads) .many
 
 pub length-atoms-part : (as′ : List Atom) → length (atomsPart as′) ≡ 1 + atomsLength
 unfolding atomsPart
-length-atoms-part as′ = ap suc (length-first atomsLength 0 (flatMap atomNumbers as′)) ∙ omega arith
+length-atoms-part as′ = ap suc (padded-wide atomsLength 0 (flatMap atomNumbers as′)) ∙ omega arith
 
 pub length-head-part : (h : Head) → length (headPart h) ≡ 1 + maxHeadVariables + headWidth
 unfolding headPart
 length-head-part h =
     let xs = take maxHeadVariables (padded maxHeadVariables 0 (headArguments h)) in
-    omega (arith, length-append xs (headNumbers h), length-first maxHeadVariables 0 (headArguments h), length-head h)
+    omega (arith, length-append xs (headNumbers h), padded-wide maxHeadVariables 0 (headArguments h), length-head h)
 
 rule-parts : (as′ : List Atom) (h : Head) → atomsPart as′ ++ headPart h ≡ ruleNumbers (record { atoms = as′; head = h })
 unfolding atomsPart headPart ruleNumbers
@@ -65,7 +65,7 @@ module _ (kind l : ℕ) (s : List ℕ) (t u : Tuple) {at m : ℕ} {vars head out
       → head ≡ headNumbers (headAt kind s t l u) → Put head (at + (1 + maxHeadVariables)) out₂ out₃ → Put (headPart (headAt kind s t l u)) at out out₃
   unfolding headPart
   put-head e p f q g r =
-      let v : length vars ≡ maxHeadVariables = ap length f ∙ length-first maxHeadVariables 0 (argumentsAt kind s t u) in
+      let v : length vars ≡ maxHeadVariables = ap length f ∙ padded-wide maxHeadVariables 0 (argumentsAt kind s t u) in
       let a = arguments-are s t u kind l in
       let xs = headArguments (headAt kind s t l u) in
       let x : m ∷ vars ≡ length xs ∷ take maxHeadVariables (padded maxHeadVariables 0 xs) = rw (e, f, a) in

@@ -1,53 +1,18 @@
 -- What is read is short: a text, a prefix, the variables of a term. Assumes nothing.
-use borrow.Author.Tests.{leb-true}
-use lib.Dec.{leb}
 use lib.ListN.{length}
-use mathlib.Core.Bool.{Bool, true, false}
+use mathlib.Core.Bool.{Bool}
 use mathlib.Core.List.{List}
-use mathlib.Core.Option.{Option, none, some, Option·none-ne-some, Option·some-injective}
-use mathlib.Core.Path.{_≡_, refl, sym, ap, subst, _∙_}
-use native.Mathlib.Omega.{arith}
+use mathlib.Core.Option.{some}
+use mathlib.Core.Path.{_≡_, subst}
 use Prim.Native.Nat.{ℕ, zero, suc, _≤_}
 use Rattle.meaning.specs.Limits.{maxArguments, maxAtoms, maxNameBytes, maxPrefixBytes, maxValueBytes}
 use Rattle.meaning.specs.Pack.{Constructor, Head, Rule, Term, Text, hasType, linksTo, linksToValue}
-use Rattle.meaning.specs.Tests.{within}
-use Rattle.meaning.proofs.Cases.{and-both}
-use Rattle.pack.specs.Readers.{Read, Reader, byte, byteIn, bytes, next, only, sized}
+use Rattle.pack.specs.Readers.{Read, byte, byteIn, only, sized}
 use Rattle.pack.specs.Records.{atoms, constructor, headOf, name, rule, term, tuple, value, variable}
-
-next-some : {A B : Type 0} (o : Option (Read A)) (f : A → Reader B) (r : Read B) → next o f ≡ some r → (q : Read A) × (o ≡ some q) × (f (q .got) (q .rest) ≡ some r)
-next-some none f r e = absurd (Option·none-ne-some r e)
-next-some (some q) f r e = (q, refl, e)
-
-only-some : {A : Type 0} (b : Bool) (a : A) (s : List ℕ) (r : Read A) → only b a s ≡ some r → (b ≡ true) × (r .got ≡ a)
-only-some true a s r e = (refl, ap (λ (x : Read _). x .got) (sym (Option·some-injective _ r e)))
-only-some false a s r e = absurd (Option·none-ne-some r e)
-
-got-is : {A : Type 0} {r q : Read A} → _≡_ {A = Option (Read A)} (some r) (some q) → r .got ≡ q .got
-got-is e = ap (λ (x : Read _). x .got) (Option·some-injective _ _ e)
-
-byteIn-most : (lo hi : ℕ) (s : List ℕ) (r : Read ℕ) → byteIn lo hi s ≡ some r → r .got ≤ hi
-unfolding byteIn
-byteIn-most lo hi s r e =
-    let q = next-some (byte s) _ r e in
-    let o = only-some (within lo hi (q .0 .got)) (q .0 .got) (q .0 .rest) r (q .2) in
-    let w = and-both (leb lo (q .0 .got)) (leb (q .0 .got) hi) (o .0) in
-    omega (arith, leb-true (q .0 .got) hi (w .1), o .1)
-
-bytes-many : (ok : ℕ → Bool) (n : ℕ) (s : List ℕ) (r : Read (List ℕ)) → bytes ok n s ≡ some r → length (r .got) ≡ n
-unfolding bytes
-bytes-many ok zero s r e = ap length (sym (got-is e))
-bytes-many ok (suc n) s r e =
-    let a = next-some (byte s) _ r e in
-    let b = next-some (only (ok (a .0 .got)) (a .0 .got) (a .0 .rest)) _ r (a .2) in
-    let c = next-some (bytes ok n (b .0 .rest)) _ r (b .2) in
-    ap length (sym (got-is (c .2))) ∙ ap suc (bytes-many ok n (b .0 .rest) (c .0) (c .1))
+use Rattle.pack.proofs.Bounds.{got-is, next-some, sized-bound}
 
 sized-short : (ok : ℕ → Bool) (lo hi : ℕ) (s : List ℕ) (r : Read (List ℕ)) → sized ok lo hi s ≡ some r → length (r .got) ≤ hi
-unfolding sized
-sized-short ok lo hi s r e =
-    let a = next-some (byteIn lo hi s) _ r e in
-    omega (arith, byteIn-most lo hi s (a .0) (a .1), bytes-many ok (a .0 .got) (a .0 .rest) r (a .2))
+sized-short ok lo hi s r e = sized-bound ok lo hi s r e .few
 
 -- ---- texts
 

@@ -1,6 +1,5 @@
 -- The numbers of an atom and of a head, by their places in the bytes. Assumes nothing.
 use lib.ListN.{List·getD-append, getD, length, length-append, take}
-use lib.Seq.{getD-append-add}
 use mathlib.Core.List.{List, [], _∷_, _++_, append-nil}
 use mathlib.Core.Path.{_≡_, refl, sym, ap, _∙_}
 use native.Mathlib.Omega.{arith}
@@ -13,12 +12,13 @@ use Rattle.pack.specs.Records.{atomOf}
 use Rattle.pack.specs.Shown.{headAt, made, textAt}
 use Rattle.pack.specs.declared.cursor.Tuple.{Tuple}
 use Rattle.records.specs.Kept.{Inside, argumentsAt}
-use Rattle.records.proofs.Rows.{at-front, at-past, byte-at, length-first, padded}
+use Rattle.records.proofs.Rows.{byte-at}
+use Rattle.meaning.proofs.Lists.Padding.{at-second, padded, padded-front, padded-past, padded-wide}
 
 -- ---- an atom
 
 pub length-atom : (a : Atom) → length (atomNumbers a) ≡ atomWidth
-length-atom a = ap (λ (n : ℕ). suc (suc n)) (length-first maxColumns 0 (a .variables))
+length-atom a = ap (λ (n : ℕ). suc (suc n)) (padded-wide maxColumns 0 (a .variables))
 
 module _ (s : List ℕ) (t : Tuple) (h : Inside s t) (i : ℕ) where
   abbrev numbers : List ℕ
@@ -36,11 +36,11 @@ module _ (s : List ℕ) (t : Tuple) (h : Inside s t) (i : ℕ) where
   pub atom-variable : (i ≡ 0 → ⊥) → (i ≡ 1 → ⊥) → i < atomWidth → i - 2 < t .len → getD s (t .start + (i - 2)) 0 ≡ getD numbers i 0
   atom-variable x y l k =
       later x y (byte-at s (t .start) (t .len) (i - 2) k
-      ∙ at-front maxColumns 0 (textAt s (t .start) (t .len)) (i - 2) (omega (arith, length-at s (t .start) (t .len) h)) (omega arith))
+      ∙ padded-front maxColumns 0 (textAt s (t .start) (t .len)) (i - 2) (omega (arith, length-at s (t .start) (t .len) h)) (omega arith))
 
   pub atom-unused : (i ≡ 0 → ⊥) → (i ≡ 1 → ⊥) → i < atomWidth → t .len ≤ i - 2 → 0 ≡ getD numbers i 0
   atom-unused x y l k =
-      later x y (at-past maxColumns 0 (textAt s (t .start) (t .len)) (i - 2) (omega (arith, length-at s (t .start) (t .len) h)) (omega arith))
+      later x y (padded-past maxColumns 0 (textAt s (t .start) (t .len)) (i - 2) (omega (arith, length-at s (t .start) (t .len) h)) (omega arith))
 
 -- ---- a head
 
@@ -49,19 +49,13 @@ abbrev pub variablesAt : ℕ → List ℕ → Tuple → Tuple → List ℕ
 variablesAt kind s t u = take maxHeadVariables (padded maxHeadVariables 0 (argumentsAt kind s t u))
 
 pub length-variables : (kind : ℕ) (s : List ℕ) (t u : Tuple) → length (variablesAt kind s t u) ≡ maxHeadVariables
-length-variables kind s t u = length-first maxHeadVariables 0 (argumentsAt kind s t u)
+length-variables kind s t u = padded-wide maxHeadVariables 0 (argumentsAt kind s t u)
 
 -- the object's variables
 objectAt : ℕ → List ℕ → Tuple → List ℕ
 objectAt zero s u = []
 objectAt (suc zero) s u = textAt s (u .start) (u .len)
 objectAt (suc (suc k)) s u = u .number ∷ []
-
--- an element of the second of two lists
-at-second : (xs ys : List ℕ) (i : ℕ) → length xs ≤ i → getD ys (i - length xs) 0 ≡ getD (xs ++ ys) i 0
-at-second xs ys i h =
-    let e : i ≡ length xs + (i - length xs) = omega arith in
-    sym (ap (λ (j : ℕ). getD (xs ++ ys) j 0) e ∙ getD-append-add xs ys (i - length xs) 0)
 
 module _ (s : List ℕ) (t u : Tuple) where
   pub arguments-are : (kind l : ℕ) → argumentsAt kind s t u ≡ headArguments (headAt kind s t l u)
@@ -107,18 +101,18 @@ module _ (s : List ℕ) (t u : Tuple) where
       pub in-subject : i < t .len → getD s (t .start + i) 0 ≡ getD (variablesAt kind s t u) i 0
       in-subject l =
           byte-at s (t .start) (t .len) i l ∙ sym (List·getD-append subject (objectAt kind s u) 0 i (omega (arith, long)))
-          ∙ at-front maxHeadVariables 0 (subject ++ objectAt kind s u) i (omega (arith, long, length-append subject (objectAt kind s u))) b
+          ∙ padded-front maxHeadVariables 0 (subject ++ objectAt kind s u) i (omega (arith, long, length-append subject (objectAt kind s u))) b
           ∙ ap (λ (xs : List ℕ). getD xs i 0) variables-are
 
       in-object : t .len ≤ i → i - t .len < length (objectAt kind s u) → getD (objectAt kind s u) (i - t .len) 0 ≡ getD (variablesAt kind s t u) i 0
       in-object l m =
           ap (λ (n : ℕ). getD (objectAt kind s u) (i - n) 0) (sym long) ∙ at-second subject (objectAt kind s u) i (omega (arith, long))
-          ∙ at-front maxHeadVariables 0 (subject ++ objectAt kind s u) i (omega (arith, long, length-append subject (objectAt kind s u))) b
+          ∙ padded-front maxHeadVariables 0 (subject ++ objectAt kind s u) i (omega (arith, long, length-append subject (objectAt kind s u))) b
           ∙ ap (λ (xs : List ℕ). getD xs i 0) variables-are
 
       past : t .len ≤ i → length (objectAt kind s u) ≤ i - t .len → 0 ≡ getD (variablesAt kind s t u) i 0
       past l m =
-          at-past maxHeadVariables 0 (subject ++ objectAt kind s u) i (omega (arith, long, length-append subject (objectAt kind s u))) b
+          padded-past maxHeadVariables 0 (subject ++ objectAt kind s u) i (omega (arith, long, length-append subject (objectAt kind s u))) b
           ∙ ap (λ (xs : List ℕ). getD xs i 0) variables-are
 
     module _ (kind i : ℕ) (b : i < maxHeadVariables) (l : t .len ≤ i) where

@@ -3,17 +3,17 @@
 use lib.ListN.{length, take, drop, getD, getElem?}
 use lib.Seq.{drop-length}
 use mathlib.Core.Bool.{Bool, true, false, _||_, false≢true}
-use mathlib.Core.List.{List, [], _∷_, _++_, append-nil}
+use mathlib.Core.List.{List, [], _++_, append-nil}
 use mathlib.Core.Logic.{_↔_}
-use mathlib.Core.Option.{some, Option·none-ne-some, Option·some-injective}
+use mathlib.Core.Option.{some, Option·some-injective}
 use mathlib.Core.Path.{_≡_, sym, ap, subst, _∙_}
 use native.Mathlib.Decide.{ℕ-discrete}
 use native.Mathlib.Omega.{arith}
-use Prim.Native.Nat.{ℕ, zero, suc, _+_, _*_, _-_, _≤_, _<_}
+use Prim.Native.Nat.{ℕ, _+_, _*_, _-_, _≤_, _<_}
 use Rattle.checks.specs.Checked.{SettingLoaded}
 use Rattle.iris.proofs.Loaded.{holds, lent}
 use Rattle.records.specs.Numbers.{TextAt}
-use Rattle.meaning.proofs.Lists.Places.{inside, there-is}
+use Rattle.meaning.proofs.Lists.Places.{entry-is, inside, there-is}
 use Rattle.meaning.specs.Graph.{Called}
 use Rattle.meaning.specs.Limits.{maxPredicates, predicatesAt, textWidth, unused}
 use Rattle.meaning.specs.Pack.{Pack, Text}
@@ -24,9 +24,9 @@ use Rattle.meaning.proofs.Lists.Parts.{first-at, number-at}
 use Rattle.pack.proofs.Accepted.{well-formed}
 use Rattle.pack.specs.Checked.{OfPack}
 use Rattle.resolve.specs.Wanted.{PredicateIs}
-use Rattle.spelling.proofs.Texts.{eq-same, begins-append, begins-rest}
 use Rattle.meaning.proofs.Cases.{or-neither}
 use Rattle.meaning.proofs.Lists.Pairs.{no-two-place}
+use Rattle.meaning.proofs.Lists.Texts.{begins-append, begins-rest, eq-same}
 
 -- ---- the same text
 
@@ -82,11 +82,6 @@ module _ {s counts numbers : List ℕ} (l : SettingLoaded s counts numbers) wher
 
 -- ---- a name belongs to one predicate at most
 
-element-at : {A : Type 0} (xs : List A) (i : ℕ) (x d : A) → getElem? xs i ≡ some x → getD xs i d ≡ x
-element-at [] i x d e = absurd (Option·none-ne-some x e)
-element-at (y ∷ xs) zero x d e = Option·some-injective y x e
-element-at (y ∷ xs) (suc i) x d e = element-at xs i x d e
-
 called-once : (P : Pack) → duplicates P ≡ false → (text : Text) (p q : ℕ) → Called P text p → Called P text q → p ≡ q
 unfolding duplicates
 called-once P h text p q cp cq =
@@ -95,7 +90,7 @@ called-once P h text p q cp cq =
     let b = anyTwo sameText (S .types) in
     let c = anyTwo sameText (S .predicates) in
     let d = or-neither (a || b) c (or-neither (a || b || c) (anyTwo sameCell (S .shapes)) h .0) .1 in
-    let e : getD (S .predicates) p [] ≡ getD (S .predicates) q [] = element-at (S .predicates) p text [] cp ∙ sym (element-at (S .predicates) q text [] cq) in
+    let e : getD (S .predicates) p [] ≡ getD (S .predicates) q [] = entry-is (S .predicates) p text [] cp ∙ sym (entry-is (S .predicates) q text [] cq) in
     no-two-place sameText [] (S .predicates) p q d (inside (S .predicates) p _ cp) (inside (S .predicates) q _ cq) (eq-same e) (eq-same (sym e))
 
 -- ---- the search for it

@@ -1,6 +1,6 @@
 -- The records of the node list: where each stands, and which node it is. Assumes nothing.
-use lib.ListN.{length, take, replicate, getD, getElem?, length-append, length-replicate, List·getD-append}
-use lib.Seq.{getD-take, getD-append-add, length-take-le, take-append-seam, take-take, ext-getD}
+use lib.ListN.{length, take, replicate, getD, getElem?, List·getD-append}
+use lib.Seq.{getD-take, getD-append-add, ext-getD}
 use mathlib.Core.List.{List, [], _∷_, _++_, Forall₂, Forall₂·nil, Forall₂·cons, flatten}
 use mathlib.Core.Logic.{_↔_}
 use mathlib.Core.Option.{some, Option·none-ne-some, Option·some-injective}
@@ -15,13 +15,12 @@ use Rattle.meaning.specs.Listing.{kind, number, padded, arguments, NodeRecord}
 use Rattle.meaning.specs.Pack.{Pack}
 use Rattle.resolve.specs.Listed.{Listed}
 use Rattle.resolve.specs.Search.{HasNumbers}
-
--- ---- a list in order has each element once
+use Rattle.meaning.proofs.Lists.Padding.{padded-wide, unpadded}
 
 -- ---- the numbers of a record
 
 pub padded-length : (vs : List ℕ) → length (padded vs) ≡ 4
-padded-length vs = length-take-le maxArguments (vs ++ replicate maxArguments unused) (omega (arith, length-append vs (replicate maxArguments unused), length-replicate {A = ℕ} 4 unused))
+padded-length vs = padded-wide maxArguments unused vs
 
 pub arguments-length : (b : BuiltNode) → length (arguments b) ≡ 4
 unfolding arguments
@@ -34,7 +33,7 @@ pub padded-inj : (vs ws : List ℕ) → length vs ≡ length ws → length ws �
 padded-inj vs ws e h p = sym (front vs (omega arith)) ∙ (λ i. take (e i) (p i)) ∙ front ws h
   where
     front : (us : List ℕ) → length us ≤ 4 → take (length us) (padded us) ≡ us
-    front us l = take-take (length us) maxArguments (us ++ replicate maxArguments unused) l ∙ take-append-seam us (replicate maxArguments unused)
+    front us l = unpadded us (replicate maxArguments unused) maxArguments l
 
 abbrev numbersOf : BuiltNode → ℕ → List ℕ
 numbersOf b types = kind b ∷ number b ∷ types ∷ arguments b

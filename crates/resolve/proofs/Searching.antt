@@ -3,12 +3,12 @@ use lib.ListN.{getD}
 use mathlib.Core.Bool.{Bool, true, false, false≢true}
 use mathlib.Core.List.{List}
 use mathlib.Core.Logic.{_↔_}
-use mathlib.Core.Path.{_≡_, sym, subst, _∙_}
-use native.Mathlib.Decide.{ℕ-discrete}
+use mathlib.Core.Path.{_≡_, sym, _∙_}
 use native.Mathlib.Omega.{arith}
 use Prim.Native.Nat.{ℕ, _+_, _*_, _≤_, _<_}
 use Rattle.meaning.specs.Limits.{maxArguments, nodeWidth, unused}
 use Rattle.resolve.specs.Search.{HasNumbers, First, found, nowhere}
+use Rattle.meaning.proofs.Lists.Below.{NoneBelow, below-next, none-again}
 
 -- ---- the arguments
 
@@ -21,14 +21,7 @@ module _ {nodes : List ℕ} {at : ℕ} {arguments : List ℕ} where
   agree-start = record { agree = λ j h. absurd (let z : ⊥ = omega arith in z) }
 
   pub agree-on : {k : ℕ} → Agree nodes at arguments k → getD nodes (at + k) 0 ≡ getD arguments k 0 → Agree nodes at arguments (k + 1)
-  agree-on {k} a e = record { agree = more }
-    where
-      more : (j : ℕ) → j < k + 1 → getD nodes (at + j) 0 ≡ getD arguments j 0
-      more j h = go (ℕ-discrete j k)
-        where
-          go : Dec (j ≡ k) → getD nodes (at + j) 0 ≡ getD arguments j 0
-          go (yes q) = subst (λ i. getD nodes (at + i) 0 ≡ getD arguments i 0) (sym q) e
-          go (no n) = a .agree j (omega arith)
+  agree-on a e = record { agree = below-next {Q = λ j. getD nodes (at + j) 0 ≡ getD arguments j 0} (a .agree) e }
 
 module _ (nodes : List ℕ) (at : ℕ) (arguments : List ℕ) where
   pub agree-not : (k : ℕ) → k < 4 → (getD nodes (at + k) 0 ≡ getD arguments k 0 → ⊥)
@@ -54,26 +47,12 @@ module _ {nodes arguments : List ℕ} {kind number m : ℕ} where
 
 -- ---- the first of them
 
--- none before m is in Q
-pub record Before (Q : ℕ → Type 0) (m : ℕ) : Type 0 where
-  pub none : (k : ℕ) → k < m → Q k → ⊥
-
 module _ {Q : ℕ → Type 0} where
-  pub before-start : Before Q 0
-  before-start = record { none = λ k h q. absurd (let z : ⊥ = omega arith in z) }
+  pub before-on : {m : ℕ} (b : Bool) → (b ≡ true) ↔ Q m → b ≡ false → NoneBelow Q m → NoneBelow Q (m + 1)
+  before-on b is n f = none-again f (λ q. false≢true (sym n ∙ is .1 q))
 
-  pub before-on : {m : ℕ} (b : Bool) → (b ≡ true) ↔ Q m → b ≡ false → Before Q m → Before Q (m + 1)
-  before-on {m} b is n f = record { none = more }
-    where
-      more : (k : ℕ) → k < m + 1 → Q k → ⊥
-      more k h q = go (ℕ-discrete k m)
-        where
-          go : Dec (k ≡ m) → ⊥
-          go (yes e) = false≢true (sym n ∙ is .1 (subst Q e q))
-          go (no ne) = f .none k (omega arith) q
-
-  pub found-here : {m count : ℕ} (b : Bool) → (b ≡ true) ↔ Q m → b ≡ true → m < count → Before Q m → First Q count m
+  pub found-here : {m count : ℕ} (b : Bool) → (b ≡ true) ↔ Q m → b ≡ true → m < count → NoneBelow Q m → First Q count m
   found-here b is t h f = found h (is .0 t) (f .none)
 
-  pub found-nowhere : {m count : ℕ} → count ≤ m → Before Q m → First Q count unused
+  pub found-nowhere : {m count : ℕ} → count ≤ m → NoneBelow Q m → First Q count unused
   found-nowhere h f = nowhere (λ i. unused) (λ k l q. f .none k (omega arith) q)

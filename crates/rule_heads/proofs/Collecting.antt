@@ -1,6 +1,6 @@
 -- The loop over all rules' keys: each rule's stand in its own part of a slice. Assumes nothing.
 use Rattle.names.specs.Given.{ForResolved, IsResolved}
-use lib.ListN.{drop, getD, length, length-append, length-drop, length-set, length-take, set, take}
+use lib.ListN.{drop, getD, length, length-drop, length-set, length-take, set, take}
 use lib.Seq.{getD-set-other, getD-set-same}
 use mathlib.Core.Bool.{false}
 use mathlib.Core.List.{List, _++_}
@@ -9,7 +9,6 @@ use native.Mathlib.Decide.{ℕ-discrete}
 use native.Mathlib.Omega.{arith}
 use Prim.Native.Nat.{ℕ, _+_, _*_, _-_, _≤_, _<_, zero-le}
 use Rattle.core.specs.Heads.{keysOf}
-use Rattle.matching.proofs.Parts.{kept-front, put-there}
 use Rattle.matching.specs.Rule.{Answers}
 use Rattle.matching.specs.declared.Heads.{Heads}
 use Rattle.matching.specs.declared.Heads.the-variants.{Listed, Over}
@@ -23,6 +22,7 @@ use Rattle.rule_heads.specs.Answer.{FoundOr}
 use Rattle.rule_heads.specs.Given.{ForRuleOf, IsRuleOf, KeyOf, RuleOf}
 use Rattle.rule_heads.proofs.Held.{rule-of}
 use Rattle.rule_heads.proofs.Over.{too-large}
+use Rattle.meaning.proofs.Lists.Overwriting.{kept-front, part-replaced, put-there}
 
 -- some rule stands there
 pub is-rule-of : {counts numbers rows : List ℕ} → IsResolved counts numbers rows → (i : ℕ) → i < getD counts 7 0
@@ -77,20 +77,7 @@ module _ {numbers rows : List ℕ} {count : ℕ} {heads₀ : List ℕ} {r : ℕ}
           too-large P rule (g .listed) (subst (λ (m : ℕ). OverSet m (KeyOf P rule)) e (a P rule g))
 
       pub long-is : length (take (r * maxHeads) heads ++ (ys ++ behind)) ≡ length heads
-      long-is = omega (
-        arith,
-        h,
-        few,
-        room,
-        p .long,
-        l,
-        part-length,
-        length-append (take (r * maxHeads) heads) (ys ++ behind),
-        length-append ys behind,
-        length-take (r * maxHeads) heads,
-        length-drop (r * maxHeads + maxHeads - r * maxHeads) (drop (r * maxHeads) heads),
-        length-drop (r * maxHeads) heads,
-      )
+      long-is = part-replaced (r * maxHeads) (r * maxHeads + maxHeads - r * maxHeads) heads ys l
 
       module _ (v : IsRuleOf numbers (rulesAt + r * ruleWidth) rows) (n : ℕ)
           (a : ForRuleOf numbers (rulesAt + r * ruleWidth) rows (λ P rule. Answers (Listed n) ys (KeyOf P rule))) where

@@ -1,7 +1,6 @@
 -- A rule's numbers are held as matching supposes: refusals 4 and 7 leave what it asks. Assumes nothing.
 use lib.Dec.{T, eqb}
 use lib.ListN.{drop, getD, getElem?, length, replicate, take}
-use lib.Seq.{getD-drop, getD-take}
 use mathlib.Core.Bool.{false}
 use mathlib.Core.List.{List, [], _∷_, _++_, flatMap, List·Memᴰ·append-cases}
 use mathlib.Core.Logic.{⊎-elim}
@@ -23,10 +22,12 @@ use Rattle.meaning.specs.WellFormed.{dangling, hasArity}
 use Rattle.names.specs.Given.{Bounds, Resolved}
 use Rattle.names.proofs.Good.{atom-good, row-good, same-arity}
 use Rattle.names.proofs.Parts.{atom-count, atoms-part, countAt, length-atom, variable-count, variables-few, variables-part, variablesAt}
-use Rattle.meaning.proofs.Lists.Parts.{length-flat, unpadded}
 use Rattle.names.proofs.Rule.{rule-at}
 use Rattle.rule_heads.specs.Given.{Bytes, IsRuleOf, RuleOf}
-use Rattle.rule_heads.proofs.Small.{Small, small-append, small-cons, small-flat, small-members, small-take, small-zeros}
+use Rattle.meaning.proofs.Lists.Blocks.{length-flat}
+use Rattle.meaning.proofs.Lists.Bytes.{AllBytes, byte-below, bytes-append, bytes-cons, bytes-flat, bytes-take, bytes-zeros}
+use Rattle.meaning.proofs.Lists.Padding.{unpadded}
+use Rattle.meaning.proofs.Lists.Parts.{number-at}
 
 -- ---- the bounds that the core's passes suppose
 
@@ -70,26 +71,24 @@ module _ {P : Pack} {r : Rule} {numbers : List ℕ} {at : ℕ} {rows : List ℕ}
 
   -- ---- its numbers fit eight bits
 
-  atom-small : (a : Atom) → a ∈ r .atoms → Small (atomNumbers a)
+  atom-small : (a : Atom) → a ∈ r .atoms → AllBytes (atomNumbers a)
   atom-small a i =
-      small-cons (omega (arith, relation-there (P .setting .arities) (a .relation) (length (a .variables)) (atom-good P (g .resolved) r (g .listed) a i), g .bounds .relations))
-      (small-cons (omega (arith, g .is .bounds .variables a i))
-      (small-take maxColumns (a .variables ++ replicate maxColumns 0)
-      (small-append (a .variables) (replicate maxColumns 0)
-      (small-members (a .variables) (λ v m. omega (arith, g .is .bounds .below a i v m))) (small-zeros maxColumns))))
+      bytes-cons (omega (arith, relation-there (P .setting .arities) (a .relation) (length (a .variables)) (atom-good P (g .resolved) r (g .listed) a i), g .bounds .relations))
+      (bytes-cons (omega (arith, g .is .bounds .variables a i))
+      (bytes-take maxColumns (a .variables ++ replicate maxColumns 0)
+      (bytes-append (a .variables) (replicate maxColumns 0)
+      (record { each = λ v m. omega (arith, g .is .bounds .below a i v m) }) (bytes-zeros maxColumns))))
 
-  by-part : (k w : ℕ) (xs : List ℕ) → take w (drop (at + k) numbers) ≡ take w xs → Small (take w xs) → (i : ℕ) → i < w → getD numbers (at + k + i) 0 < 256
+  by-part : (k w : ℕ) (xs : List ℕ) → take w (drop (at + k) numbers) ≡ take w xs → AllBytes (take w xs) → (i : ℕ) → i < w → getD numbers (at + k + i) 0 < 256
   by-part k w xs e s i h =
-      let q : getD numbers (at + k + i) 0 ≡ getD (take w xs) i 0 =
-      sym (getD-drop (at + k) numbers i 0) ∙ sym (getD-take w (drop (at + k) numbers) i 0 h) ∙ ap (λ (t : List ℕ). getD t i 0) e in
-      omega (arith, q, s .each i)
+      omega (arith, number-at numbers (take w xs) (at + k) w e i h, byte-below s i)
 
   pub atoms-small : Bytes numbers (at + 1) atomsLength
   atoms-small = record {
     room = omega (arith, g .is .room);
     each = by-part 1 atomsLength (flatMap atomNumbers (r .atoms) ++ replicate atomsLength 0) (atoms-part (g .is))
-        (small-take atomsLength (flatMap atomNumbers (r .atoms) ++ replicate atomsLength 0)
-        (small-append (flatMap atomNumbers (r .atoms)) (replicate atomsLength 0) (small-flat atomNumbers (r .atoms) atom-small) (small-zeros atomsLength)));
+        (bytes-take atomsLength (flatMap atomNumbers (r .atoms) ++ replicate atomsLength 0)
+        (bytes-append (flatMap atomNumbers (r .atoms)) (replicate atomsLength 0) (bytes-flat atomNumbers (r .atoms) atom-small) (bytes-zeros atomsLength)));
   }
 
   arguments-small : (v : ℕ) → v ∈ headArguments (r .head) → v < 256
@@ -101,8 +100,8 @@ module _ {P : Pack} {r : Rule} {numbers : List ℕ} {at : ℕ} {rows : List ℕ}
   variables-small = record {
     room = omega (arith, g .is .room);
     each = by-part variablesAt maxHeadVariables (headArguments (r .head) ++ replicate maxHeadVariables 0) (variables-part (g .is))
-        (small-take maxHeadVariables (headArguments (r .head) ++ replicate maxHeadVariables 0)
-        (small-append (headArguments (r .head)) (replicate maxHeadVariables 0) (small-members (headArguments (r .head)) arguments-small) (small-zeros maxHeadVariables)));
+        (bytes-take maxHeadVariables (headArguments (r .head) ++ replicate maxHeadVariables 0)
+        (bytes-append (headArguments (r .head)) (replicate maxHeadVariables 0) (record { each = arguments-small }) (bytes-zeros maxHeadVariables)));
   }
 
   -- ---- and are held

@@ -1,5 +1,4 @@
 pub mod Over
-pub mod Small
 pub mod Held
 pub mod Collecting
 pub mod Answers

@@ -9,11 +9,11 @@ use native.Mathlib.Decide.{ℕ-discrete}
 use native.Mathlib.Omega.{arith}
 use Prim.Native.Nat.{ℕ, _*_, _/_, _%_, _^_, _<_}
 use Rattle.meaning.proofs.Lists.Bits.{zero-bits}
+use Rattle.meaning.proofs.Lists.Lowest.{cleared}
 use Rattle.meaning.proofs.Lists.Masks.{added-member, weight-made}
 use Rattle.meaning.specs.Limits.{maxPredicates, maxTypes, multiplicityRoom}
 use Rattle.meaning.specs.Tables.{cellAt, cellOf, setOfMask, targetCode}
 use Rattle.meaning.specs.TypeSet.{bit, _∈ₜ_}
-use Rattle.sets.proofs.Lowest.{cleared}
 use Rattle.shapes.specs.Shapes.{CodesFit, SomeShape, TargetsOf}
 use Rattle.shapes.proofs.Cells.{cell-held, cell-target, held-shape, shape-held}
 use Rattle.shapes.proofs.Search.{Member, Searching, next, search-again, search-done, search-next, search-start}

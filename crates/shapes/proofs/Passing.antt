@@ -9,11 +9,11 @@ use Prim.Native.Nat.{ℕ, _%_, _<_}
 use Rattle.meaning.specs.Limits.{maxPredicates, multiplicityRoom}
 use Rattle.meaning.specs.Pack.{AnswersTest, Multiplicity, Shape, multiplicityNumber}
 use Rattle.meaning.specs.Tables.{cellAt, cellOf}
-use Rattle.sets.proofs.Lowest.{cleared}
 use Rattle.shapes.specs.Shapes.{SomePasses}
 use Rattle.shapes.proofs.Cells.{cell-held, cell-multiplicity, held-shape, shape-held}
 use Rattle.shapes.proofs.Search.{Searching, next, search-again, search-done, search-next, search-start}
 use Rattle.shapes.proofs.Sets.{type-in, typesIn}
+use Rattle.meaning.proofs.Lists.Lowest.{cleared}
 
 -- the cell holds a shape whose multiplicity passes the test
 pub record Passes (test : Multiplicity → Bool) (cell : ℕ) : Type 0 where

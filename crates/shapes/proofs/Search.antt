@@ -6,10 +6,10 @@ use native.Mathlib.Decide.{ℕ-discrete}
 use native.Mathlib.Omega.{arith}
 use Prim.Native.Nat.{ℕ, _<_}
 use Rattle.meaning.proofs.Lists.Bits.{zero-bits}
+use Rattle.meaning.proofs.Lists.Lowest.{Lowest, cleared, cleared-le, cleared-member, lowest}
 use Rattle.meaning.proofs.Lists.Masks.{low-member}
 use Rattle.meaning.specs.Limits.{maxTypes, typeSets}
 use Rattle.meaning.specs.TypeSet.{bit}
-use Rattle.sets.proofs.Lowest.{Lowest, cleared, cleared-le, cleared-member, lowest}
 use Rattle.shapes.proofs.Sets.{typesIn, types-small}
 
 -- type t is one of the mask's

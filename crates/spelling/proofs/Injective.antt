@@ -13,12 +13,12 @@ use Rattle.meaning.specs.Tests.{anyTwo, sameText, begins}
 use Rattle.meaning.specs.WellFormed.{duplicates, prefixClash, prefixes, sameCell}
 use Rattle.spelling.proofs.Segments.{segment-inj, segment-slashless}
 use Rattle.spelling.proofs.Slashes.{Slashless, AllSlashless, joined-inj}
-use Rattle.spelling.proofs.Texts.{eq-same, begins-both}
 use Rattle.spelling.specs.Iri.{joined, textOf, prefixOf, IsTerm, iriBy, iriOf}
 use Rattle.spelling.specs.Segment.{segment}
 use Rattle.meaning.proofs.Lists.Places.{inside}
 use Rattle.meaning.proofs.Cases.{or-neither}
 use Rattle.meaning.proofs.Lists.Pairs.{no-two-place}
+use Rattle.meaning.proofs.Lists.Texts.{begins-both, eq-same}
 
 -- What a way to write a value has to keep.
 pub record Writes (write : Text → Text) : Type 0 where

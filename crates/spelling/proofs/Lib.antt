@@ -6,5 +6,4 @@ pub mod Segments
 pub mod Slashes
 pub mod Splitting
 pub mod TableRule
-pub mod Texts
 pub mod Written

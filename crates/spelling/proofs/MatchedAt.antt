@@ -13,12 +13,12 @@ use Rattle.meaning.specs.Pack.{Text}
 use Rattle.meaning.specs.Tests.{sameText, begins}
 use Rattle.meaning.proofs.Cases.{case-on}
 use Rattle.spelling.proofs.Segments.{byte-stays, byte-escaped}
-use Rattle.spelling.proofs.Texts.{same-eq, same-refl, begins-rest}
 use Rattle.spelling.proofs.Written.{one-long, three-long, segment-next, segment-none}
 use Rattle.spelling.specs.declared.compare.Match.the-variants.{Matched, Differs}
 use Rattle.spelling.specs.declared.compare.Match.{Match}
 use Rattle.spelling.specs.Matching.{matchAt}
 use Rattle.spelling.specs.Segment.{unreserved, hexDigit, spelledByte, segment, percent}
+use Rattle.meaning.proofs.Lists.Texts.{begins-rest, same-eq, same-refl}
 
 -- ---- one byte of the part
 

@@ -12,6 +12,7 @@ use native.Mathlib.Nat.{add-zero, zero-add, le-of-suc-le-suc, not-suc-le-zero}
 use native.Mathlib.Omega.{arith}
 use Prim.Native.Nat.{ℕ, zero, suc, _+_, _<_}
 use Rattle.meaning.proofs.Lists.Members.{element}
+use Rattle.meaning.proofs.Lists.Texts.{begins-append, begins-rest, eq-same, same-eq}
 use Rattle.meaning.specs.Member.{_∈_, here, there}
 use Rattle.meaning.specs.Pack.{Pack, Text, Constructor}
 use Rattle.meaning.specs.Tests.{sameText, begins}
@@ -19,7 +20,6 @@ use Rattle.meaning.specs.WellFormed.{duplicates, prefixClash}
 use Rattle.meaning.proofs.Cases.{case-on, case-some}
 use Rattle.spelling.proofs.Injective.{Writes, all-slashless, iriBy-inj, prefix-of, one-constructor}
 use Rattle.spelling.proofs.Splitting.{joined-split, split-joined}
-use Rattle.spelling.proofs.Texts.{same-eq, eq-same, begins-append, begins-rest}
 use Rattle.spelling.specs.Iri.{joined, textOf, iriBy}
 use Rattle.spelling.specs.ReadBack.{ReadsBackBy, split, findBy, findAllBy, argumentsBy, readFromBy, readBackBy}
 

@@ -1,10 +1,10 @@
 -- Laws of writing a segment into a list, byte after byte. Assumes nothing.
 use borrow.Author.Tests.{le-leb, lt-leb, leb-true, leb-false, not-true, not-false}
 use lib.Dec.{leb}
-use lib.ListN.{length, take, drop, getD, set, length-append, length-drop, take-append-drop, drop-of-length-le}
-use lib.Seq.{drop-cons, drop-drop, take-at, drop-at, length-take-le, sets-eq}
+use lib.ListN.{length, drop, getD, set, length-append, drop-of-length-le}
+use lib.Seq.{drop-cons, sets-eq}
 use mathlib.Core.Bool.{Bool, true, false, not}
-use mathlib.Core.List.{[], _∷_, _++_, append-assoc, append-nil}
+use mathlib.Core.List.{[], _∷_, _++_}
 use mathlib.Core.Path.{_≡_, refl, sym, ap, _∙_}
 use native.Mathlib.Numerals.{add-one, towards-suc}
 use native.Mathlib.Omega.{arith}
@@ -15,6 +15,7 @@ use Rattle.spelling.proofs.Segments.{byte-stays, byte-escaped}
 use Rattle.spelling.specs.declared.write.Wrote.the-variants.{To, Full}
 use Rattle.spelling.specs.Segment.{unreserved, hexDigit, spelledByte, segment, percent}
 use Rattle.spelling.specs.Writing.{written, placeAfter, writtenIfRoom}
+use Rattle.meaning.proofs.Lists.Overwriting.{nothing-written, parts-written, written-long}
 
 -- ---- lengths
 
@@ -72,25 +73,6 @@ module _ (b at : ℕ) (d : Text) (room : at + length (spelledByte b) ≤ length 
       let l = three-long b e in
       rw (byte-escaped b e, ← p, ← q) (refl, simp towards-suc (simp towards-suc at (sets-eq (percent ∷ x ∷ y ∷ []) d at (omega arith))))
 
--- ---- a text written in two parts
-
-pub length-written : (x : Text) (at : ℕ) (d : Text) → at + length x ≤ length d → length (written x at d) ≡ length d
-length-written x at d h = simp (length-append, length-drop, length-take-le at d (let k : at ≤ length d = omega arith in k)) (omega arith)
-
-written-append : (x y : Text) (at : ℕ) (d : Text) → at + length (x ++ y) ≤ length d
-    → written y (at + length x) (written x at d) ≡ written (x ++ y) at d
-written-append x y at d h =
-    let l = length-append x y in
-    let p = take at d ++ x in
-    let t : length (take at d) ≡ at = length-take-le at d (omega arith) in
-    let n : length p ≡ at + length x = length-append (take at d) x ∙ ap (λ (k : ℕ). k + length x) t in
-    let r = drop (at + length x) d in
-    let a : take (at + length x) (p ++ r) ≡ p = take-at p r (at + length x) n in
-    let b : drop (at + length x + length y) (p ++ r) ≡ drop (at + length x + length y) d =
-    sym (drop-drop (length y) (at + length x) (p ++ r)) ∙ ap (drop (length y)) (drop-at p r (at + length x) n) ∙ drop-drop (length y) (at + length x) d in
-    let s : at + length x + length y ≡ at + length (x ++ y) = omega arith in
-    rw (a, b, s, append-assoc (take at d) x y)
-
 -- ---- a segment written: the first i bytes of v are done, the next goes to `to`
 
 pub record Writing (v : Text) (at : ℕ) (d₀ : Text) (i to : ℕ) (d : Text) : Type 0 where
@@ -117,13 +99,12 @@ module _ {v : Text} {at : ℕ} {d₀ : Text} {i to : ℕ} {d : Text} (w : Writin
 
   pub writing-again : (to′ : ℕ) (d′ : Text) → to′ ≡ to + length byte → d′ ≡ written byte to d → Writing v at d₀ (i + 1) to′ d′
   writing-again to′ d′ p q =
-      let l : length d′ ≡ length d = ap length q ∙ length-written byte to d writing-room in
-      let both : to + length (byte ++ rest) ≤ length d = omega (arith, length-append byte rest, next, w .room) in
+      let l : length d′ ≡ length d = ap length q ∙ written-long to (length byte) byte d refl writing-room in
       record {
         long = l ∙ w .long;
         place = omega (arith, next, w .place);
         room = omega (arith, next, w .room);
-        is = rw (p, q) (written-append byte rest to d both ∙ rw (← segment-next v i h) (w .is));
+        is = rw (p, q) (parts-written to (length byte) byte d refl writing-room rest ∙ rw (← segment-next v i h) (w .is));
       }
 
 writing-done : {v : Text} {at : ℕ} {d₀ : Text} {i to : ℕ} {d : Text} → Writing v at d₀ i to d → length v ≤ i
@@ -131,8 +112,7 @@ writing-done : {v : Text} {at : ℕ} {d₀ : Text} {i to : ℕ} {d : Text} → W
 writing-done {v} {at} {d₀} {i} {to} {d} w h =
     let n = segment-none v i h in
     let p = rw n at (w .place) in
-    let z : to + 0 ≡ to = omega arith in
-    (omega arith, sym (rw (z, append-nil, take-append-drop)) ∙ rw n at (w .is))
+    (omega arith, nothing-written to d ∙ rw n at (w .is))
 
 -- ---- the answer
 

@@ -11,7 +11,7 @@ use native.Mathlib.Decide.{decLt, ℕ-discrete}
 use native.Mathlib.Omega.{arith}
 use Prim.Native.Nat.{suc, zero, ℕ, _+_, _<_, _≤_}
 use Rattle.states.specs.Table.{Adds, Clean, Marked, NoneOver, Table, Unmarked, free, has}
-use Rattle.meaning.proofs.Cases.{true-false}
+use Rattle.meaning.proofs.Cases.{case-last, true-false}
 
 -- ---- one number of the table
 
@@ -97,13 +97,6 @@ module _ {mark n : ℕ} {table queue : List ℕ} {tail s : ℕ} (t : Table mark 
         go (yes p) = ap (λ y. has mark (set table s mark) y) p ∙ same
         go (no p) = has-other mark table s x p ∙ h
 
-    last-or : (k : ℕ) → k < tail + 1 → {P : Type 0} → (k < tail → P) → (k ≡ tail → P) → P
-    last-or k l {P} f g = go (decLt k tail)
-      where
-        go : Dec (k < tail) → P
-        go (yes h) = f h
-        go (no h) = g (omega arith)
-
     most-set : NoneOver mark n (set table s mark)
     most-set x l = go (ℕ-discrete x s)
       where
@@ -112,12 +105,12 @@ module _ {mark n : ℕ} {table queue : List ℕ} {tail s : ℕ} (t : Table mark 
         go (no p) = let z = getD-set-other table s x mark 0 p in let m = t .most x l in omega arith
 
     inside-set : (k : ℕ) → k < tail + 1 → getD (set queue tail s) k 0 < n
-    inside-set k l = last-or k l
+    inside-set k l = case-last k l
         (λ h. let z = before-tail k h in let g = t .inside k h in omega arith)
         (λ p. let z = ap (λ y. getD (set queue tail s) y 0) p ∙ at-tail in omega arith)
 
     marked-set : (k : ℕ) → k < tail + 1 → Marked mark (set table s mark) (getD (set queue tail s) k 0)
-    marked-set k l = last-or k l
+    marked-set k l = case-last k l
         (λ h. ap (λ y. has mark (set table s mark) y) (before-tail k h) ∙ more-set (getD queue k 0) (t .marked k h))
         (λ p. ap (λ y. has mark (set table s mark) y) (ap (λ y. getD (set queue tail s) y 0) p ∙ at-tail) ∙ same)
 

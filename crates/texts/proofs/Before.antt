@@ -2,38 +2,18 @@
 use lib.ListN.{drop, drop-of-length-le, getD, getElem?, length, take}
 use lib.Seq.{length-take-le, take-all}
 use mathlib.Core.Bool.{Bool, false, true, _||_}
-use mathlib.Core.List.{List, [], _∷_, _++_}
-use mathlib.Core.Option.{Option·some-injective, some}
+use mathlib.Core.List.{List}
+use mathlib.Core.Option.{some}
 use mathlib.Core.Path.{_≡_, ap, refl, sym, _∙_}
-use native.Mathlib.Nat.{le-of-suc-le-suc, not-suc-le-zero}
 use native.Mathlib.Numerals.{add-one}
 use native.Mathlib.Omega.{arith}
-use Prim.Native.Nat.{ℕ, suc, zero, _*_, _+_, _<_, _≤_}
-use Rattle.meaning.proofs.Lists.Places.{there-is}
+use Prim.Native.Nat.{ℕ, suc, _*_, _+_, _<_, _≤_}
+use Rattle.meaning.proofs.Lists.Places.{slice-entry, split-entry, take-entry, there-is}
 use Rattle.meaning.specs.Tests.{any, anyTwo}
 use Rattle.meaning.proofs.Lists.Pairs.{two-at, two-none}
 use Rattle.texts.specs.Compared.{clashes, firstOf, Keyed, Records, SaysAny, SaysBefore, SaysTwo, SomeRecords, SomeShows, widthOf}
 use Rattle.texts.specs.declared.Key.{Key}
 use Rattle.texts.proofs.Keys.{place-inside, record-shows, some-shows}
-
--- ---- a list cut around an entry
-
-module _ {A : Type 0} where
-  cut : (xs : List A) (j : ℕ) (y : A) → getElem? xs j ≡ some y → xs ≡ take j xs ++ y ∷ drop (suc j) xs
-  cut [] j y e = absurd (let z : _≡_ {A = ℕ} 0 1 = cc in omega arith)
-  cut (x ∷ xs) zero y e = ap (λ z. z ∷ xs) (Option·some-injective _ _ e)
-  cut (x ∷ xs) (suc j) y e = ap (λ z. x ∷ z) (cut xs j y e)
-
-  take-next : (xs : List A) (j : ℕ) (y : A) → getElem? xs j ≡ some y → take (suc j) xs ≡ take j xs ++ y ∷ []
-  take-next [] j y e = absurd (let z : _≡_ {A = ℕ} 0 1 = cc in omega arith)
-  take-next (x ∷ xs) zero y e = ap (λ z. z ∷ []) (Option·some-injective _ _ e)
-  take-next (x ∷ xs) (suc j) y e = ap (λ z. x ∷ z) (take-next xs j y e)
-
-  drop-next : (xs : List A) (i j : ℕ) (x : A) → i < j → getElem? xs i ≡ some x → drop i (take j xs) ≡ x ∷ drop (suc i) (take j xs)
-  drop-next xs i zero x h e = absurd (not-suc-le-zero h)
-  drop-next [] i (suc j) x h e = absurd (let z : _≡_ {A = ℕ} 0 1 = cc in omega arith)
-  drop-next (y ∷ xs) zero (suc j) x h e = ap (λ z. z ∷ take j xs) (Option·some-injective _ _ e)
-  drop-next (y ∷ xs) (suc i) (suc j) x h e = drop-next xs i j x (le-of-suc-le-suc h) e
 
 -- ---- the loop that compares record j with those before it: none before i clashes with it
 
@@ -76,7 +56,7 @@ module _ {key : Key} {s numbers : List ℕ} {at n j width first b m i : ℕ} (p 
     step records y g e =
         let x = there-is records i (omega (arith, p .below, g .many)) in
         let same = says (x .0) y (record-shows (p .wide) (p .from) g i (x .0) (x .1)) (rw (p .b-is, p .m-is) (record-shows (p .wide) (p .from) g j y e)) in
-        rw (drop-next records i j (x .0) h (x .1), same, add-one i)
+        rw (slice-entry records i j (x .0) h (x .1), same, add-one i)
 
     pub looking-found : r ≡ true → SaysBefore key s numbers at n j true
     looking-found t records y g e = rw t at (sym (step records y g e)) ∙ p .is records y g e
@@ -105,13 +85,13 @@ module _ {key : Key} {s numbers : List ℕ} {at n j : ℕ} (p : Comparing key s 
   comparing-found h t says records g =
       let y = there-is records j (omega (arith, g .many)) in
       sym (two-at (clashes key) (take j records) (y .0) (drop (suc j) records) (sym (says records (y .0) g (y .1)) ∙ t))
-      ∙ ap (anyTwo (clashes key)) (sym (cut records j (y .0) (y .1)))
+      ∙ ap (anyTwo (clashes key)) (sym (split-entry records j (y .0) (y .1)))
 
   pub comparing-on : {r : Bool} → j < n → r ≡ false → SaysBefore key s numbers at n j r → Comparing key s numbers at n (j + 1)
   comparing-on h t says = record {
     none = λ records g.
         let y = there-is records j (omega (arith, g .many)) in
-        rw (add-one j, take-next records j (y .0) (y .1))
+        rw (add-one j, take-entry records j (y .0) (y .1))
         (two-none (clashes key) (take j records) (y .0) (p .none records g) (sym (says records (y .0) g (y .1)) ∙ t));
   }
 

@@ -1,7 +1,7 @@
 -- Laws of keys: two numbers of a record whose numbers stand at a place. Assumes nothing.
 use lib.Dec.{eqb}
 use lib.ListN.{drop, getD, getElem?, length, length-drop, take}
-use lib.Seq.{drop-drop, getD-drop, getD-take}
+use lib.Seq.{drop-drop}
 use mathlib.Core.Bool.{Bool, _&&_, _||_}
 use mathlib.Core.List.{List, [], _∷_}
 use mathlib.Core.Option.{some}
@@ -17,6 +17,7 @@ use Rattle.records.specs.Numbers.{NumbersOf}
 use Rattle.texts.specs.Compared.{firstOf, Keyed, kindOf, Records, SaysTwo, Shows, SomeRecords, SomeShows, widthOf}
 use Rattle.texts.specs.declared.Key.{Key}
 use Rattle.texts.specs.declared.Key.the-variants.{Cell, Prefix, Text}
+use Rattle.meaning.proofs.Lists.Parts.{number-at}
 
 -- ---- the numbers at a place
 
@@ -36,7 +37,7 @@ module _ (numbers : List ℕ) (k p : ℕ) {ys : List ℕ} (e : take k (drop p nu
 
   number : getD numbers (p + i) 0 ≡ getD ys i 0
   unfolding within
-  number = sym (getD-drop p numbers i 0) ∙ sym (getD-take k (drop p numbers) i 0 (within .0)) ∙ ap (λ z. getD z i 0) e
+  number = number-at numbers ys p k e i (within .0)
 
 after : (numbers : List ℕ) (p i : ℕ) {x : ℕ} → getD numbers (p + (i + 1)) 0 ≡ x → getD numbers (p + i + 1) 0 ≡ x
 after numbers p i e = ap (λ z. getD numbers z 0) (omega arith) ∙ e

@@ -1,53 +1,20 @@
 -- Laws of texts that are compared at their places. Assumes nothing.
-use Rattle.meaning.proofs.Cases.{case-on, and-both}
-use borrow.Author.Tests.{eq-eqb, ne-eqb, eqb-true}
+use Rattle.meaning.proofs.Cases.{case-on}
+use borrow.Author.Tests.{eq-eqb, ne-eqb}
 use lib.Dec.{eqb}
 use lib.ListN.{length, getD, take}
 use lib.Seq.{slice, slice-empty, length-slice, getD-drop, getD-take}
-use mathlib.Core.Bool.{Bool, true, false, _&&_}
-use mathlib.Core.List.{List, [], _∷_}
-use mathlib.Core.Path.{_≡_, refl, sym, ap, _∙_}
-use native.Mathlib.Nat.{not-suc-le-zero, le-of-suc-le-suc}
+use mathlib.Core.Bool.{true, false, _&&_}
+use mathlib.Core.List.{List}
+use mathlib.Core.Path.{_≡_, sym, _∙_}
 use native.Mathlib.Numerals.{add-one}
 use native.Mathlib.Omega.{arith}
 use Prim.Native.Nat.{ℕ, zero, suc, _+_, _-_, _≤_, _<_}
 use Rattle.meaning.specs.Tests.{sameText, begins}
 use Rattle.texts.specs.Places.{SameBytes}
-use Rattle.pack.specs.Readers.{_>>=_}
 use Rattle.pack.specs.Shown.{textAt}
 use Rattle.meaning.proofs.Lists.Parts.{slice-front}
-
-begins-long : (xs ys : List ℕ) → length ys < length xs → false ≡ begins xs ys
-begins-long [] ys h = absurd (not-suc-le-zero h)
-begins-long (x ∷ xs) [] h = refl
-begins-long (x ∷ xs) (y ∷ ys) h = go (eqb x y) (begins-long xs ys (le-of-suc-le-suc h))
-  where
-    go : (b : Bool) → false ≡ begins xs ys → false ≡ (b && begins xs ys)
-    go true e = e
-    go false e = refl
-
-same-begins : (xs ys : List ℕ) → length xs ≡ length ys → begins xs ys ≡ sameText xs ys
-same-begins [] [] e = refl
-same-begins [] (y ∷ ys) e = absurd (omega arith)
-same-begins (x ∷ xs) [] e = absurd (omega arith)
-same-begins (x ∷ xs) (y ∷ ys) e = ap (λ (b : Bool). eqb x y && b) (same-begins xs ys (omega arith))
-
-same-long : (xs ys : List ℕ) → (length xs ≡ length ys → ⊥) → false ≡ sameText xs ys
-same-long [] [] h = absurd (h refl)
-same-long [] (y ∷ ys) h = refl
-same-long (x ∷ xs) [] h = refl
-same-long (x ∷ xs) (y ∷ ys) h = go (eqb x y) (same-long xs ys (λ e. h (ap suc e)))
-  where
-    go : (b : Bool) → false ≡ sameText xs ys → false ≡ (b && sameText xs ys)
-    go true e = e
-    go false e = refl
-
-same-at : (xs ys : List ℕ) (k : ℕ) → true ≡ sameText xs ys → getD xs k 0 ≡ getD ys k 0
-same-at [] [] k e = refl
-same-at [] (y ∷ ys) k e = absurd (let z : _≡_ {A = ℕ} 0 1 = cc in omega arith)
-same-at (x ∷ xs) [] k e = absurd (let z : _≡_ {A = ℕ} 0 1 = cc in omega arith)
-same-at (x ∷ xs) (y ∷ ys) zero e = eqb-true x y (and-both (eqb x y) (sameText xs ys) (sym e) .0)
-same-at (x ∷ xs) (y ∷ ys) (suc k) e = same-at xs ys k (sym (and-both (eqb x y) (sameText xs ys) (sym e) .1))
+use Rattle.meaning.proofs.Lists.Texts.{begins-long, same-at, same-begins, same-long}
 
 byte-of : (s : List ℕ) (a n k : ℕ) → k < n → getD (textAt s a n) k 0 ≡ getD s (a + k) 0
 byte-of s a n k h = getD-drop a (take (a + n) s) k 0 ∙ getD-take (a + n) s (a + k) 0 (omega arith)

@@ -11,13 +11,14 @@ use Rattle.core.specs.Keys.{objectOf, originAt, originOf}
 use Rattle.invent.specs.Invent.{Upto, numberOf}
 use Rattle.node_list.specs.Records.{overwritten}
 use Rattle.triple_list.specs.Triples.{EdgeFrom, EdgesListed, Listed, SetEdge, SetsPlaced, SubjectEdge, edgeRecord, edgeRecords, gotten, present}
-use Rattle.triple_list.proofs.ListedLaws.{listed-iff, listed-none, nothing-written}
+use Rattle.triple_list.proofs.ListedLaws.{listed-iff, listed-none}
 use Rattle.invent.proofs.Marks.{only, targets-set}
 use Rattle.core_lists.proofs.Origin.{group-in, group-only, keys-all, keys-le, keys-mono, keys-next, origin-none, origin-some}
 use Rattle.invent.proofs.SetNumbers.{number-lt}
 use Rattle.core_lists.proofs.Shaped.{requires-shape}
 use Rattle.core_lists.specs.Origin.{group, HasOrigin, keysBefore}
 use Rattle.meaning.proofs.Lists.Members.{∈-map⁻¹}
+use Rattle.meaning.proofs.Lists.Overwriting.{nothing-written}
 use Rattle.meaning.specs.Limits.{maxCoreTriples, maxIris, maxPredicates, maxTriples, typeSets}
 use Rattle.meaning.specs.Member.{_∈_, here, there}
 use Rattle.meaning.specs.Ordered.{InOrder, _≺_, before, empty, equal, less}

@@ -15,7 +15,6 @@ use Prim.Native.Nat.{ℕ, zero, suc, _+_, _*_, _-_, _<_, _≤_}
 use Rattle.core.specs.Keys.{objectOf, originAt, originOf}
 use Rattle.node_list.specs.Records.{overwritten}
 use Rattle.triple_list.specs.Triples.{EdgesListed, edgeRecord, edgeRecords}
-use Rattle.node_list.proofs.CoreList.{Records, records-again, records-done, records-start}
 use Rattle.core_lists.proofs.Origin.{keys-next, keys-rank, not-earlier, pass}
 use Rattle.core_lists.specs.Origin.{group, keysBefore}
 use Rattle.meaning.specs.Limits.{maxTriples, placeRoom, tripleListLength}
@@ -23,6 +22,7 @@ use Rattle.meaning.specs.Member.{_∈_, here, there}
 use Rattle.meaning.specs.Ordered.{InOrder, before}
 use Rattle.meaning.proofs.Cases.{case-on}
 use Rattle.sets.specs.Ordered.{rankOf}
+use Rattle.meaning.proofs.Lists.Recording.{Records, records-again, records-done, records-start}
 
 module _ (q : ℕ) where
   group-none : (ks : List ℕ) → ((k : ℕ) → k ∈ ks → originOf k ≢ q) → group q ks ≡ []

@@ -1,6 +1,6 @@
 -- Lists of records written one after the other. Assumes nothing.
-use lib.ListN.{length, length-append, take, take-append-drop}
-use mathlib.Core.List.{List, [], _++_, append-nil, flatten}
+use lib.ListN.{length, length-append}
+use mathlib.Core.List.{List, [], _++_, flatten}
 use mathlib.Core.Logic.{_↔_, _⊎_, inl, inr, Iff·trans}
 use mathlib.Core.Path.{_≡_, refl, sym, ap, subst, _∙_}
 use native.Mathlib.Decide.{ℕ-discrete}
@@ -9,14 +9,14 @@ use Prim.Native.Nat.{ℕ, _+_, _*_, _<_, _≤_}
 use Rattle.invent.specs.Invent.{Upto}
 use Rattle.node_list.specs.Records.{overwritten}
 use Rattle.triple_list.specs.Triples.{Listed}
-use Rattle.node_list.proofs.NodesLaws.{flat-join}
-use Rattle.node_list.proofs.Written.{parts-written}
 use Rattle.meaning.proofs.Lists.SetLists.{empty-list, joined-list}
 use Rattle.meaning.specs.Ordered.{_≺_}
 use Rattle.meaning.specs.Pack.{Pack}
 use Rattle.shapes.specs.Shapes.{Tabled}
+use Rattle.meaning.proofs.Lists.Overwriting.{nothing-written, parts-written}
+use Rattle.meaning.proofs.Lists.Blocks.{flat-join}
 
--- ---- lists in order
+-- ---- one number more
 
 pub upto-more : {A : Type 0} (Q : ℕ → A → Type 0) (n : ℕ) (x : A) → Upto Q (n + 1) x ↔ (Upto Q n x ⊎ Q n x)
 upto-more {A} Q n x = (λ u. split u (ℕ-discrete (u .at) n), join)
@@ -30,11 +30,6 @@ upto-more {A} Q n x = (λ u. split u (ℕ-discrete (u .at) n), join)
     join (inr q) = record { at = n; below = omega arith; holds = q }
 
 -- ---- lists in a slice
-
-pub nothing-written : (at : ℕ) (out : List ℕ) → out ≡ overwritten at [] out
-nothing-written at out =
-    let e : at + 0 ≡ at = omega arith in
-    sym (rw (e, append-nil (take at out)) (take-append-drop at out))
 
 module _ {table : List (List ℕ)} where
   pub listed-none : {Q : Pack → List ℕ → Type 0} (first : ℕ) (out : List ℕ) → ((P : Pack) → Tabled (P .setting) table → (x : List ℕ) → ¬ Q P x) → Listed table Q first out out first
@@ -55,7 +50,7 @@ module _ {table : List (List ℕ)} where
     long = ap length (flat-join (a .records) (b .records)) ∙ length-append (flatten (a .records)) (flatten (b .records))
         ∙ (let p = a .long in let q = b .long in let n = length-append (a .records) (b .records) in omega arith);
     count = let p = a .count in let q = b .count in let n = length-append (a .records) (b .records) in omega arith;
-    written = b .written ∙ rw (a .written, place) (parts-written (first * 3) (flatten (a .records)) (flatten (b .records)) out₀ (subst (λ x. x ≤ length out₀) place room))
+    written = b .written ∙ rw (a .written, place) (parts-written (first * 3) (length (flatten (a .records))) (flatten (a .records)) out₀ refl (subst (λ x. x ≤ length out₀) place room) (flatten (b .records)))
         ∙ ap (λ (l : List ℕ). overwritten (first * 3) l out₀) (sym (flat-join (a .records) (b .records)));
   }
     where

@@ -112,7 +112,7 @@ module _ {P : Pack} {shapes : List (List ℕ)} {nodes triples masks flags : List
   -- an IRI stands before the literals
   iri-below : (c : ℕ) (vs : List ℕ) (i : ℕ) → CoreNode P (iriNode c vs) → getElem? nodes i ≡ some (keyOf (iriNode c vs)) → i < rankOf firstLiteral nodes
   iri-below c vs i k e =
-      rank-above firstLiteral nodes i (subst (λ x. x < firstLiteral) (sym (entry-is nodes i (keyOf (iriNode c vs)) e)) (iri-key-lt P (I .bounded) c vs (proper P (well I) k)))
+      rank-above firstLiteral nodes i (subst (λ x. x < firstLiteral) (sym (entry-is nodes i (keyOf (iriNode c vs)) 0 e)) (iri-key-lt P (I .bounded) c vs (proper P (well I) k)))
       (I .held .node-keys .ascending) (inside nodes i (keyOf (iriNode c vs)) e)
 
   module _ (places : List ℕ) (numbered : Numbered bs places) where

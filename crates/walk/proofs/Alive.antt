@@ -1,6 +1,6 @@
 -- The walk finds what an expression joins: forward the ends that are reached, backward the states that are alive. This
 -- holds for any graph whose edges join its nodes, any threaded parts, and the expressions that these have. Assumes nothing.
-use mathlib.Core.Logic.{_↔_, _⊎_, inl, inr, ⊎-elim}
+use mathlib.Core.Logic.{_↔_, inl, inr, ⊎-elim}
 use mathlib.Core.Path.{_≡_, refl, sym, subst}
 use native.Mathlib.Omega.{arith}
 use Prim.Native.Nat.{ℕ, zero, suc, _<_}

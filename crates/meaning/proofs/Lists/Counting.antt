@@ -38,6 +38,7 @@ pigeonhole f (x ∷ xs) ys (before p a) h one =
     (λ y z i j. one y z (there i) (there j)) in
     omega (arith, without-length m)
 
+-- numbers in order that stand from lo on, below lo + w
 pub span : (w lo : ℕ) (xs : List ℕ) → InOrder _<_ xs → ((x : ℕ) → x ∈ xs → (lo ≤ x) × (x < lo + w)) → length xs ≤ w
 span w lo [] a h = zero-le
 span w lo (x ∷ xs) (before p a) h =

@@ -2,7 +2,7 @@
 use lib.Dec.{T}
 use lib.ListN.{getD, getElem?, length, take}
 use lib.Seq.{take-suc}
-use mathlib.Core.Bool.{Bool, true, false, _&&_, _||_}
+use mathlib.Core.Bool.{Bool, true, false, _&&_, _||_, and-assoc}
 use mathlib.Core.List.{List, [], _∷_, _++_, map, flatMap, filterMap, filterMap-cons-none, filterMap-cons-some, Memᴰ·of-map, Memᴰ·append-left, Memᴰ·append-right, List·Memᴰ·append-cases, List·Memᴰ·eq-of-singleton}
 use mathlib.Core.Logic.{_⊎_, _↔_, inl, inr}
 use mathlib.Core.Option.{Option, none, some, Option·none-ne-some, Option·some-injective}
@@ -116,6 +116,10 @@ module _ {A : Type 0} where
   every-at f [] t h = elim h [ ]
   every-at f (y ∷ ys) t (here e) = subst (λ z. T (f z)) (sym e) (both (f y) (every f ys) .0 t .0)
   every-at f (y ∷ ys) t (there h) = every-at f ys (both (f y) (every f ys) .0 t .1) h
+
+  pub every-append : (f : A → Bool) (xs ys : List A) → every f (xs ++ ys) ≡ (every f xs && every f ys)
+  every-append f [] ys = refl
+  every-append f (x ∷ xs) ys = ap (λ (b : Bool). f x && b) (every-append f xs ys) ∙ sym (and-assoc (f x) (every f xs) (every f ys))
 
   -- the elements that pass a decided test
   module _ {Q : A → Type 0} (d : (x : A) → Dec (Q x)) where

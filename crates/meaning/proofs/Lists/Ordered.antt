@@ -1,11 +1,12 @@
 -- Laws of lists in order: such a list is fixed by its elements, so "ascending, and exactly the members" says which list it
 -- is. Assumes nothing.
-use mathlib.Core.List.{List, [], _∷_}
+use lib.ListN.{getD, length, take}
+use mathlib.Core.List.{List, [], _∷_, _++_}
 use mathlib.Core.Logic.{_↔_, _≢_, Iff·trans, Iff·symm}
 use mathlib.Core.Path.{_≡_, refl, sym, _∙_, subst}
-use native.Mathlib.Nat.{lt-irrefl, lt-trans}
+use native.Mathlib.Nat.{le-of-suc-le-suc, lt-irrefl, lt-trans, not-suc-le-zero}
 use native.Mathlib.Omega.{arith}
-use Prim.Native.Nat.{ℕ, _<_}
+use Prim.Native.Nat.{ℕ, zero, suc, _≤_, _<_}
 use Rattle.meaning.specs.Member.{_∈_, here, there}
 use Rattle.meaning.specs.Ordered.{InOrder, ListOf, _≺_, before, empty, equal, less, shorter}
 
@@ -23,6 +24,18 @@ pub ≺-trans : {xs ys zs : List ℕ} → xs ≺ ys → ys ≺ zs → xs ≺ zs
 ≺-trans (less {x} g) (equal {y = z} e h) = less {x = x} {y = z} (omega arith)
 ≺-trans (equal {x} e g) (less {y = z} h) = less {x = x} {y = z} (omega arith)
 ≺-trans (equal e g) (equal f h) = equal (e ∙ f) (≺-trans g h)
+
+-- with the same numbers behind
+pub take-less : (n : ℕ) (vs ws r : List ℕ) → vs ≺ ws → length vs ≡ length ws → length vs ≤ n → take n (vs ++ r) ≺ take n (ws ++ r)
+take-less n [] (w ∷ ws) r h e l = absurd (let z : ⊥ = omega arith in z)
+take-less zero (v ∷ vs) (w ∷ ws) r h e l = absurd (not-suc-le-zero l)
+take-less (suc n) (v ∷ vs) (w ∷ ws) r (less h) e l = less h
+take-less (suc n) (v ∷ vs) (w ∷ ws) r (equal q h) e l = equal q (take-less n vs ws r h (omega arith) (le-of-suc-le-suc l))
+
+pub first-rises : (r s : List ℕ) → 0 < length r → r ≺ s → getD r 0 0 ≤ getD s 0 0
+first-rises [] s l h = absurd (omega arith)
+first-rises (x ∷ r) (y ∷ s) l (less h) = omega arith
+first-rises (x ∷ r) (y ∷ s) l (equal e h) = omega arith
 
 -- ---- any strict order
 

@@ -5,11 +5,12 @@ use mathlib.Core.Option.{some, Option·none-ne-some, Option·some-injective}
 use mathlib.Core.Path.{_≡_, refl, ap, subst}
 use native.Mathlib.Decide.{decLt, ℕ-discrete}
 use native.Mathlib.Omega.{arith}
-use Prim.Native.Nat.{ℕ, zero, suc, _<_}
+use Prim.Native.Nat.{ℕ, zero, suc, _≤_, _<_}
 use Rattle.meaning.proofs.Lists.Members.{element}
 use Rattle.meaning.proofs.Lists.Ordered.{Strict}
 use Rattle.meaning.proofs.Lists.Places.{entry-at}
 use Rattle.meaning.specs.Ordered.{InOrder, before}
+use Rattle.meaning.specs.Member.{here, there, _∈_}
 
 module _ {A : Type 0} {R : A → A → Type 0} where
   pub one-place : Strict R → (xs : List A) → InOrder R xs → (b : A) (n m : ℕ) → getElem? xs n ≡ some b → getElem? xs m ≡ some b → n ≡ m
@@ -40,3 +41,15 @@ lower-earlier xs a i j l h = go (decLt i j) (ℕ-discrete i j)
     go (yes k) e = k
     go (no n) (yes e) = absurd (let q = ap (λ (k : ℕ). getD xs k 0) e in let z : ⊥ = omega arith in z)
     go (no n) (no m) = absurd (let k = greater-later xs a j i (omega arith) l in let z : ⊥ = omega arith in z)
+
+-- in an ascending list, the one after x stands no later than any greater one
+pub next-le : (xs : List ℕ) → InOrder _<_ xs → (i x y : ℕ) → getElem? xs i ≡ some x → y ∈ xs → x < y → (suc i < length xs) × (x < getD xs (suc i) 0) × (getD xs (suc i) 0 ≤ y)
+next-le [] a i x y e m l = absurd (Option·none-ne-some x e)
+next-le (z ∷ zs) (before f a) zero x y e (here q) l = absurd (let r = Option·some-injective z x e in let w : ⊥ = omega arith in w)
+next-le (z ∷ zs) (before f a) zero x y e (there m) l = first zs a m f
+  where
+    first : (ws : List ℕ) → InOrder _<_ ws → y ∈ ws → ((w : ℕ) → w ∈ ws → z < w) → (suc 0 < suc (length ws)) × (x < getD ws 0 0) × (getD ws 0 0 ≤ y)
+    first (w ∷ ws) b (here q) g = let r = Option·some-injective z x e in (omega arith, omega arith, omega arith)
+    first (w ∷ ws) (before p b) (there n) g = let r = Option·some-injective z x e in let h = g w (here refl) in let k = p y n in (omega arith, omega arith, omega arith)
+next-le (z ∷ zs) (before f a) (suc i) x y e (here q) l = absurd (let h = f x (element zs i x e) in let w : ⊥ = omega arith in w)
+next-le (z ∷ zs) (before f a) (suc i) x y e (there m) l = let r = next-le zs a i x y e m l in (let h = r .0 in omega arith, r .1, r .2)

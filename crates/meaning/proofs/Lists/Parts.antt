@@ -1,13 +1,12 @@
--- Parts of a list by their places; records of one length, one after another. Assumes nothing.
-use lib.ListN.{drop, getD, getElem?, length, length-append, take}
-use lib.Seq.{drop-drop, getD-drop, getD-take, slice, slice-cons, take-append-seam, take-at, drop-at, take-take}
-use mathlib.Core.List.{List, [], _∷_, _++_, flatMap}
-use mathlib.Core.Option.{some, Option·none-ne-some, Option·some-injective}
+-- Parts of a list by their places. Assumes nothing.
+use lib.ListN.{drop, getD, length, length-drop, length-take, take}
+use lib.Seq.{drop-drop, ext-getD, getD-drop, getD-take, slice, slice-cons, take-take}
+use mathlib.Core.List.{List, [], _∷_}
 use mathlib.Core.Path.{_≡_, sym, ap, _∙_}
-use native.Mathlib.Nat.{zero-add, suc-add, mul-le-mul-right, suc-mul}
+use native.Mathlib.Nat.{zero-add, suc-add, add-sub-cancel-left}
 use native.Mathlib.Numerals.{add-one}
 use native.Mathlib.Omega.{arith}
-use Prim.Native.Nat.{ℕ, zero, suc, _+_, _*_, _-_, _≤_, _<_}
+use Prim.Native.Nat.{ℕ, zero, suc, _+_, _-_, _≤_, _<_}
 
 module _ {A : Type 0} where
   take-drop : (n f : ℕ) (l : List A) → take n (drop f l) ≡ drop f (take (f + n) l)
@@ -43,10 +42,6 @@ module _ {A : Type 0} where
       ∙ ap (drop p) (sym (take-take (p + w) at xs h) ∙ ap (take (p + w)) e ∙ take-take (p + w) at ys h)
       ∙ sym (slice-by p w ys)
 
-  -- what stands before the padding
-  pub unpadded : (xs ys : List A) (w : ℕ) → length xs ≤ w → take (length xs) (take w (xs ++ ys)) ≡ xs
-  unpadded xs ys w h = take-take (length xs) w (xs ++ ys) h ∙ take-append-seam xs ys
-
 -- ---- numbers that stand at a place
 
 module _ (l ns : List ℕ) (at w : ℕ) (e : take w (drop at l) ≡ ns) where
@@ -61,28 +56,20 @@ module _ (l ns : List ℕ) (at w : ℕ) (e : take w (drop at l) ≡ ns) where
       sym (drop-drop a at (take (at + b) l)) ∙ ap (λ (t : List ℕ). drop a t) (sym (slice-by at b l))
       ∙ ap (λ (t : List ℕ). drop a t) (sym (take-take b w (drop at l) h)) ∙ ap (λ (t : List ℕ). slice a b t) e
 
--- ---- records of one length, one after another
+-- ---- numbers that are equal, and parts as code names them
 
--- record i of n ends before the end of all
-pub record-end : (i n w : ℕ) → i < n → i * w + w ≤ n * w
-record-end i n w h = omega (arith, suc-mul i w, mul-le-mul-right {m = suc i} {n = n} w h)
+-- equal numbers at the places from a on
+pub part-same : (a k : ℕ) (xs ys : List ℕ) → length xs ≡ length ys → ((i : ℕ) → i < a + k → getD xs i 0 ≡ getD ys i 0) → take k (drop a xs) ≡ take k (drop a ys)
+part-same a k xs ys l h = ext-getD 0 (take k (drop a xs)) (take k (drop a ys)) long same
+  where
+    long : length (take k (drop a xs)) ≡ length (take k (drop a ys))
+    long = omega (arith, l, length-take k (drop a xs), length-take k (drop a ys), length-drop a xs, length-drop a ys)
 
-module _ {A : Type 0} (f : A → List ℕ) (w : ℕ) (each : (x : A) → length (f x) ≡ w) where
-  pub length-flat : (xs : List A) → length (flatMap f xs) ≡ length xs * w
-  unfolding flatMap
-  length-flat [] = sym (zero-mul w)
-    where
-      zero-mul : (k : ℕ) → 0 * k ≡ 0
-      zero-mul k = omega arith
-  length-flat (x ∷ xs) = let s : suc (length xs) * w ≡ w + length xs * w = omega arith in omega (arith, length-append (f x) (flatMap f xs), each x, length-flat xs, s)
+    same : (c : ℕ) → c < length (take k (drop a xs)) → getD (take k (drop a xs)) c 0 ≡ getD (take k (drop a ys)) c 0
+    same c u =
+        let b : c < k = omega (arith, u, length-take k (drop a xs)) in
+        getD-take k (drop a xs) c 0 b ∙ getD-drop a xs c 0 ∙ h (a + c) (omega (arith, b)) ∙ sym (getD-drop a ys c 0) ∙ sym (getD-take k (drop a ys) c 0 b)
 
-  pub flat-at : (xs : List A) (i : ℕ) (x : A) → getElem? xs i ≡ some x → take w (drop (i * w) (flatMap f xs)) ≡ f x
-  unfolding flatMap
-  flat-at [] i x e = absurd (Option·none-ne-some x e)
-  flat-at (y ∷ xs) zero x e =
-      let z : 0 * w ≡ 0 = omega arith in
-      ap (λ (k : ℕ). take w (drop k (f y ++ flatMap f xs))) z ∙ take-at (f y) (flatMap f xs) w (each y) ∙ ap f (Option·some-injective y x e)
-  flat-at (y ∷ xs) (suc i) x e =
-      let s : suc i * w ≡ w + i * w = omega arith in
-      ap (λ (k : ℕ). take w (drop k (f y ++ flatMap f xs))) s ∙ ap (λ (t : List ℕ). take w t) (sym (drop-drop (i * w) w (f y ++ flatMap f xs)))
-      ∙ ap (λ (t : List ℕ). take w (drop (i * w) t)) (drop-at (f y) (flatMap f xs) w (each y)) ∙ flat-at xs i x e
+-- the part from a on, of k numbers
+pub as-part : (P : List ℕ → Type 0) (a k : ℕ) (xs : List ℕ) → P (take k xs) → P (take (a + k - a) xs)
+as-part P a k xs h = rw (add-sub-cancel-left a k) h

@@ -1,6 +1,6 @@
 -- Elements of lists by their places. Assumes nothing.
-use lib.ListN.{drop, getD, getElem?, length, replicate}
-use mathlib.Core.List.{List, [], _∷_, _++_}
+use lib.ListN.{drop, getD, getElem?, length, replicate, take, take-append-drop}
+use mathlib.Core.List.{List, [], _∷_, _++_, map}
 use mathlib.Core.Option.{none, some, Option·none-ne-some, Option·some-injective}
 use mathlib.Core.Path.{_≡_, refl, sym, ap, _∙_}
 use native.Mathlib.Nat.{le-of-suc-le-suc, not-suc-le-zero}
@@ -21,6 +21,11 @@ module _ {A : Type 0} where
   there-is [] i h = absurd (not-suc-le-zero h)
   there-is (x ∷ xs) zero h = (x, refl)
   there-is (x ∷ xs) (suc i) h = there-is xs i (le-of-suc-le-suc h)
+
+  pub entry-is : (xs : List A) (i : ℕ) (x d : A) → getElem? xs i ≡ some x → getD xs i d ≡ x
+  entry-is [] i x d e = absurd (Option·none-ne-some x e)
+  entry-is (y ∷ ys) zero x d e = Option·some-injective y x e
+  entry-is (y ∷ ys) (suc i) x d e = entry-is ys i x d e
 
   -- past the end there is nothing
   pub entry-none : (xs : List A) (i : ℕ) → length xs ≤ i → getElem? xs i ≡ none
@@ -55,17 +60,32 @@ module _ {A : Type 0} where
   drop-entry (y ∷ xs) zero x e = ap (λ (z : A). z ∷ xs) (Option·some-injective y x e)
   drop-entry (y ∷ xs) (suc i) x e = drop-entry xs i x e
 
+  -- a list cut around an entry
+  pub split-entry : (xs : List A) (j : ℕ) (y : A) → getElem? xs j ≡ some y → xs ≡ take j xs ++ y ∷ drop (suc j) xs
+  split-entry xs j y e = sym (take-append-drop j xs) ∙ ap (λ (r : List A). take j xs ++ r) (drop-entry xs j y e)
+
+  pub take-entry : (xs : List A) (j : ℕ) (y : A) → getElem? xs j ≡ some y → take (suc j) xs ≡ take j xs ++ y ∷ []
+  take-entry [] j y e = absurd (let z : _≡_ {A = ℕ} 0 1 = cc in omega arith)
+  take-entry (x ∷ xs) zero y e = ap (λ z. z ∷ []) (Option·some-injective _ _ e)
+  take-entry (x ∷ xs) (suc j) y e = ap (λ z. x ∷ z) (take-entry xs j y e)
+
+  pub slice-entry : (xs : List A) (i j : ℕ) (x : A) → i < j → getElem? xs i ≡ some x → drop i (take j xs) ≡ x ∷ drop (suc i) (take j xs)
+  slice-entry xs i zero x h e = absurd (not-suc-le-zero h)
+  slice-entry [] i (suc j) x h e = absurd (let z : _≡_ {A = ℕ} 0 1 = cc in omega arith)
+  slice-entry (y ∷ xs) zero (suc j) x h e = ap (λ z. z ∷ take j xs) (Option·some-injective _ _ e)
+  slice-entry (y ∷ xs) (suc i) (suc j) x h e = slice-entry xs i j x (le-of-suc-le-suc h) e
+
+pub entry-map : {A B : Type 0} (f : A → B) (l : List A) (i : ℕ) (x : A) → getElem? l i ≡ some x → getElem? (map f l) i ≡ some (f x)
+entry-map f [] i x e = absurd (Option·none-ne-some x e)
+entry-map f (y ∷ l) zero x e = ap some (ap f (Option·some-injective y x e))
+entry-map f (y ∷ l) (suc i) x e = entry-map f l i x e
+
 -- ---- numbers by their places
 
 pub entry-at : (xs : List ℕ) (i : ℕ) → i < length xs → getElem? xs i ≡ some (getD xs i 0)
 entry-at [] i h = absurd (not-suc-le-zero h)
 entry-at (x ∷ xs) zero h = refl
 entry-at (x ∷ xs) (suc i) h = entry-at xs i (le-of-suc-le-suc h)
-
-pub entry-is : (xs : List ℕ) (i x : ℕ) → getElem? xs i ≡ some x → getD xs i 0 ≡ x
-entry-is [] i x e = absurd (Option·none-ne-some x e)
-entry-is (y ∷ ys) zero x e = Option·some-injective y x e
-entry-is (y ∷ ys) (suc i) x e = entry-is ys i x e
 
 pub ∈-at : (xs : List ℕ) (i : ℕ) → i < length xs → getD xs i 0 ∈ xs
 ∈-at xs i h = element xs i (getD xs i 0) (entry-at xs i h)

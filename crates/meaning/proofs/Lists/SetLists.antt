@@ -47,3 +47,7 @@ empty-list n = record { ascending = empty; members = λ x. (λ m. elim m [ ], λ
 -- the same set
 pub list-as : {A : Type 0} {R : A → A → Type 0} {Q Q′ : A → Type 0} {xs : List A} → ((y : A) → Q y ↔ Q′ y) → ListOf R Q xs → ListOf R Q′ xs
 list-as h l = record { ascending = l .ascending; members = λ y. Iff·trans (l .members y) (h y) }
+
+-- a list in order is the list of its elements
+pub own-list : {A : Type 0} {R : A → A → Type 0} {xs : List A} → InOrder R xs → ListOf R (λ x. x ∈ xs) xs
+own-list a = record { ascending = a; members = λ x. (λ m. m, λ m. m) }

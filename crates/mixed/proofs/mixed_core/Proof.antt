@@ -7,9 +7,10 @@ use native.Mathlib.Nat.{not-suc-le-zero}
 use native.Mathlib.Omega.{arith}
 use Prim.Native.Nat.{_-_}
 use Rattle.mixed.specs.Mixed.{mixedNode}
-use Rattle.mixed.proofs.MixedLaws.{NoneBelow, found-at, found-none, none-again}
+use Rattle.mixed.proofs.MixedLaws.{found-at, found-none}
 use Rattle.mixed.proofs.mixed_core.Statement.{statement}
 use Rattle.mixed.proofs.mixed_core.Tie as tie
+use Rattle.meaning.proofs.Lists.Below.{NoneBelow, none-again}
 
 abbrev Inv-loop : tie.InvT-loop
 Inv-loop nodes masks i₀ i-end i = (i-end ≡ length nodes) × NoneBelow (λ j. T (mixedNode (getD nodes j 0) (getD masks j 0))) i

@@ -3,10 +3,11 @@ use borrow.Author.Needs.{needs}
 use native.Mathlib.Omega.{arith}
 use Prim.Native.Nat.{_-_, _≤_, _<_}
 use Rattle.mixed.specs.Mixed.{MixedFlag}
-use Rattle.mixed.proofs.MixedLaws.{NoneBelow, found-at, found-none, none-again}
+use Rattle.mixed.proofs.MixedLaws.{found-at, found-none}
 use Rattle.mixed.proofs.mixed_sets.Statement.{statement}
 use Rattle.meaning.specs.Limits.{memberSets, typeSets}
 use Rattle.mixed.proofs.mixed_sets.Tie as tie
+use Rattle.meaning.proofs.Lists.Below.{NoneBelow, none-again}
 
 abbrev Inv-loop : tie.InvT-loop
 Inv-loop flags j₀ j = (typeSets < j) × (j ≤ memberSets) × NoneBelow (MixedFlag flags) j

@@ -1,9 +1,9 @@
 -- `is_dangling` meets its contract. Assumes nothing.
 use Rattle.meaning.specs.WellFormed.{dangling}
-use Rattle.names.proofs.Records.{failed, passed}
 use borrow.Author.Needs.{needs}
 use Rattle.names.proofs.is_dangling.Statement.{statement}
 use Rattle.names.proofs.is_dangling.Tie as tie
+use Rattle.meaning.proofs.Lists.Testing.{failed, passed}
 
 pub is-dangling-spec : {M : Type 1} → statement M
 unfolding dangling

@@ -5,11 +5,12 @@ use mathlib.Core.Path.{_≡_}
 use native.Mathlib.Omega.{arith}
 use Prim.Native.Nat.{_-_, _≤_}
 use Rattle.node_list.specs.Records.{coreRecords}
-use Rattle.node_list.proofs.CoreList.{Records, core-end, core-next, numbers-long, records-again, records-done, records-start}
+use Rattle.node_list.proofs.CoreList.{core-end, core-next, numbers-long}
 use Rattle.node_list.proofs.list_core.Statement.{statement}
 use Rattle.meaning.specs.Limits.{nodeWidth}
 use Rattle.node_list.proofs.list_core.Tie as tie
 use Rattle.meaning.proofs.Lists.Places.{∈-at}
+use Rattle.meaning.proofs.Lists.Recording.{Records, records-again, records-done, records-start}
 
 abbrev Inv-loop : tie.InvT-loop
 Inv-loop arities nodes masks out₀ i₀ i-end out i =

@@ -1,9 +1,10 @@
 -- `node_list::write_core_node` meets its contract. Assumes nothing.
 use borrow.Author.Needs.{needs}
 use native.Mathlib.Omega.{arith}
-use Rattle.node_list.proofs.Written.{iri-numbers, literal-numbers, written-as}
+use Rattle.node_list.proofs.Written.{iri-numbers, literal-numbers}
 use Rattle.node_list.proofs.write_core_node.Statement.{statement}
 use Rattle.node_list.proofs.write_core_node.Tie as tie
+use Rattle.meaning.proofs.Lists.Overwriting.{written-as}
 
 pub write-core-node-spec : {M : Type 1} → statement M
 write-core-node-spec =

@@ -2,10 +2,10 @@
 use borrow.Author.Needs.{needs}
 use Prim.Native.Nat.{_*_}
 use Rattle.node_list.proofs.SetList.{set-literal, set-other}
-use Rattle.node_list.proofs.Written.{written-as}
 use Rattle.node_list.proofs.write_set.Statement.{statement}
 use Rattle.meaning.specs.Limits.{nodeWidth}
 use Rattle.node_list.proofs.write_set.Tie as tie
+use Rattle.meaning.proofs.Lists.Overwriting.{written-as}
 
 pub write-set-spec : {M : Type 1} → statement M
 write-set-spec =

@@ -3,11 +3,11 @@ use borrow.Author.Needs.{needs}
 use lib.Count.{ones, trailing-le}
 use native.Mathlib.Omega.{arith}
 use Rattle.meaning.specs.Pack.{requires}
-use Rattle.sets.proofs.Lowest.{ones-cleared}
 use Rattle.shapes.proofs.Passing.{Passing, fails, found, no-shape, none-passes, pass-start}
 use Rattle.shapes.proofs.Search.{search-next}
 use Rattle.shapes.proofs.required.Statement.{statement}
 use Rattle.shapes.proofs.required.Tie as tie
+use Rattle.meaning.proofs.Lists.Lowest.{ones-cleared}
 
 abbrev Inv-loop : tie.InvT-loop
 Inv-loop shapes mask p left₀ left = Passing requires shapes mask p left

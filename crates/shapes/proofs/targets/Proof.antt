@@ -2,11 +2,11 @@
 use borrow.Author.Needs.{needs}
 use lib.Count.{ones, trailing-le}
 use native.Mathlib.Omega.{arith}
-use Rattle.sets.proofs.Lowest.{ones-cleared}
 use Rattle.shapes.proofs.Joining.{Joining, code-fits, join-done, join-on, join-past, join-start}
 use Rattle.shapes.proofs.Search.{search-next}
 use Rattle.shapes.proofs.targets.Statement.{statement}
 use Rattle.shapes.proofs.targets.Tie as tie
+use Rattle.meaning.proofs.Lists.Lowest.{ones-cleared}
 
 abbrev Inv-loop : tie.InvT-loop
 Inv-loop shapes mask p left₀ all₀ left all = Joining shapes mask p left all

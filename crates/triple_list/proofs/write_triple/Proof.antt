@@ -3,9 +3,9 @@ use borrow.Author.Needs.{needs}
 use lib.ListN.{length-set}
 use native.Mathlib.Omega.{arith}
 use Prim.Native.Nat.{_*_}
-use Rattle.node_list.proofs.Written.{three}
 use Rattle.triple_list.proofs.write_triple.Statement.{statement}
 use Rattle.triple_list.proofs.write_triple.Tie as tie
+use Rattle.meaning.proofs.Lists.Overwriting.{three}
 
 pub write-triple-spec : {M : Type 1} → statement M
 write-triple-spec =

@@ -8,10 +8,10 @@ use native.Mathlib.Omega.{arith}
 use Prim.Native.Nat.{_-_, _+_, _*_}
 use Rattle.matching.specs.Plan.{Among, KeyVariables, RowsBytes}
 use Rattle.matching.proofs.Prepare.{Preparing, prepare-start, counted-small, prepare-again, prepare-done}
-use Rattle.matching.proofs.Rows.{as-part}
 use Rattle.matching.proofs.candidates.all_candidates.Statement.{statement}
 use Rattle.meaning.specs.Limits.{atomWidth, maxRows}
 use Rattle.matching.proofs.candidates.all_candidates.Tie as tie
+use Rattle.meaning.proofs.Lists.Parts.{as-part}
 
 abbrev Inv-loop : tie.InvT-loop
 Inv-loop rows atoms orders count start out₀ counts₀ j₀ out counts j = Preparing rows atoms orders start count out₀ j out counts

@@ -7,10 +7,10 @@ use native.Mathlib.Omega.{arith}
 use Prim.Native.Nat.{_-_, _+_, _*_}
 use Rattle.matching.specs.Plan.{AreVariables}
 use Rattle.matching.proofs.Marked.{Freshening, fresh-start, fresh-again, fresh-done}
-use Rattle.matching.proofs.Rows.{as-part}
 use Rattle.matching.proofs.marks.fresh.Statement.{statement}
 use Rattle.meaning.specs.Limits.{atomWidth}
 use Rattle.matching.proofs.marks.fresh.Tie as tie
+use Rattle.meaning.proofs.Lists.Parts.{as-part}
 
 abbrev Inv-loop : tie.InvT-loop
 Inv-loop atoms count vars seen₀ j₀ seen j = Freshening atoms count vars j seen

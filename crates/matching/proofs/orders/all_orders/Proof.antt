@@ -6,10 +6,10 @@ use native.Mathlib.Omega.{arith}
 use Prim.Native.Nat.{_-_, _+_, _*_}
 use Rattle.matching.specs.Plan.{KeyVariables}
 use Rattle.matching.proofs.Order.{Ordering, ordering-start, ordering-again, ordering-done, first-length, first-few}
-use Rattle.matching.proofs.Rows.{as-part}
 use Rattle.matching.proofs.orders.all_orders.Statement.{statement}
 use Rattle.meaning.specs.Limits.{atomWidth}
 use Rattle.matching.proofs.orders.all_orders.Tie as tie
+use Rattle.meaning.proofs.Lists.Parts.{as-part}
 
 abbrev Inv-loop : tie.InvT-loop
 Inv-loop atoms count out₀ orders₀ seen₀ j₀ out orders seen j = (length out ≡ length out₀) × Ordering atoms count j orders

@@ -9,7 +9,7 @@ use Rattle.meaning.specs.Ordered.{InOrder}
 use Rattle.matching.specs.Plan.{variablesAt, candidatesAt, KeyVariables, SpanOf}
 use Rattle.matching.proofs.Columns.{Columns, columns-start, columns-differ, columns-again}
 use Rattle.matching.proofs.Grown.{grown-by}
-use Rattle.matching.proofs.Rows.{own-length, own-at, own-small, row-small, span-counted, all-bound, leaf-iff, settled-same, Trying, trying-start, trying-done, trying-skip, trying-more, trying-over, reaches-next, as-part, span-parts}
+use Rattle.matching.proofs.Rows.{own-length, own-at, own-small, row-small, span-counted, all-bound, leaf-iff, settled-same, Trying, trying-start, trying-done, trying-skip, trying-more, trying-over, reaches-next, span-parts}
 use borrow.Fn.Kinds.{In}
 use borrow.Fn.PlainCycle.{Measures, is, falls, and}
 use Rattle.matching.proofs.search.add_heads.Reads as add-heads
@@ -21,6 +21,7 @@ use Rattle.matching.proofs.spans.rows_left.Reads as rows-left-reads
 use Rattle.matching.proofs.search.+add_heads.{statement}
 use Rattle.matching.proofs.search.+add_heads.Tie.{close}
 use Rattle.meaning.specs.Limits.{atomWidth, maxRows}
+use Rattle.meaning.proofs.Lists.Parts.{as-part}
 
 abbrev μ-add-heads : Measures 4 add-heads-kinds.ps ℕ
 μ-add-heads κs a = a .1 .0 - a .1 .1 .1 .1 .1 .0

@@ -7,10 +7,10 @@ use Rattle.meaning.specs.Tests.{every}
 use Rattle.meaning.specs.WellFormed.{goodDependency}
 use Rattle.names.specs.Given.{SettingGiven}
 use Rattle.names.proofs.Dependency.{dependencies-few, dependencies-many, dependency-at}
-use Rattle.names.proofs.Records.{Left, every-on, every-stop, left-done, left-start}
 use borrow.Author.Needs.{needs}
 use Rattle.names.proofs.dependencies.good_dependencies.Statement.{statement}
 use Rattle.names.proofs.dependencies.good_dependencies.Tie as tie
+use Rattle.meaning.proofs.Lists.Testing.{Left, every-on, every-stop, left-done, left-start}
 
 abbrev Inv-loop : tie.InvT-loop
 Inv-loop numbers counts n i₀ i = (P : Pack) → SettingGiven P counts numbers → Left (every (goodDependency P)) (P .setting .dependencies) i

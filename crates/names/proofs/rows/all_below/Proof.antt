@@ -5,10 +5,10 @@ use mathlib.Core.Path.{refl}
 use mir.Facts.{fits-widen}
 use native.Mathlib.Omega.{arith}
 use Prim.Native.Nat.{_-_}
-use Rattle.pack.proofs.Runs.{Passing, passing-done, passing-on, passing-stops}
 use borrow.Author.Needs.{needs}
 use Rattle.names.proofs.rows.all_below.Statement.{statement}
 use Rattle.names.proofs.rows.all_below.Tie as tie
+use Rattle.meaning.proofs.Lists.Testing.{Passing, passing-done, passing-on, passing-stops}
 
 abbrev Inv-loop : tie.InvT-loop
 Inv-loop rows from end bound i₀ i = Passing (λ v. ltb v bound) rows from i end

@@ -5,10 +5,10 @@ use mathlib.Core.Path.{refl}
 use native.Mathlib.Omega.{arith}
 use Prim.Native.Nat.{_-_}
 use Rattle.meaning.specs.Limits.{unused}
-use Rattle.pack.proofs.Runs.{Passing, passing-done, passing-on, passing-stops}
 use borrow.Author.Needs.{needs}
 use Rattle.names.proofs.rows.all_unused.Statement.{statement}
 use Rattle.names.proofs.rows.all_unused.Tie as tie
+use Rattle.meaning.proofs.Lists.Testing.{Passing, passing-done, passing-on, passing-stops}
 
 abbrev Inv-loop : tie.InvT-loop
 Inv-loop rows from end i₀ i = Passing (λ v. eqb v unused) rows from i end

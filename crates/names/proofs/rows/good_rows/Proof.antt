@@ -7,10 +7,10 @@ use Rattle.meaning.specs.Tests.{every}
 use Rattle.meaning.specs.WellFormed.{goodRow}
 use Rattle.names.specs.Given.{PackGiven}
 use Rattle.names.proofs.Cells.{row-at, row-room, rows-few}
-use Rattle.names.proofs.Records.{Left, every-on, every-stop, left-done, left-start}
 use borrow.Author.Needs.{needs}
 use Rattle.names.proofs.rows.good_rows.Statement.{statement}
 use Rattle.names.proofs.rows.good_rows.Tie as tie
+use Rattle.meaning.proofs.Lists.Testing.{Left, every-on, every-stop, left-done, left-start}
 
 abbrev Inv-loop : tie.InvT-loop
 Inv-loop numbers rows counts n i₀ i = (P : Pack) → PackGiven P counts numbers rows → Left (every (goodRow P)) (P .rows) i

@@ -5,12 +5,11 @@ use native.Mathlib.Omega.{arith}
 use Prim.Native.Nat.{_-_}
 use Rattle.meaning.specs.Pack.{Atom}
 use Rattle.meaning.specs.Tests.{any, elem}
-use Rattle.pack.proofs.Runs.{Passing, passing-done, passing-on, passing-stops}
 use Rattle.names.specs.Rule.{AtomsAt}
-use Rattle.names.proofs.Records.{failed, passed}
 use borrow.Author.Needs.{needs}
 use Rattle.names.proofs.rules.all_bound.Statement.{statement}
 use Rattle.names.proofs.rules.all_bound.Tie as tie
+use Rattle.meaning.proofs.Lists.Testing.{Passing, failed, passed, passing-done, passing-on, passing-stops}
 
 abbrev Inv-loop : tie.InvT-loop
 Inv-loop numbers first n from end i₀ i = (as′ : List Atom) → AtomsAt as′ numbers first n → Passing (λ v. any (λ (a : Atom). elem v (a .variables)) as′) numbers from i end

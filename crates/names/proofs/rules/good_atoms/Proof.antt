@@ -8,10 +8,10 @@ use Rattle.meaning.specs.WellFormed.{goodAtom}
 use Rattle.names.specs.Given.{SettingGiven}
 use Rattle.names.specs.Rule.{AtomsAt}
 use Rattle.names.proofs.Atoms.{atom-good}
-use Rattle.names.proofs.Records.{Left, every-on, every-stop, left-done, left-start}
 use borrow.Author.Needs.{needs}
 use Rattle.names.proofs.rules.good_atoms.Statement.{statement}
 use Rattle.names.proofs.rules.good_atoms.Tie as tie
+use Rattle.meaning.proofs.Lists.Testing.{Left, every-on, every-stop, left-done, left-start}
 
 abbrev Inv-loop : tie.InvT-loop
 Inv-loop counts numbers first n i₀ i = (P : Pack) → SettingGiven P counts numbers → (as′ : List Atom) → AtomsAt as′ numbers first n → Left (every (goodAtom P)) as′ i

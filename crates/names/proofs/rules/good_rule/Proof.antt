@@ -4,10 +4,10 @@ use mir.Facts.{fits-widen}
 use native.Mathlib.Omega.{arith}
 use Rattle.names.proofs.Parts.{atoms-at, head-at, variables-few}
 use Rattle.names.proofs.Rule.{atoms-bad, head-bad, rule-good}
-use Rattle.names.proofs.Records.{failed, passed}
 use borrow.Author.Needs.{needs}
 use Rattle.names.proofs.rules.good_rule.Statement.{statement}
 use Rattle.names.proofs.rules.good_rule.Tie as tie
+use Rattle.meaning.proofs.Lists.Testing.{failed, passed}
 
 pub good-rule-spec : {M : Type 1} → statement M
 good-rule-spec =

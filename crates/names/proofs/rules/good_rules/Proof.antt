@@ -7,10 +7,10 @@ use Rattle.meaning.specs.Tests.{every}
 use Rattle.meaning.specs.WellFormed.{goodRule}
 use Rattle.names.specs.Given.{SettingGiven}
 use Rattle.names.proofs.Rule.{is-rule, rule-at, rules-few, rules-many}
-use Rattle.names.proofs.Records.{Left, every-on, every-stop, left-done, left-start}
 use borrow.Author.Needs.{needs}
 use Rattle.names.proofs.rules.good_rules.Statement.{statement}
 use Rattle.names.proofs.rules.good_rules.Tie as tie
+use Rattle.meaning.proofs.Lists.Testing.{Left, every-on, every-stop, left-done, left-start}
 
 abbrev Inv-loop : tie.InvT-loop
 Inv-loop numbers counts n i₀ i = (P : Pack) → SettingGiven P counts numbers → Left (every (goodRule P)) (P .setting .rules) i

@@ -3,10 +3,10 @@ use borrow.Author.Tests.{eq-eqb, le-ltb, lt-ltb, ne-eqb}
 use mathlib.Core.Path.{_∙_}
 use mir.Facts.{fits-widen}
 use Rattle.names.proofs.Heads.{head-named}
-use Rattle.names.proofs.Records.{failed, passed}
 use borrow.Author.Needs.{needs}
 use Rattle.names.proofs.rules.head_named.Statement.{statement}
 use Rattle.names.proofs.rules.head_named.Tie as tie
+use Rattle.meaning.proofs.Lists.Testing.{failed, passed}
 
 pub head-named-spec : {M : Type 1} → statement M
 head-named-spec =

@@ -4,10 +4,10 @@ use lib.Dec.{eqb}
 use mathlib.Core.Path.{refl}
 use native.Mathlib.Omega.{arith}
 use Prim.Native.Nat.{_-_}
-use Rattle.pack.proofs.Runs.{Missing, missing-done, missing-found, missing-on}
 use borrow.Author.Needs.{needs}
 use Rattle.names.proofs.rules.holds.Statement.{statement}
 use Rattle.names.proofs.rules.holds.Tie as tie
+use Rattle.meaning.proofs.Lists.Testing.{Missing, missing-done, missing-found, missing-on}
 
 abbrev Inv-loop : tie.InvT-loop
 Inv-loop numbers from end v i₀ i = Missing (eqb v) numbers from i end

@@ -8,10 +8,10 @@ use Rattle.meaning.specs.Pack.{Atom}
 use Rattle.meaning.specs.Tests.{any, elem}
 use Rattle.names.specs.Rule.{AtomsAt}
 use Rattle.names.proofs.Atoms.{atom-holds, atom-room, variables-few}
-use Rattle.names.proofs.Records.{Left, any-on, any-stop, left-done, left-start}
 use borrow.Author.Needs.{needs}
 use Rattle.names.proofs.rules.is_bound.Statement.{statement}
 use Rattle.names.proofs.rules.is_bound.Tie as tie
+use Rattle.meaning.proofs.Lists.Testing.{Left, any-on, any-stop, left-done, left-start}
 
 abbrev Inv-loop : tie.InvT-loop
 Inv-loop numbers first n v i₀ i = (as′ : List Atom) → AtomsAt as′ numbers first n → Left (any (λ (a : Atom). elem v (a .variables))) as′ i

@@ -7,10 +7,10 @@ use Rattle.meaning.specs.Tests.{every}
 use Rattle.meaning.specs.WellFormed.{goodShape}
 use Rattle.names.specs.Given.{SettingGiven}
 use Rattle.names.proofs.Shape.{shapes-few, shapes-many, shape-at}
-use Rattle.names.proofs.Records.{Left, every-on, every-stop, left-done, left-start}
 use borrow.Author.Needs.{needs}
 use Rattle.names.proofs.shapes.good_shapes.Statement.{statement}
 use Rattle.names.proofs.shapes.good_shapes.Tie as tie
+use Rattle.meaning.proofs.Lists.Testing.{Left, every-on, every-stop, left-done, left-start}
 
 abbrev Inv-loop : tie.InvT-loop
 Inv-loop numbers counts n i₀ i = (P : Pack) → SettingGiven P counts numbers → Left (every (goodShape P)) (P .setting .shapes) i

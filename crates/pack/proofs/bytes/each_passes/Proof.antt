@@ -4,10 +4,10 @@ use native.Mathlib.Omega.{arith}
 use mathlib.Core.Path.{refl, sym, _∙_}
 use Prim.Native.Nat.{_-_, _+_}
 use Rattle.pack.specs.Classes.{inClass}
-use Rattle.pack.proofs.Runs.{Passing, passing-on, passing-stops, passing-done}
 use borrow.Author.Needs.{needs}
 use Rattle.pack.proofs.bytes.each_passes.Statement.{statement}
 use Rattle.pack.proofs.bytes.each_passes.Tie as tie
+use Rattle.meaning.proofs.Lists.Testing.{Passing, passing-done, passing-on, passing-stops}
 
 abbrev Inv-loop : tie.InvT-loop
 Inv-loop s at n class end i₀ i = Passing (inClass class) s at i (at + n)

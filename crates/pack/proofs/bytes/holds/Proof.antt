@@ -4,10 +4,10 @@ use lib.Dec.{eqb}
 use native.Mathlib.Omega.{arith}
 use mathlib.Core.Path.{refl}
 use Prim.Native.Nat.{_-_, _+_}
-use Rattle.pack.proofs.Runs.{Missing, missing-on, missing-found, missing-done}
 use borrow.Author.Needs.{needs}
 use Rattle.pack.proofs.bytes.holds.Statement.{statement}
 use Rattle.pack.proofs.bytes.holds.Tie as tie
+use Rattle.meaning.proofs.Lists.Testing.{Missing, missing-done, missing-found, missing-on}
 
 abbrev Inv-loop : tie.InvT-loop
 Inv-loop s at n v end i₀ i = Missing (eqb v) s at i (at + n)

@@ -7,10 +7,10 @@ use Rattle.meaning.specs.Tables.{rowNumbers}
 use Rattle.pack.specs.Records.{rowOf}
 use Rattle.pack.specs.Shown.{made}
 use Rattle.records.proofs.Rows.{length-row}
-use Rattle.records.proofs.Putting.{Filling, filling-start, filling-on, filling-done}
 use borrow.Author.Needs.{needs}
 use Rattle.records.proofs.row.row_numbers.Statement.{statement}
 use Rattle.records.proofs.row.row_numbers.Tie as tie
+use Rattle.meaning.proofs.Lists.Filling.{Filling, filling-done, filling-on, filling-start}
 
 abbrev Inv-loop : tie.InvT-loop
 Inv-loop s row numbers₀ i₀ numbers i = Filling rowWidth (rowNumbers (made rowOf s row)) i numbers

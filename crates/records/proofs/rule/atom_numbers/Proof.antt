@@ -7,10 +7,10 @@ use Rattle.meaning.specs.Tables.{atomNumbers}
 use Rattle.pack.specs.Records.{atomOf}
 use Rattle.pack.specs.Shown.{made}
 use Rattle.records.proofs.Terms.{length-atom}
-use Rattle.records.proofs.Putting.{Filling, filling-start, filling-on, filling-done}
 use borrow.Author.Needs.{needs}
 use Rattle.records.proofs.rule.atom_numbers.Statement.{statement}
 use Rattle.records.proofs.rule.atom_numbers.Tie as tie
+use Rattle.meaning.proofs.Lists.Filling.{Filling, filling-done, filling-on, filling-start}
 
 abbrev Inv-loop : tie.InvT-loop
 Inv-loop s atom numbers₀ i₀ numbers i = Filling atomWidth (atomNumbers (made atomOf s atom)) i numbers

@@ -4,10 +4,10 @@ use native.Mathlib.Omega.{arith}
 use Prim.Native.Nat.{_-_}
 use Rattle.meaning.specs.Limits.{maxHeadVariables}
 use Rattle.records.proofs.Terms.{length-variables, variablesAt}
-use Rattle.records.proofs.Putting.{Filling, filling-start, filling-on, filling-done}
 use borrow.Author.Needs.{needs}
 use Rattle.records.proofs.rule.head_variables.Statement.{statement}
 use Rattle.records.proofs.rule.head_variables.Tie as tie
+use Rattle.meaning.proofs.Lists.Filling.{Filling, filling-done, filling-on, filling-start}
 
 abbrev Inv-loop : tie.InvT-loop
 Inv-loop s kind subject object vars₀ i₀ vars i = Filling maxHeadVariables (variablesAt kind s subject object) i vars

@@ -3,9 +3,9 @@ use borrow.Author.Needs.{needs}
 use lib.ListN.{length}
 use mathlib.Core.Path.{_≡_}
 use Prim.Native.Nat.{_-_}
-use Rattle.sets.proofs.Fill.{Filled, fill-start, fill-again, fill-done}
 use Rattle.sets.proofs.buffers.clear_u16.Statement.{statement}
 use Rattle.sets.proofs.buffers.clear_u16.Tie as tie
+use Rattle.meaning.proofs.Lists.Filling.{Filled, fill-again, fill-done, fill-start}
 
 abbrev Inv-loop : tie.InvT-loop
 Inv-loop buf₀ i₀ i-end buf i = (i-end ≡ length buf₀) × Filled i 0 buf₀ buf

@@ -1,6 +1,7 @@
--- Loops over records: what is left to look at decides as all do. Assumes nothing.
+-- Loops that test the entries of a list, or of a part of one: what is left to look at decides as all do. Assumes nothing.
 use borrow.Author.Tests.{not-false, not-true}
-use lib.ListN.{drop, drop-of-length-le, getElem?, length}
+use lib.ListN.{drop, drop-of-length-le, getD, getElem?, length}
+use lib.Seq.{slice, slice-empty}
 use mathlib.Core.Bool.{Bool, true, false, not}
 use mathlib.Core.List.{List, [], _∷_}
 use mathlib.Core.Option.{some}
@@ -8,8 +9,9 @@ use mathlib.Core.Path.{_≡_, refl, sym, ap, _∙_}
 use native.Mathlib.Numerals.{add-one}
 use native.Mathlib.Omega.{arith}
 use Prim.Native.Nat.{ℕ, _+_, _≤_, _<_}
-use Rattle.meaning.specs.Tests.{any, every}
+use Rattle.meaning.proofs.Lists.Parts.{slice-front}
 use Rattle.meaning.proofs.Lists.Places.{drop-entry, there-is}
+use Rattle.meaning.specs.Tests.{any, every}
 
 -- what a test's answer says
 pub passed : {b x : Bool} → b ≡ x → not b ≡ false → x ≡ true
@@ -52,3 +54,45 @@ module _ {A : Type 0} where
 
     pub any-on : Left (any f) xs i → n ≡ length xs → i < n → At f xs i b → b ≡ false → Left (any f) xs (i + 1)
     any-on l m h t e = let q = at-i f xs i n b m h t in record { is = step l (q .1) (rw (sym (q .2) ∙ e)) }
+
+-- ---- a part of a list of numbers
+
+-- every number from at to i passes, so the run passes where the rest does
+pub record Passing (ok : ℕ → Bool) (s : List ℕ) (at i end : ℕ) : Type 0 where
+  pub before : i ≤ end
+  pub inside : end ≤ length s
+  pub is : every ok (slice i end s) ≡ every ok (slice at end s)
+
+module _ {ok : ℕ → Bool} {s : List ℕ} {at i end : ℕ} (p : Passing ok s at i end) where
+  pub passing-on : i < end → ok (getD s i 0) ≡ true → Passing ok s at (i + 1) end
+  passing-on h e = record {
+    before = omega arith;
+    inside = p .inside;
+    is = rw (slice-front i end s 0 h (p .inside), e) at (p .is);
+  }
+
+  pub passing-stops : i < end → ok (getD s i 0) ≡ false → false ≡ every ok (slice at end s)
+  passing-stops h e = rw (slice-front i end s 0 h (p .inside), e) at (p .is)
+
+  pub passing-done : end ≤ i → true ≡ every ok (slice at end s)
+  passing-done h = let e : i ≡ end = omega (arith, p .before) in rw (e, slice-empty) at (p .is)
+
+-- no number from at to i passes
+pub record Missing (ok : ℕ → Bool) (s : List ℕ) (at i end : ℕ) : Type 0 where
+  pub before : i ≤ end
+  pub inside : end ≤ length s
+  pub is : any ok (slice i end s) ≡ any ok (slice at end s)
+
+module _ {ok : ℕ → Bool} {s : List ℕ} {at i end : ℕ} (p : Missing ok s at i end) where
+  pub missing-on : i < end → ok (getD s i 0) ≡ false → Missing ok s at (i + 1) end
+  missing-on h e = record {
+    before = omega arith;
+    inside = p .inside;
+    is = rw (slice-front i end s 0 h (p .inside), e) at (p .is);
+  }
+
+  pub missing-found : i < end → ok (getD s i 0) ≡ true → true ≡ any ok (slice at end s)
+  missing-found h e = rw (slice-front i end s 0 h (p .inside), e) at (p .is)
+
+  pub missing-done : end ≤ i → false ≡ any ok (slice at end s)
+  missing-done h = let e : i ≡ end = omega (arith, p .before) in rw (e, slice-empty) at (p .is)
