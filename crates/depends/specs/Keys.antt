@@ -28,6 +28,11 @@ low v = v % maxValues
 unfoldable pub columnsAt : List ℕ → ℕ → List ℕ
 columnsAt rows first = map low (take maxColumns (drop first rows))
 
+-- some entry has this left key
+unfoldable pub hasLeft : ℕ → List ℕ → Bool
+hasLeft l [] = false
+hasLeft l (x ∷ xs) = eqb x l || hasLeft l xs
+
 -- some entry has this left key and another right key
 unfoldable pub differs : ℕ → ℕ → List ℕ → List ℕ → Bool
 differs l r [] ys = false

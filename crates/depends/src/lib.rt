@@ -4,11 +4,12 @@ ghost use mathlib.Core.Path.{_≡_};
 ghost use Prim.Native.Nat.{_+_, _≤_};
 ghost use lib.Dec.{eqb};
 ghost use lib.ListN.{length, take};
+ghost use lib.Seq.{slice};
 ghost use Rattle.meaning.specs.Limits.{maxColumns, maxRows, rowsLength};
 ghost use Rattle.meaning.specs.WellFormed.{broken};
 ghost use Rattle.names.specs.Given.{ForResolved, IsResolved};
 ghost use Rattle.depends.specs.Answer.{dependencyOf, SaysBreaks, SaysBroken};
-ghost use Rattle.depends.specs.Keys.{columnsAt, differs, keyOf};
+ghost use Rattle.depends.specs.Keys.{columnsAt, differs, hasLeft, keyOf};
 use meaning::BODIES;
 use meaning::DEPENDENCIES_AT;
 use meaning::DEPENDENCIES_BODY;
@@ -59,7 +60,36 @@ fn differ(x: u64, left: u64, y: u64, right: u64) -> bool
     y != right
 }
 
-// Whether one of the first n entries of the lists has this left key and another right key. Two are looked at in a turn.
+// Whether one of the four left keys from a place on is this one.
+fn has_left(lefts: &[u64; MAX_ROWS], i: usize, left: u64) -> bool
+    requires { ⌜ (i + 4 ≤ maxRows) × (length (now lefts) ≡ maxRows) ⌝ }
+    ensures { λ r. ⌜ r ≡ hasLeft left (slice i (i + 4) (now (lefts .entry))) ⌝ }
+{
+    (lefts[i] == left) | (lefts[i + 1] == left) | (lefts[i + 2] == left) | (lefts[i + 3] == left)
+}
+
+// Whether one of the entries of a part of the lists has this left key and another right key.
+fn differs_in(
+    lefts: &[u64; MAX_ROWS],
+    rights: &[u64; MAX_ROWS],
+    from: usize,
+    to: usize,
+    left: u64,
+    right: u64,
+) -> bool
+    requires { ⌜ (from ≤ to) × (to ≤ maxRows) × (length (now lefts) ≡ maxRows) × (length (now rights) ≡ maxRows) ⌝ }
+    ensures { λ r. ⌜ r ≡ differs left right (slice from to (now (lefts .entry))) (slice from to (now (rights .entry))) ⌝ }
+{
+    for i in from..to {
+        if differ(lefts[i], left, rights[i], right) {
+            return true;
+        }
+    }
+    false
+}
+
+// Whether one of the first n entries of the lists has this left key and another right key. The right keys are looked at
+// where one of four left keys is equal.
 fn some_differs(
     lefts: &[u64; MAX_ROWS],
     rights: &[u64; MAX_ROWS],
@@ -71,19 +101,15 @@ fn some_differs(
     ensures { λ r. ⌜ r ≡ differs left right (take n (now (lefts .entry))) (take n (now (rights .entry))) ⌝ }
 {
     let mut i = 0;
-    while i + 1 < n {
-        if differ(lefts[i], left, rights[i], right) {
-            return true;
+    while i + 3 < n {
+        if has_left(lefts, i, left) {
+            if differs_in(lefts, rights, i, i + 4, left, right) {
+                return true;
+            }
         }
-        if differ(lefts[i + 1], left, rights[i + 1], right) {
-            return true;
-        }
-        i += 2;
+        i += 4;
     }
-    if i < n {
-        return differ(lefts[i], left, rights[i], right);
-    }
-    false
+    differs_in(lefts, rights, i, n, left, right)
 }
 
 // Whether two rows break a dependency. The keys of its relation's rows are listed in the lent arrays, and each row is

@@ -1,12 +1,14 @@
 -- `some_differs` meets its contract: no entry before i differs. Assumes nothing.
-use Prim.Native.Nat.{_-_, _≤_}
-use Rattle.depends.proofs.Looking.{Looking, looking-done, looking-found, looking-last, looking-on, looking-start, looking-two}
+use Prim.Native.Nat.{_+_, _-_, _≤_}
+use mathlib.Core.Logic.{⊎-elim}
+use mathlib.Core.Path.{refl, sym, _∙_}
+use Rattle.depends.proofs.Looking.{Looking, left-differs, looking-found, looking-on, looking-start}
 use borrow.Author.Needs.{needs}
 use Rattle.depends.proofs.some_differs.Statement.{statement}
 use Rattle.depends.proofs.some_differs.Tie as tie
 
 abbrev Inv-loop : tie.InvT-loop
-Inv-loop lefts rights n left right i₀ i = (i ≤ n) × Looking lefts rights left right n i
+Inv-loop lefts rights n left right i₀ i = (i ≤ n) × Looking lefts rights left right 0 n i
 
 abbrev μ-loop : tie.MeasureT-loop
 μ-loop lefts rights n left right i₀ i = n - i
@@ -19,33 +21,20 @@ some-differs-spec =
     μ-loop
     (λ c. (search needs, search (looking-start, needs)))  -- loop-holds
     (λ c. search needs)  -- add-loop
-    (λ c. search needs)  -- mul-differ
-    (λ c. search needs)  -- element-copy-out-differ
-    (λ c. search needs)  -- mul-differ-2
-    (λ c. search needs)  -- element-copy-out-differ-2
-    (λ c κs. search needs)  -- differ-requires
-    (λ c. let o = c .before .before .before .before in  -- returns
-    looking-found (o .before .loop .inv .1) (search needs) (c .before .differ .ensures) (c .if1 .taken))
-    (λ c. search needs)  -- add-differ
-    (λ c. search needs)  -- mul-differ-3
-    (λ c. search needs)  -- element-copy-out-differ-3
-    (λ c. search needs)  -- add-differ-2
-    (λ c. search needs)  -- mul-differ-4
-    (λ c. search needs)  -- element-copy-out-differ-4
-    (λ c κs. search needs)  -- differ-requires-2
-    (λ c. let k = c .before .before .before .before in  -- returns-2
-    let o = k .before .before .before .before in
-    looking-found (looking-on (o .before .loop .inv .1) (search needs) (k .before .differ .ensures) (k .if1 .left)) (o .loop-test .taken) (c .before .differ2 .ensures) (c .if2 .taken))
+    (λ c κs. (search needs, search needs))  -- has-left-requires
+    (λ c. search needs)  -- add-differs-in
+    (λ c κs. (search needs, search needs, search needs, search needs))  -- differs-in-requires
+    (λ c. let o = c .before .before .before .before .before .loop in  -- returns
+    looking-found (o .inv .1) (o .i + 4) (c .before .differs-in .ensures) (search needs) (search needs) (c .if2 .taken))
     (λ c. search needs)  -- add-i
     (λ c. search needs)  -- loop-less
-    (λ c. let k = c .before .before .before .before in  -- loop-again
-    let o = k .before .before .before .before in
-    let p = looking-on (o .before .loop .inv .1) (search needs) (k .before .differ .ensures) (k .if1 .left) in
-    (search needs, looking-two _ (looking-on p (o .loop-test .taken) (c .before .differ2 .ensures) (c .if2 .left))))
-    (λ c. search needs)  -- mul-differ-5
-    (λ c. search needs)  -- element-copy-out-differ-5
-    (λ c. search needs)  -- mul-differ-6
-    (λ c. search needs)  -- element-copy-out-differ-6
-    (λ c κs. search needs)  -- differ-requires-3
-    (λ c. search (looking-last, needs))  -- returns-3
-    (λ c. search (looking-done, needs)))  -- returns-4
+    (λ c. let o = c .before .before .before .loop in  -- loop-again
+    let l : o .i + 4 ≤ c .before .before .before .before .args .n = search needs in (
+      l,
+      ⊎-elim
+          (λ w. looking-on (o .inv .1) (o .i + 4) (w .1 .ensures) (search needs) l (w .2 .left))
+          (λ w. looking-on (o .inv .1) (o .i + 4) (left-differs _ _ _ _ (sym (c .before .has-left .ensures) ∙ w .left)) (search needs) l refl)
+          (c .if1 .came),
+    ))
+    (λ c κs. (search needs, search needs, search needs, search needs))  -- differs-in-requires-2
+    (λ c. c .differs-in2 .ensures ∙ c .before .before .loop .inv .1 .is))  -- returns-2
