@@ -3,7 +3,7 @@ use lib.ListN.{length, getD, set, drop, length-set, drop-of-length-le}
 use lib.Seq.{getD-set-same, getD-set-other}
 use mathlib.Core.List.{List, map}
 use mathlib.Core.Logic.{_≢_, _⊎_, inl, inr}
-use mathlib.Core.Path.{_≡_, sym, _∙_}
+use mathlib.Core.Path.{_≡_, sym, subst, _∙_}
 use native.Mathlib.Decide.{ℕ-discrete}
 use native.Mathlib.Nat.{sub-zero}
 use native.Mathlib.Numerals.{add-one}
@@ -11,11 +11,15 @@ use native.Mathlib.Omega.{arith}
 use Prim.Native.Nat.{ℕ, _+_, _*_, _-_, _/_, _%_, _^_, _≤_, _<_, zero-le}
 use Rattle.meaning.specs.Core.{Assignment}
 use Rattle.meaning.specs.Limits.{maxValues, maxVariables, unused}
-use Rattle.matching.specs.Plan.{stacked, Bound, Bindings, Extends}
+use Rattle.meaning.proofs.Lists.Places.{∈-at, ∈-index}
+use Rattle.matching.specs.Plan.{stacked, Bound, Bindings, Extends, KeyVariables, RowBindings}
 use Rattle.matching.proofs.Bytes.{pow-next, stacked-drop}
 
 abbrev pub Small : Assignment → Type 0
 Small σ = (v : ℕ) → σ v < maxValues
+
+pub variable-below : {vs : List ℕ} → KeyVariables vs → (c : ℕ) → c < length vs → getD vs c 0 < maxVariables
+variable-below {vs} k c h = k .below _ (∈-at vs c h)
 
 -- the first c variables are bound to the candidate's cells; rest is the number of the other cells
 pub record Columns (vs env₀ : List ℕ) (key c rest : ℕ) (env : List ℕ) : Type 0 where
@@ -122,11 +126,14 @@ module _ {vs env₀ : List ℕ} {key c rest : ℕ} {env : List ℕ} (i : Columns
   unfolding stacked
   none σ = rw drop-of-length-le
 
-  pub columns-forth : (σ : Assignment) → Small σ → Extends env₀ σ → key ≡ stacked (map σ vs) → Extends env σ
-  columns-forth σ s x e = i .forth σ s x e .0
-
-  pub columns-back : (σ : Assignment) → Extends env σ → Extends env₀ σ × (key ≡ stacked (map σ vs))
-  columns-back σ x =
+  pub columns-done : RowBindings vs key env₀ env
+  columns-done =
       let q : length vs - c ≡ 0 = omega arith in
       let p : rest < maxValues ^ 0 = rw q at (i .small) in
-      i .back σ x (omega (arith, p, none σ))
+      record {
+        bindings = i .bindings;
+        forth = λ σ s x e. i .forth σ s x e .0;
+        back = λ σ x. i .back σ x (omega (arith, p, none σ));
+        kept = i .kept;
+        new = λ v m. let f = ∈-index m in subst (Bound env) (f .2) (i .new (f .0) (omega (arith, f .1, h)));
+      }

@@ -1,6 +1,7 @@
 -- Laws of trying an atom's candidate rows one after the other. Assumes nothing.
 use lib.ListN.{length, getD, take, drop, length-take, length-drop}
 use lib.Seq.{getD-take, getD-drop}
+use mathlib.Core.Bool.{Bool, true, false, not, Bool·not-not}
 use mathlib.Core.List.{List, map}
 use mathlib.Core.Logic.{_⊎_, _↔_, inl, inr, ⊎-elim}
 use mathlib.Core.Path.{_≡_, refl, sym, ap, _∙_, subst}
@@ -12,24 +13,15 @@ use Rattle.meaning.specs.Core.{Assignment}
 use Rattle.meaning.specs.Member.{_∈_}
 use Rattle.meaning.specs.Ordered.{InOrder}
 use Rattle.meaning.specs.Tables.{packed}
-use Rattle.matching.specs.Plan.{stacked, variablesAt, candidatesAt, Bound, AllBound, Bindings, Extends, bindingOf, Plan, Solution, Reaches, SpanOf, GrownTo, GrownOver}
-use Rattle.matching.specs.declared.spans.Span.{Span}
-use Rattle.matching.proofs.Columns.{Small, Columns, columns-forth, columns-back}
-use Rattle.matching.proofs.Grown.{grown-same, grown-iff, over-iff, grown-more, over-more}
-use Rattle.meaning.specs.Limits.{atomWidth, maxRows, maxValues, maxVariables}
-use Rattle.meaning.proofs.Lists.Places.{∈-at, ∈-index}
 use Rattle.meaning.proofs.Lists.Members.{map-same}
+use Rattle.meaning.proofs.Lists.Places.{∈-at, ∈-index}
+use Rattle.matching.specs.Plan.{stacked, variablesAt, candidatesAt, Bound, AllBound, Bindings, Extends, KeyVariables, bindingOf, Plan, Solution, Reaches, RowBindings, RowBound, SpanOf, GrownTo, GrownOver}
+use Rattle.matching.specs.declared.spans.Span.{Span}
+use Rattle.matching.proofs.Columns.{Small}
+use Rattle.matching.proofs.Grown.{grown-same, grown-iff, over-iff, grown-more, over-more}
+use Rattle.meaning.specs.Limits.{atomWidth, maxAtoms, maxColumns, maxRows, maxValues}
 
 module _ {atoms : List ℕ} {count : ℕ} {vars cands counts : List ℕ} (p : Plan atoms count vars cands counts) {at : ℕ} (l : at < count) where
-  pub own-length : length (variablesAt atoms at) ≡ getD atoms (at * atomWidth + 1) 0
-  own-length = omega (arith, p .few, p .long, p .arity at l, length-take (getD atoms (at * atomWidth + 1) 0) (drop (at * atomWidth + 2) atoms), length-drop (at * atomWidth + 2) atoms)
-
-  pub own-at : (c : ℕ) → c < getD atoms (at * atomWidth + 1) 0 → getD (variablesAt atoms at) c 0 ≡ getD atoms (at * atomWidth + 2 + c) 0
-  own-at c h = getD-take (getD atoms (at * atomWidth + 1) 0) (drop (at * atomWidth + 2) atoms) c 0 h ∙ getD-drop (at * atomWidth + 2) atoms c 0
-
-  pub own-small : (c : ℕ) → c < getD atoms (at * atomWidth + 1) 0 → getD atoms (at * atomWidth + 2 + c) 0 < maxVariables
-  own-small c h = rw (← (own-at c h)) (p .variables at l .below _ (∈-at (variablesAt atoms at) c (omega (arith, own-length))))
-
   pub rows-length : length (candidatesAt cands counts at) ≡ getD counts at 0
   rows-length = omega (arith, p .few, p .room, p .counted at l, length-take (getD counts at 0) (drop (at * maxRows) cands), length-drop (at * maxRows) cands)
 
@@ -44,6 +36,26 @@ module _ {atoms : List ℕ} {count : ℕ} {vars cands counts : List ℕ} (p : Pl
 
   pub span-counted : {s : Span} {env : List ℕ} → SpanOf s (variablesAt atoms at) env (candidatesAt cands counts at) → {r : ℕ} → r < s .to → r < getD counts at 0
   span-counted s h = omega (arith, s .within, h, rows-length)
+
+-- ---- what the atom's part and the rows' part of the lists keep
+
+pub record Bounds (atoms cands counts : List ℕ) (at : ℕ) : Type 0 where
+  pub few : at < maxAtoms
+  pub arity : getD atoms (at * atomWidth + 1) 0 ≤ maxColumns
+  pub own : at * atomWidth + atomWidth ≤ length atoms
+  pub counted : getD counts at 0 ≤ maxRows
+  pub rows : at * maxRows + maxRows ≤ length cands
+
+pub bounds : {atoms : List ℕ} {count : ℕ} {vars cands counts : List ℕ} {at : ℕ} → Plan atoms count vars cands counts → at ≤ count → (at ≡ count → ⊥) → Bounds atoms cands counts at
+bounds {count = count} {at = at} p h n =
+    let l : at < count = omega (arith, h, n) in
+    record {
+      few = omega (arith, p .few);
+      arity = p .arity at l;
+      own = omega (arith, p .few, p .long);
+      counted = p .counted at l;
+      rows = omega (arith, p .few, p .room);
+    }
 
 -- ---- the leaf: no atom is left
 
@@ -126,10 +138,10 @@ module _ {atoms : List ℕ} {count : ℕ} {vars cands counts : List ℕ} (p : Pl
             go (yes e) = absurd (no-row (t .solution .values) (t .solution .small) (t .solution .extends) (subst (λ x. getD cands (at * maxRows + x) 0 ≡ stacked (map (t .solution .values) (variablesAt atoms at))) e (t .is)))
             go (no x) = record { solution = t .solution; index = t .index; before = omega (arith, t .before, x); counted = t .counted; is = t .is }
 
-    module _ (h : r < getD counts at 0) {c rest : ℕ} {next : List ℕ} (w : Columns (variablesAt atoms at) env (getD cands (at * maxRows + r) 0) c rest next) (z : length (variablesAt atoms at) ≤ c) where
+    module _ (h : r < getD counts at 0) {next : List ℕ} (w : RowBindings (variablesAt atoms at) (getD cands (at * maxRows + r) 0) env next) where
       deeper : (k : ℕ) → Solution atoms count vars cands counts (at + 1) next k → Tried atoms count vars cands counts at env (r + 1) k
       deeper k s =
-          let b = columns-back w z (s .values) (s .extends) in
+          let b = w .back (s .values) (s .extends) in
           record {
             solution = record { values = s .values; small = s .small; extends = b .0; fits = fits; is = s .is };
             index = r;
@@ -142,7 +154,7 @@ module _ {atoms : List ℕ} {count : ℕ} {vars cands counts : List ℕ} (p : Pl
           fits j g u = go (ℕ-discrete j at)
             where
               go : Dec (j ≡ at) → stacked (map (s .values) (variablesAt atoms j)) ∈ candidatesAt cands counts j
-              go (yes e) = rw e (subst (λ x. x ∈ candidatesAt cands counts at) (columns-back w z (s .values) (s .extends) .1) (row-in p l r h))
+              go (yes e) = rw e (subst (λ x. x ∈ candidatesAt cands counts at) (w .back (s .values) (s .extends) .1) (row-in p l r h))
               go (no n) = s .fits j (omega (arith, g, n)) u
 
       step : (k : ℕ) → (Tried atoms count vars cands counts at env r k ⊎ Solution atoms count vars cands counts (at + 1) next k) ↔ Tried atoms count vars cands counts at env (r + 1) k
@@ -161,7 +173,7 @@ module _ {atoms : List ℕ} {count : ℕ} {vars cands counts : List ℕ} (p : Pl
                   inr (record {
                     values = s .values;
                     small = s .small;
-                    extends = columns-forth w z (s .values) (s .small) (s .extends) (subst (λ x. getD cands (at * maxRows + x) 0 ≡ stacked (map (s .values) (variablesAt atoms at))) e (t .is));
+                    extends = w .forth (s .values) (s .small) (s .extends) (subst (λ x. getD cands (at * maxRows + x) 0 ≡ stacked (map (s .values) (variablesAt atoms at))) e (t .is));
                     fits = λ j g u. s .fits j (omega (arith, g)) u;
                     is = s .is;
                   })
@@ -184,12 +196,92 @@ module _ {atoms : List ℕ} {count : ℕ} {vars cands counts : List ℕ} (p : Pl
           go v (inr x) = later (ℕ-discrete (x .0) at)
             where
               later : Dec (x .0 ≡ at) → Bound next v ⊎ ((j : ℕ) × (at + 1 ≤ j) × (j < count) × (v ∈ variablesAt atoms j))
-              later (yes e) =
-                  let q = ∈-index (subst (λ j. v ∈ variablesAt atoms j) e (x .3)) in
-                  inl (subst (Bound next) (q .2) (w .new (q .0) (omega (arith, q .1, z))))
+              later (yes e) = inl (w .new v (subst (λ j. v ∈ variablesAt atoms j) e (x .3)))
               later (no n) = inr (x .0, omega (arith, x .1, n), x .2, x .3)
 
 -- ---- a part from a on, of k elements, as code names it
 
-pub span-parts : (s : Span) (a k b m : ℕ) (xs env ys : List ℕ) → SpanOf s (take (a + k - a) xs) env (take (b + m - b) ys) → SpanOf s (take k xs) env (take m ys)
-span-parts s a k b m xs env ys h = rw (add-sub-cancel-left a k, add-sub-cancel-left b m) at h
+-- the variables of an atom, and its candidates
+abbrev pub ownPart : List ℕ → ℕ → List ℕ
+ownPart atoms at = take (at * atomWidth + 2 + getD atoms (at * atomWidth + 1) 0 - (at * atomWidth + 2)) (drop (at * atomWidth + 2) atoms)
+
+abbrev pub rowsPart : List ℕ → List ℕ → ℕ → List ℕ
+rowsPart cands counts at = take (at * maxRows + getD counts at 0 - at * maxRows) (drop (at * maxRows) cands)
+
+module _ (atoms cands counts : List ℕ) (at : ℕ) where
+  own-is : ownPart atoms at ≡ variablesAt atoms at
+  own-is = ap (λ n. take n (drop (at * atomWidth + 2) atoms)) (add-sub-cancel-left (at * atomWidth + 2) (getD atoms (at * atomWidth + 1) 0))
+
+  rows-are : rowsPart cands counts at ≡ candidatesAt cands counts at
+  rows-are = ap (λ n. take n (drop (at * maxRows) cands)) (add-sub-cancel-left (at * maxRows) (getD counts at 0))
+
+-- ---- the loop over the rows of a span
+
+pub record Turn (atoms : List ℕ) (count : ℕ) (vars cands counts : List ℕ) (at : ℕ) (env keys₀ : List ℕ) (n from to r m : ℕ) (keys : List ℕ) : Type 0 where
+  pub plan : Plan atoms count vars cands counts
+  pub left : at < count
+  pub bindings : Bindings env
+  pub reaches : Reaches atoms count vars cands counts at env
+  pub span : SpanOf (record { from = from; to = to }) (variablesAt atoms at) env (candidatesAt cands counts at)
+  pub trying : Trying atoms count vars cands counts at env keys₀ n r m keys
+
+-- an atom is left
+module _ {atoms : List ℕ} {count : ℕ} {vars cands counts : List ℕ} (p : Plan atoms count vars cands counts) {at : ℕ} (h : at ≤ count) (not-all : at ≡ count → ⊥) {env : List ℕ} (b : Bindings env) where
+  atom-left : at < count
+  atom-left = omega (arith, h, not-all)
+
+  -- what `rows_left` is given
+  pub rows-given : KeyVariables (ownPart atoms at) × Bindings env × InOrder _<_ (rowsPart cands counts at)
+  rows-given = rw (own-is atoms cands counts at, rows-are atoms cands counts at) (p .variables at atom-left, b, p .ascending at atom-left)
+
+  pub turn-start : Reaches atoms count vars cands counts at env → (keys : List ℕ) (n : ℕ) → n ≤ length keys → InOrder _<_ (take n keys)
+      → (s : Span) → SpanOf s (ownPart atoms at) env (rowsPart cands counts at) → Turn atoms count vars cands counts at env keys n (s .from) (s .to) (s .from) n keys
+  turn-start f keys n k o s q =
+      let w : SpanOf s (variablesAt atoms at) env (candidatesAt cands counts at) = rw (own-is atoms cands counts at, rows-are atoms cands counts at) at q in
+      record { plan = p; left = atom-left; bindings = b; reaches = f; span = w; trying = trying-start p atom-left keys n k o w }
+
+module _ {atoms : List ℕ} {count : ℕ} {vars cands counts : List ℕ} {at : ℕ} {env keys₀ : List ℕ} {n from to r m : ℕ} {keys : List ℕ}
+    (t : Turn atoms count vars cands counts at env keys₀ n from to r m keys) where
+  turn : {r′ m′ : ℕ} {keys′ : List ℕ} → Trying atoms count vars cands counts at env keys₀ n r′ m′ keys′ → Turn atoms count vars cands counts at env keys₀ n from to r′ m′ keys′
+  turn w = record { plan = t .plan; left = t .left; bindings = t .bindings; reaches = t .reaches; span = t .span; trying = w }
+
+  pub turn-room : (m ≤ length keys) × InOrder _<_ (take m keys)
+  turn-room = (omega (arith, t .trying .long, t .trying .grown .room), t .trying .grown .list .ascending)
+
+  pub turn-done : to ≤ r → GrownTo m keys₀ n (Solution atoms count vars cands counts at env) keys
+  turn-done h = trying-done (t .plan) (t .left) (t .trying) (t .span) h
+
+  module _ (h : r < to) where
+    turn-counted : r < getD counts at 0
+    turn-counted = span-counted (t .plan) (t .left) (t .span) h
+
+    pub turn-bounds : Bounds atoms cands counts at × (r < getD counts at 0)
+    turn-bounds = (bounds (t .plan) (omega (arith, t .left)) (λ e. omega (arith, t .left, e)), turn-counted)
+
+    turn-small : getD cands (at * maxRows + r) 0 < maxValues ^ length (variablesAt atoms at)
+    turn-small = row-small (t .plan) (t .left) r turn-counted
+
+    -- what `bind_row` is given
+    pub turn-given : KeyVariables (ownPart atoms at) × (getD cands (at * maxRows + r) 0 < maxValues ^ length (ownPart atoms at)) × Bindings env
+    turn-given = rw (own-is atoms cands counts at) (t .plan .variables at (t .left), turn-small, t .bindings)
+
+    module _ (b : Bool) (next : List ℕ) (w : RowBound b (ownPart atoms at) (getD cands (at * maxRows + r) 0) env next) where
+      says : RowBound b (variablesAt atoms at) (getD cands (at * maxRows + r) 0) env next
+      says = rw (own-is atoms cands counts at) at w
+
+      pub turn-bound : not b ≡ false → RowBindings (variablesAt atoms at) (getD cands (at * maxRows + r) 0) env next
+      turn-bound e = rw (sym (Bool·not-not b) ∙ ap not e) at says
+
+      pub turn-skip : not b ≡ true → Turn atoms count vars cands counts at env keys₀ n from to (r + 1) m keys
+      turn-skip e = turn (trying-skip (t .plan) (t .left) (t .trying) (rw (sym (Bool·not-not b) ∙ ap not e) at says))
+
+    module _ {next : List ℕ} (w : RowBindings (variablesAt atoms at) (getD cands (at * maxRows + r) 0) env next) where
+      pub turn-reaches : Reaches atoms count vars cands counts (at + 1) next
+      turn-reaches = reaches-next (t .plan) (t .left) (t .trying) turn-counted w (t .reaches)
+
+      pub turn-more : {m′ : ℕ} {keys′ : List ℕ} → GrownTo m′ keys m (Solution atoms count vars cands counts (at + 1) next) keys′ → length keys′ ≡ length keys
+          → Turn atoms count vars cands counts at env keys₀ n from to (r + 1) m′ keys′
+      turn-more g e = turn (trying-more (t .plan) (t .left) (t .trying) turn-counted w g e)
+
+      pub turn-over : GrownOver keys m (Solution atoms count vars cands counts (at + 1) next) → GrownOver keys₀ n (Solution atoms count vars cands counts at env)
+      turn-over g = trying-over (t .plan) (t .left) (t .trying) turn-counted w g

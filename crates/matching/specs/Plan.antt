@@ -214,6 +214,21 @@ abbrev pub Settled : Bool → List ℕ → List ℕ → List ℕ → Type 0
 Settled true vars env set = AllBound vars env × (packed (map (bindingOf env) vars) ∈ set)
 Settled false vars env set = Unit {0}
 
+-- ---- an atom's variables bound to the row that has a key
+
+-- what extends these bindings extends env, and has the row's values
+pub record RowBindings (vs : List ℕ) (key : ℕ) (env env′ : List ℕ) : Type 0 where
+  pub bindings : Bindings env′
+  pub forth : (σ : Assignment) → ((v : ℕ) → σ v < maxValues) → Extends env σ → key ≡ stacked (map σ vs) → Extends env′ σ
+  pub back : (σ : Assignment) → Extends env′ σ → Extends env σ × (key ≡ stacked (map σ vs))
+  pub kept : (v : ℕ) → Bound env v → Bound env′ v
+  pub new : AllBound vs env′
+
+-- the variables are bound; or nothing that extends env has the row's values
+abbrev pub RowBound : Bool → List ℕ → ℕ → List ℕ → List ℕ → Type 0
+RowBound true vs key env env′ = RowBindings vs key env env′
+RowBound false vs key env env′ = (σ : Assignment) → ((v : ℕ) → σ v < maxValues) → Extends env σ → key ≡ stacked (map σ vs) → ⊥
+
 -- ---- the candidates that bindings leave
 
 pub record SpanOf (s : Span) (vs env keys : List ℕ) : Type 0 where

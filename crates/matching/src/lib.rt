@@ -1,6 +1,7 @@
 // Matching: the keys of a rule's heads over all matches of its atoms.
 mod keys; // a head's key under bindings
 mod spans; // the candidate rows that bindings leave
+mod binding; // an atom's variables bound to a candidate row
 mod search; // every way to match the atoms
 mod marks; // the variables that matter
 mod candidates; // an atom's candidate rows

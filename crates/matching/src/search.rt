@@ -1,5 +1,6 @@
 // Every way to match the atoms: each atom in turn is tried against its candidate rows.
 use crate::Heads;
+use crate::binding::bind_row;
 use crate::keys::add_head;
 use crate::keys::settled;
 use crate::spans::rows_left;
@@ -7,8 +8,6 @@ use meaning::ATOM_WIDTH;
 use meaning::MAX_ATOMS;
 use meaning::MAX_ROWS;
 use meaning::MAX_VARIABLES;
-use meaning::UNUSED;
-use meaning::VALUE_ROOM;
 ghost use lib.ListN.{length, take};
 ghost use Prim.Native.Nat.{_≤_, _<_};
 ghost use Rattle.meaning.specs.Ordered.{InOrder};
@@ -43,19 +42,10 @@ pub fn add_heads(
     let from = tried.from;
     let to = tried.to;
     let mut m = n;
-    'rows: for r in from..to {
-        let mut rest = cands[first + r];
+    for r in from..to {
         let mut next = env;
-        for c in 0..arity {
-            let v = atoms[own + c] as usize;
-            let x = (rest % VALUE_ROOM) as u16;
-            if next[v] != UNUSED {
-                if next[v] != x {
-                    continue 'rows;
-                }
-            }
-            next[v] = x;
-            rest = rest / VALUE_ROOM;
+        if !bind_row(&atoms[own..own + arity], cands[first + r], &mut next) {
+            continue;
         }
         match add_heads(
             atoms,

@@ -1,27 +1,23 @@
+-- `add_heads` meets its contract: the rows of the span before r are tried. Assumes nothing.
 use borrow.Author.Needs.{needs}
-use lib.ListN.{getD, drop, length-take}
-use mathlib.Core.Logic.{⊎-elim, inl, inr}
-use mathlib.Core.Path.{_≡_, refl}
+use lib.ListN.{length-take}
 use mir.Facts.{fits-widen}
 use native.Mathlib.Omega.{arith}
-use Prim.Native.Nat.{ℕ, _<_, _+_, _*_, _-_}
-use Rattle.meaning.specs.Ordered.{InOrder}
-use Rattle.matching.specs.Plan.{variablesAt, candidatesAt, KeyVariables, SpanOf}
-use Rattle.matching.proofs.Columns.{Columns, columns-start, columns-differ, columns-again}
+use Prim.Native.Nat.{ℕ, _<_, _-_}
 use Rattle.matching.proofs.Grown.{grown-by}
-use Rattle.matching.proofs.Rows.{own-length, own-at, own-small, row-small, span-counted, all-bound, leaf-iff, settled-same, Trying, trying-start, trying-done, trying-skip, trying-more, trying-over, reaches-next, span-parts}
+use Rattle.matching.proofs.Rows.{all-bound, bounds, leaf-iff, rows-given, settled-same}
+use Rattle.matching.proofs.Rows.{Turn, turn-bound, turn-bounds, turn-done, turn-given, turn-more, turn-over, turn-reaches, turn-room, turn-skip, turn-start}
 use borrow.Fn.Kinds.{In}
 use borrow.Fn.PlainCycle.{Measures, is, falls, and}
 use Rattle.matching.proofs.search.add_heads.Reads as add-heads
 use Rattle.matching.proofs.search.add_heads.Kinds as add-heads-kinds
 use Rattle.matching.proofs.search.+add_heads.Lts-add_heads as add-heads-lts
+use Rattle.matching.proofs.binding.bind_row.Reads as bind-row-reads
 use Rattle.matching.proofs.keys.add_head.Reads as add-head-reads
 use Rattle.matching.proofs.keys.settled.Reads as settled-reads
 use Rattle.matching.proofs.spans.rows_left.Reads as rows-left-reads
 use Rattle.matching.proofs.search.+add_heads.{statement}
 use Rattle.matching.proofs.search.+add_heads.Tie.{close}
-use Rattle.meaning.specs.Limits.{atomWidth, maxRows}
-use Rattle.meaning.proofs.Lists.Parts.{as-part}
 
 abbrev μ-add-heads : Measures 4 add-heads-kinds.ps ℕ
 μ-add-heads κs a = a .1 .0 - a .1 .1 .1 .1 .1 .0
@@ -34,19 +30,11 @@ add-heads-below t =
     and 4 add-heads-kinds.ps (falls 4 add-heads-kinds.ps _<_ μ-add-heads t) add-heads.Pre
 
 abbrev add-heads-Inv-loop : add-heads-lts.InvT-loop
-add-heads-Inv-loop atoms atom-count vars cands at env keys n counts arity own first count from to m r₀ rest₀ next₀ c₀ r rest next c =
-    (r ≡ r₀) × (r < to) × Columns (variablesAt atoms at) env (getD cands (at * maxRows + r) 0) c rest next
+add-heads-Inv-loop atoms atom-count vars cands at env keys₀ n counts arity own first count from to m₀ r₀ keys m r =
+    Turn atoms atom-count vars cands counts at env keys₀ n from to r m keys
 
 abbrev add-heads-μ-loop : add-heads-lts.MeasureT-loop
-add-heads-μ-loop atoms atom-count vars cands at env keys n counts arity own first count from to m r₀ rest₀ next₀ c₀ r rest next c =
-    arity - c
-
-abbrev add-heads-Inv-rows : add-heads-lts.InvT-rows
-add-heads-Inv-rows atoms atom-count vars cands at env keys₀ n counts arity own first count from to m₀ r₀ keys m r =
-    SpanOf (record { from = from; to = to }) (variablesAt atoms at) env (candidatesAt cands counts at) × Trying atoms atom-count vars cands counts at env keys₀ n r m keys
-
-abbrev add-heads-μ-rows : add-heads-lts.MeasureT-rows
-add-heads-μ-rows atoms atom-count vars cands at env keys₀ n counts arity own first count from to m₀ r₀ keys m r =
+add-heads-μ-loop atoms atom-count vars cands at env keys₀ n counts arity own first count from to m₀ r₀ keys m r =
     to - r
 
 pub +add-heads-spec : {M : Type 1} → statement M
@@ -57,6 +45,8 @@ pub +add-heads-spec : {M : Type 1} → statement M
   settled-reads.Learnt,
   rows-left-reads.Asked,
   rows-left-reads.Learnt,
+  bind-row-reads.Asked,
+  bind-row-reads.Learnt,
   add-heads-below t,
   add-heads.Post,
 )
@@ -64,65 +54,106 @@ pub +add-heads-spec : {M : Type 1} → statement M
     add-heads.Post
     add-heads-Inv-loop
     add-heads-μ-loop
-    add-heads-Inv-rows
-    add-heads-μ-rows
-    (λ c κs. (c .before .before .before .before .before .before .pre .1 .0 .heads, c .before .before .before .before .before .before .pre .1 .2, all-bound _ _ _ _ _ _ _ (c .before .before .before .before .before .before .pre .1 .3) (c .before .if1 .taken), c .before .before .before .before .before .before .pre .1 .4, c .before .before .before .before .before .before .pre .1 .5))  -- add-heads-add-head-requires
+    (λ c κs. let g = c .before .before .before .before .before .before .pre .1 in  -- add-heads-add-head-requires
+    (g .0 .heads, g .2, all-bound _ _ _ _ _ _ _ (g .3) (c .before .if1 .taken), g .4, g .5))
     (λ c. search needs)  -- add-heads-same-length
-    (λ c. grown-by (c .before .before .add-head .result) _ _ _ (leaf-iff _ _ _ _ _ _ _ (c .before .before .before .before .before .before .before .before .before .pre .1 .2) (c .before .before .before .before .before .before .before .before .before .pre .1 .3) (c .before .before .before .before .if1 .taken)) (c .before .before .add-head .ensures))  -- add-heads-returns
+    (λ c. let g = c .before .before .before .before .before .before .before .before .before .pre .1 in  -- add-heads-returns
+    let a = c .before .before .add-head in
+    grown-by (a .result) _ _ _ (leaf-iff _ _ _ _ _ _ _ (g .2) (g .3) (c .before .before .before .before .if1 .taken)) (a .ensures))
     (λ c. search needs)  -- add-heads-slice-reshare-prefix-settled
     (λ c. let s = c .before .before .before .before .before .before .args in omega (arith, length-take (s .n) (s .keys .now)))  -- add-heads-slice-aggregate-settled
-    (λ c κs. (c .before .before .before .before .before .before .pre .1 .0 .heads, c .before .before .before .before .before .before .pre .1 .2, c .before .before .before .before .before .before .pre .1 .5))  -- add-heads-settled-requires
+    (λ c κs. let g = c .before .before .before .before .before .before .pre .1 in (g .0 .heads, g .2, g .5))  -- add-heads-settled-requires
     (λ c. search needs)  -- add-heads-same-length-2
-    (λ c. settled-same _ _ _ _ _ _ _ _ _ (c .before .before .before .before .before .before .before .before .pre .1 .4) (c .before .before .before .before .before .before .before .before .pre .1 .5) (rw (c .if2 .taken) at (c .before .settled .ensures)))  -- add-heads-returns-2
-    (λ c. omega (arith, c .before .before .before .before .before .before .before .before .pre .1 .0 .few, c .before .before .before .before .before .before .before .before .pre .1 .1))  -- add-heads-mul-arity
-    (λ c. omega (arith, c .before .before .before .before .before .before .before .before .pre .1 .0 .few, c .before .before .before .before .before .before .before .before .pre .1 .1))  -- add-heads-add-arity
-    (λ c. omega (arith, c .before .before .before .before .before .before .before .before .before .pre .1 .0 .few, c .before .before .before .before .before .before .before .before .before .pre .1 .0 .long, c .before .before .before .before .before .before .before .before .before .pre .1 .1, c .before .before .before .before .if1 .left))  -- add-heads-shared-slice-read-arity
+    (λ c. let g = c .before .before .before .before .before .before .before .before .pre .1 in  -- add-heads-returns-2
+    settled-same _ _ _ _ _ _ _ _ _ (g .4) (g .5) (rw (c .if2 .taken) at (c .before .settled .ensures)))
+    (λ c. let i = c .before .before .before in  -- add-heads-mul-arity
+    let g = i .before .before .before .before .before .pre .1 in
+    omega (arith, bounds (g .0) (g .1) (i .if1 .left)))
+    (λ c. let i = c .before .before .before in  -- add-heads-add-arity
+    let g = i .before .before .before .before .before .pre .1 in
+    omega (arith, bounds (g .0) (g .1) (i .if1 .left)))
+    (λ c. let i = c .before .before .before .before in  -- add-heads-shared-slice-read-arity
+    let g = i .before .before .before .before .before .pre .1 in
+    omega (arith, bounds (g .0) (g .1) (i .if1 .left)))
     (λ c. fits-widen tt (c .shared-slice-known4 .given _))  -- add-heads-cast-arity
-    (λ c. omega (arith, c .before .before .before .before .before .before .before .before .before .pre .1 .0 .few, c .before .before .before .before .before .before .before .before .before .pre .1 .1))  -- add-heads-mul-own
-    (λ c. omega (arith, c .before .before .before .before .before .before .before .before .before .pre .1 .0 .few, c .before .before .before .before .before .before .before .before .before .pre .1 .1))  -- add-heads-add-own
-    (λ c. omega (arith, c .before .before .before .before .before .before .before .before .before .pre .1 .0 .few, c .before .before .before .before .before .before .before .before .before .pre .1 .1))  -- add-heads-mul-first
-    (λ c. omega (arith, c .before .before .before .before .before .before .before .before .before .pre .1 .0 .few, c .before .before .before .before .before .before .before .before .before .pre .1 .1))  -- add-heads-mul-count
-    (λ c. omega (arith, c .before .before .before .before .before .before .before .before .before .pre .1 .0 .few, c .before .before .before .before .before .before .before .before .before .pre .1 .1, c .before .before .before .before .if1 .left))  -- add-heads-array-read-count
+    (λ c. let i = c .before .before .before .before in  -- add-heads-mul-own
+    let g = i .before .before .before .before .before .pre .1 in
+    omega (arith, bounds (g .0) (g .1) (i .if1 .left)))
+    (λ c. let i = c .before .before .before .before in  -- add-heads-add-own
+    let g = i .before .before .before .before .before .pre .1 in
+    omega (arith, bounds (g .0) (g .1) (i .if1 .left)))
+    (λ c. let i = c .before .before .before .before in  -- add-heads-mul-first
+    let g = i .before .before .before .before .before .pre .1 in
+    omega (arith, bounds (g .0) (g .1) (i .if1 .left)))
+    (λ c. let i = c .before .before .before .before in  -- add-heads-mul-count
+    let g = i .before .before .before .before .before .pre .1 in
+    omega (arith, bounds (g .0) (g .1) (i .if1 .left)))
+    (λ c. let i = c .before .before .before .before in  -- add-heads-array-read-count
+    let g = i .before .before .before .before .before .pre .1 in
+    omega (arith, bounds (g .0) (g .1) (i .if1 .left)))
     (λ c. search needs)  -- add-heads-cast-count
-    (λ c. let l : c .before .before .before .before .before .before .before .before .before .args .at < c .before .before .before .before .before .before .before .before .before .args .atom-count = omega (arith, c .before .before .before .before .before .before .before .before .before .pre .1 .1, c .before .before .before .before .if1 .left) in omega (arith, c .before .before .before .before .before .before .before .before .before .pre .1 .0 .few, c .before .before .before .before .before .before .before .before .before .pre .1 .1, c .before .before .before .before .before .before .before .before .before .pre .1 .0 .arity (c .before .before .before .before .before .before .before .before .before .args .at) l))  -- add-heads-add-rows-left
-    (λ c. let l : c .before .before .before .before .before .before .before .before .before .args .at < c .before .before .before .before .before .before .before .before .before .args .atom-count = omega (arith, c .before .before .before .before .before .before .before .before .before .pre .1 .1, c .before .before .before .before .if1 .left) in omega (arith, c .before .before .before .before .before .before .before .before .before .pre .1 .0 .few, c .before .before .before .before .before .before .before .before .before .pre .1 .1, c .before .before .before .before .before .before .before .before .before .pre .1 .0 .arity (c .before .before .before .before .before .before .before .before .before .args .at) l))  -- add-heads-sub-rows-left
+    (λ c. let i = c .before .before .before .before in  -- add-heads-add-rows-left
+    let g = i .before .before .before .before .before .pre .1 in
+    omega (arith, bounds (g .0) (g .1) (i .if1 .left)))
+    (λ c. let i = c .before .before .before .before in  -- add-heads-sub-rows-left
+    let g = i .before .before .before .before .before .pre .1 in
+    omega (arith, bounds (g .0) (g .1) (i .if1 .left)))
     (λ c. omega arith)  -- add-heads-part-rows-left-start
-    (λ c. let l : c .before .before .before .before .before .before .before .before .before .args .at < c .before .before .before .before .before .before .before .before .before .args .atom-count = omega (arith, c .before .before .before .before .before .before .before .before .before .pre .1 .1, c .before .before .before .before .if1 .left) in omega (arith, c .before .before .before .before .before .before .before .before .before .pre .1 .0 .few, c .before .before .before .before .before .before .before .before .before .pre .1 .1, c .before .before .before .before .if1 .left, c .before .before .before .before .before .before .before .before .before .pre .1 .0 .long, c .before .before .before .before .before .before .before .before .before .pre .1 .0 .arity (c .before .before .before .before .before .before .before .before .before .args .at) l))  -- add-heads-part-rows-left-end
-    (λ c. let l : c .before .before .before .before .before .before .before .before .before .before .args .at < c .before .before .before .before .before .before .before .before .before .before .args .atom-count = omega (arith, c .before .before .before .before .before .before .before .before .before .before .pre .1 .1, c .before .before .before .before .before .if1 .left) in omega (arith, c .before .before .before .before .before .before .before .before .before .before .pre .1 .0 .few, c .before .before .before .before .before .before .before .before .before .before .pre .1 .1, c .before .before .before .before .before .before .before .before .before .before .pre .1 .0 .counted (c .before .before .before .before .before .before .before .before .before .before .args .at) l))  -- add-heads-add-rows-left-2
-    (λ c. let l : c .before .before .before .before .before .before .before .before .before .before .args .at < c .before .before .before .before .before .before .before .before .before .before .args .atom-count = omega (arith, c .before .before .before .before .before .before .before .before .before .before .pre .1 .1, c .before .before .before .before .before .if1 .left) in omega (arith, c .before .before .before .before .before .before .before .before .before .before .pre .1 .0 .few, c .before .before .before .before .before .before .before .before .before .before .pre .1 .1, c .before .before .before .before .before .before .before .before .before .before .pre .1 .0 .counted (c .before .before .before .before .before .before .before .before .before .before .args .at) l))  -- add-heads-mul-rows-left
-    (λ c. let l : c .before .before .before .before .before .before .before .before .before .before .args .at < c .before .before .before .before .before .before .before .before .before .before .args .atom-count = omega (arith, c .before .before .before .before .before .before .before .before .before .before .pre .1 .1, c .before .before .before .before .before .if1 .left) in omega (arith, c .before .before .before .before .before .before .before .before .before .before .pre .1 .0 .few, c .before .before .before .before .before .before .before .before .before .before .pre .1 .1, c .before .before .before .before .before .before .before .before .before .before .pre .1 .0 .counted (c .before .before .before .before .before .before .before .before .before .before .args .at) l))  -- add-heads-sub-rows-left-2
+    (λ c. let i = c .before .before .before .before in  -- add-heads-part-rows-left-end
+    let g = i .before .before .before .before .before .pre .1 in
+    omega (arith, bounds (g .0) (g .1) (i .if1 .left)))
+    (λ c. let i = c .before .before .before .before .before in  -- add-heads-add-rows-left-2
+    let g = i .before .before .before .before .before .pre .1 in
+    omega (arith, bounds (g .0) (g .1) (i .if1 .left)))
+    (λ c. let i = c .before .before .before .before .before in  -- add-heads-mul-rows-left
+    let g = i .before .before .before .before .before .pre .1 in
+    omega (arith, bounds (g .0) (g .1) (i .if1 .left)))
+    (λ c. let i = c .before .before .before .before .before in  -- add-heads-sub-rows-left-2
+    let g = i .before .before .before .before .before .pre .1 in
+    omega (arith, bounds (g .0) (g .1) (i .if1 .left)))
     (λ c. omega arith)  -- add-heads-part-rows-left-start-2
-    (λ c. let l : c .before .before .before .before .before .before .before .before .before .before .args .at < c .before .before .before .before .before .before .before .before .before .before .args .atom-count = omega (arith, c .before .before .before .before .before .before .before .before .before .before .pre .1 .1, c .before .before .before .before .before .if1 .left) in omega (arith, c .before .before .before .before .before .before .before .before .before .before .pre .1 .0 .few, c .before .before .before .before .before .before .before .before .before .before .pre .1 .1, c .before .before .before .before .before .if1 .left, c .before .before .before .before .before .before .before .before .before .before .pre .1 .0 .room, c .before .before .before .before .before .before .before .before .before .before .pre .1 .0 .counted (c .before .before .before .before .before .before .before .before .before .before .args .at) l))  -- add-heads-part-rows-left-end-2
-    (λ c κs. let l : c .before .before .before .before .before .before .before .before .before .before .before .args .at < c .before .before .before .before .before .before .before .before .before .before .before .args .atom-count = omega (arith, c .before .before .before .before .before .before .before .before .before .before .before .pre .1 .1, c .before .before .before .before .before .before .if1 .left) in let s = c .before .before .before .before .before .before .before .before .before .before .before .args in (as-part KeyVariables (s .at * atomWidth + 2) (getD (s .atoms .now) (s .at * atomWidth + 1) 0) (drop (s .at * atomWidth + 2) (s .atoms .now)) (c .before .before .before .before .before .before .before .before .before .before .before .pre .1 .0 .variables _ l), c .before .before .before .before .before .before .before .before .before .before .before .pre .1 .2, as-part (InOrder _<_) (s .at * maxRows) (getD (s .t5) (s .at) 0) (drop (s .at * maxRows) (s .cands .now)) (c .before .before .before .before .before .before .before .before .before .before .before .pre .1 .0 .ascending _ l)))  -- add-heads-rows-left-requires
-    (λ c. let l : c .before .before .before .before .before .before .before .before .before .before .before .before .args .at < c .before .before .before .before .before .before .before .before .before .before .before .before .args .atom-count = omega (arith, c .before .before .before .before .before .before .before .before .before .before .before .before .pre .1 .1, c .before .before .before .before .before .before .before .if1 .left) in let s = c .before .before .before .before .before .before .before .before .before .before .before .before .args in let w = span-parts (c .rows-left .result) (s .at * atomWidth + 2) (getD (s .atoms .now) (s .at * atomWidth + 1) 0) (s .at * maxRows) (getD (s .t5) (s .at) 0) (drop (s .at * atomWidth + 2) (s .atoms .now)) (s .env) (drop (s .at * maxRows) (s .cands .now)) (c .rows-left .ensures) in (w, trying-start (c .before .before .before .before .before .before .before .before .before .before .before .before .pre .1 .0) l _ _ (c .before .before .before .before .before .before .before .before .before .before .before .before .pre .1 .4) (c .before .before .before .before .before .before .before .before .before .before .before .before .pre .1 .5) w))  -- add-heads-rows-holds
-    (λ c. let l : c .before .before .before .before .before .before .before .before .before .before .before .before .before .before .args .at < c .before .before .before .before .before .before .before .before .before .before .before .before .before .before .args .atom-count = omega (arith, c .before .before .before .before .before .before .before .before .before .before .before .before .before .before .pre .1 .1, c .before .before .before .before .before .before .before .before .before .if1 .left) in omega (arith, c .before .before .before .before .before .before .before .before .before .before .before .before .before .before .pre .1 .0 .few, c .before .before .before .before .before .before .before .before .before .before .before .before .before .before .pre .1 .1, c .before .before .before .before .before .before .before .before .before .before .before .before .before .before .pre .1 .0 .counted (c .before .before .before .before .before .before .before .before .before .before .before .before .before .before .args .at) l, (span-counted (c .before .before .before .before .before .before .before .before .before .before .before .before .before .before .pre .1 .0) l (c .before .rows .inv .0) (c .rows-test .taken))))  -- add-heads-add-rest
-    (λ c. let l : c .before .before .before .before .before .before .before .before .before .before .before .before .before .before .args .at < c .before .before .before .before .before .before .before .before .before .before .before .before .before .before .args .atom-count = omega (arith, c .before .before .before .before .before .before .before .before .before .before .before .before .before .before .pre .1 .1, c .before .before .before .before .before .before .before .before .before .if1 .left) in omega (arith, c .before .before .before .before .before .before .before .before .before .before .before .before .before .before .pre .1 .0 .few, c .before .before .before .before .before .before .before .before .before .before .before .before .before .before .pre .1 .1, c .before .before .before .before .before .before .before .before .before .before .before .before .before .before .pre .1 .0 .counted (c .before .before .before .before .before .before .before .before .before .before .before .before .before .before .args .at) l, (span-counted (c .before .before .before .before .before .before .before .before .before .before .before .before .before .before .pre .1 .0) l (c .before .rows .inv .0) (c .rows-test .taken))))  -- add-heads-mul-rest
-    (λ c. let l : c .before .before .before .before .before .before .before .before .before .before .before .before .before .before .before .args .at < c .before .before .before .before .before .before .before .before .before .before .before .before .before .before .before .args .atom-count = omega (arith, c .before .before .before .before .before .before .before .before .before .before .before .before .before .before .before .pre .1 .1, c .before .before .before .before .before .before .before .before .before .before .if1 .left) in omega (arith, c .before .before .before .before .before .before .before .before .before .before .before .before .before .before .before .pre .1 .0 .few, c .before .before .before .before .before .before .before .before .before .before .before .before .before .before .before .pre .1 .1, c .before .before .before .before .before .before .before .before .before .before .if1 .left, c .before .before .before .before .before .before .before .before .before .before .before .before .before .before .before .pre .1 .0 .room, c .before .before .before .before .before .before .before .before .before .before .before .before .before .before .before .pre .1 .0 .counted (c .before .before .before .before .before .before .before .before .before .before .before .before .before .before .before .args .at) l, (span-counted (c .before .before .before .before .before .before .before .before .before .before .before .before .before .before .before .pre .1 .0) l (c .before .before .rows .inv .0) (c .before .rows-test .taken))))  -- add-heads-shared-slice-read-rest
-    (λ c. let l : c .before .before .before .before .before .before .before .before .before .before .before .before .before .before .before .args .at < c .before .before .before .before .before .before .before .before .before .before .before .before .before .before .before .args .atom-count = omega (arith, c .before .before .before .before .before .before .before .before .before .before .before .before .before .before .before .pre .1 .1, c .before .before .before .before .before .before .before .before .before .before .if1 .left) in (refl, c .before .rows-test .taken, columns-start _ _ _ (row-small (c .before .before .before .before .before .before .before .before .before .before .before .before .before .before .before .pre .1 .0) l _ (span-counted (c .before .before .before .before .before .before .before .before .before .before .before .before .before .before .before .pre .1 .0) l (c .before .before .rows .inv .0) (c .before .rows-test .taken))) (c .before .before .before .before .before .before .before .before .before .before .before .before .before .before .before .pre .1 .2)))  -- add-heads-loop-holds
-    (λ c. let l : c .before .before .before .before .before .before .before .before .before .before .before .before .before .before .before .before .before .args .at < c .before .before .before .before .before .before .before .before .before .before .before .before .before .before .before .before .before .args .atom-count = omega (arith, c .before .before .before .before .before .before .before .before .before .before .before .before .before .before .before .before .before .pre .1 .1, c .before .before .before .before .before .before .before .before .before .before .before .before .if1 .left) in omega (arith, c .before .before .before .before .before .before .before .before .before .before .before .before .before .before .before .before .before .pre .1 .0 .few, c .before .before .before .before .before .before .before .before .before .before .before .before .before .before .before .before .before .pre .1 .1, c .loop-test .taken, c .before .before .before .before .before .before .before .before .before .before .before .before .before .before .before .before .before .pre .1 .0 .arity (c .before .before .before .before .before .before .before .before .before .before .before .before .before .before .before .before .before .args .at) l))  -- add-heads-add-v
-    (λ c. let l : c .before .before .before .before .before .before .before .before .before .before .before .before .before .before .before .before .before .before .args .at < c .before .before .before .before .before .before .before .before .before .before .before .before .before .before .before .before .before .before .args .atom-count = omega (arith, c .before .before .before .before .before .before .before .before .before .before .before .before .before .before .before .before .before .before .pre .1 .1, c .before .before .before .before .before .before .before .before .before .before .before .before .before .if1 .left) in omega (arith, c .before .before .before .before .before .before .before .before .before .before .before .before .before .before .before .before .before .before .pre .1 .0 .few, c .before .before .before .before .before .before .before .before .before .before .before .before .before .before .before .before .before .before .pre .1 .0 .long, c .before .before .before .before .before .before .before .before .before .before .before .before .before .before .before .before .before .before .pre .1 .1, c .before .before .before .before .before .before .before .before .before .before .before .before .before .if1 .left, c .before .loop-test .taken, c .before .before .before .before .before .before .before .before .before .before .before .before .before .before .before .before .before .before .pre .1 .0 .arity (c .before .before .before .before .before .before .before .before .before .before .before .before .before .before .before .before .before .before .args .at) l))  -- add-heads-shared-slice-read-v
-    (λ c. fits-widen tt (c .shared-slice-known6 .given _))  -- add-heads-cast-v
-    (λ c. search needs)  -- add-heads-cast-x
-    (λ c. let l : c .before .before .before .before .before .before .before .before .before .before .before .before .before .before .before .before .before .before .args .at < c .before .before .before .before .before .before .before .before .before .before .before .before .before .before .before .before .before .before .args .atom-count = omega (arith, c .before .before .before .before .before .before .before .before .before .before .before .before .before .before .before .before .before .before .pre .1 .1, c .before .before .before .before .before .before .before .before .before .before .before .before .before .if1 .left) in omega (arith, own-small (c .before .before .before .before .before .before .before .before .before .before .before .before .before .before .before .before .before .before .pre .1 .0) l _ (c .before .loop-test .taken)))  -- add-heads-mul-if3
-    (λ c. let l : c .before .before .before .before .before .before .before .before .before .before .before .before .before .before .before .before .before .before .args .at < c .before .before .before .before .before .before .before .before .before .before .before .before .before .before .before .before .before .before .args .atom-count = omega (arith, c .before .before .before .before .before .before .before .before .before .before .before .before .before .before .before .before .before .before .pre .1 .1, c .before .before .before .before .before .before .before .before .before .before .before .before .before .if1 .left) in omega (arith, own-small (c .before .before .before .before .before .before .before .before .before .before .before .before .before .before .before .before .before .before .pre .1 .0) l _ (c .before .loop-test .taken), c .before .before .loop .inv .2 .bindings .long))  -- add-heads-array-read-if3
-    (λ c. let l : c .before .before .before .before .before .before .before .before .before .before .before .before .before .before .before .before .before .before .before .args .at < c .before .before .before .before .before .before .before .before .before .before .before .before .before .before .before .before .before .before .before .args .atom-count = omega (arith, c .before .before .before .before .before .before .before .before .before .before .before .before .before .before .before .before .before .before .before .pre .1 .1, c .before .before .before .before .before .before .before .before .before .before .before .before .before .before .if1 .left) in omega (arith, own-small (c .before .before .before .before .before .before .before .before .before .before .before .before .before .before .before .before .before .before .before .pre .1 .0) l _ (c .before .before .loop-test .taken)))  -- add-heads-mul-if4
-    (λ c. let l : c .before .before .before .before .before .before .before .before .before .before .before .before .before .before .before .before .before .before .before .args .at < c .before .before .before .before .before .before .before .before .before .before .before .before .before .before .before .before .before .before .before .args .atom-count = omega (arith, c .before .before .before .before .before .before .before .before .before .before .before .before .before .before .before .before .before .before .before .pre .1 .1, c .before .before .before .before .before .before .before .before .before .before .before .before .before .before .if1 .left) in omega (arith, own-small (c .before .before .before .before .before .before .before .before .before .before .before .before .before .before .before .before .before .before .before .pre .1 .0) l _ (c .before .before .loop-test .taken), c .before .before .before .loop .inv .2 .bindings .long))  -- add-heads-array-read-if4
-    (λ c. search needs)  -- add-heads-add-r
-    (λ c. omega (arith, c .before .before .before .before .loop .inv .0, c .before .before .before .before .loop .inv .1))  -- add-heads-rows-less
-    (λ c. let l : c .before .before .before .before .before .before .before .before .before .before .before .before .before .before .before .before .before .before .before .before .args .at < c .before .before .before .before .before .before .before .before .before .before .before .before .before .before .before .before .before .before .before .before .args .atom-count = omega (arith, c .before .before .before .before .before .before .before .before .before .before .before .before .before .before .before .before .before .before .before .before .pre .1 .1, c .before .before .before .before .before .before .before .before .before .before .before .before .before .before .before .if1 .left) in ((c .before .before .before .before .before .before .before .rows .inv .0), rw (c .before .before .before .before .loop .inv .0) (trying-skip (c .before .before .before .before .before .before .before .before .before .before .before .before .before .before .before .before .before .before .before .before .pre .1 .0) l (c .before .before .before .before .before .before .before .rows .inv .1) (λ σ s x e. columns-differ (c .before .before .before .before .loop .inv .2) (omega (arith, c .before .before .before .loop-test .taken, own-length (c .before .before .before .before .before .before .before .before .before .before .before .before .before .before .before .before .before .before .before .before .pre .1 .0) l)) _ (own-at (c .before .before .before .before .before .before .before .before .before .before .before .before .before .before .before .before .before .before .before .before .pre .1 .0) l _ (c .before .before .before .loop-test .taken)) (c .before .if3 .taken) (c .if4 .taken) σ s x (rw (c .before .before .before .before .loop .inv .0) e)))))  -- add-heads-rows-again
-    (λ c. let l : c .before .before .before .before .before .before .before .before .before .before .before .before .before .before .before .before .before .before .before .args .at < c .before .before .before .before .before .before .before .before .before .before .before .before .before .before .before .before .before .before .before .args .atom-count = omega (arith, c .before .before .before .before .before .before .before .before .before .before .before .before .before .before .before .before .before .before .before .pre .1 .1, c .before .before .before .before .before .before .before .before .before .before .before .before .before .before .if1 .left) in omega (arith, own-small (c .before .before .before .before .before .before .before .before .before .before .before .before .before .before .before .before .before .before .before .pre .1 .0) l _ (c .before .before .loop-test .taken)))  -- add-heads-mul-next
-    (λ c. let l : c .before .before .before .before .before .before .before .before .before .before .before .before .before .before .before .before .before .before .before .args .at < c .before .before .before .before .before .before .before .before .before .before .before .before .before .before .before .before .before .before .before .args .atom-count = omega (arith, c .before .before .before .before .before .before .before .before .before .before .before .before .before .before .before .before .before .before .before .pre .1 .1, c .before .before .before .before .before .before .before .before .before .before .before .before .before .before .if1 .left) in omega (arith, own-small (c .before .before .before .before .before .before .before .before .before .before .before .before .before .before .before .before .before .before .before .pre .1 .0) l _ (c .before .before .loop-test .taken), c .before .before .before .loop .inv .2 .bindings .long))  -- add-heads-array-write-next
-    (λ c. let l : c .before .before .before .before .before .before .before .before .before .before .before .before .before .before .before .before .before .before .before .args .at < c .before .before .before .before .before .before .before .before .before .before .before .before .before .before .before .before .before .before .before .args .atom-count = omega (arith, c .before .before .before .before .before .before .before .before .before .before .before .before .before .before .before .before .before .before .before .pre .1 .1, c .before .before .before .before .before .before .before .before .before .before .before .before .before .before .if1 .left) in omega (arith, c .before .before .loop-test .taken, c .before .before .before .before .before .before .before .before .before .before .before .before .before .before .before .before .before .before .before .pre .1 .0 .arity (c .before .before .before .before .before .before .before .before .before .before .before .before .before .before .before .before .before .before .before .args .at) l))  -- add-heads-add-c
-    (λ c. omega (arith, c .before .before .loop-test .taken))  -- add-heads-loop-less
-    (λ c. let l : c .before .before .before .before .before .before .before .before .before .before .before .before .before .before .before .before .before .before .before .args .at < c .before .before .before .before .before .before .before .before .before .before .before .before .before .before .before .before .before .before .before .args .atom-count = omega (arith, c .before .before .before .before .before .before .before .before .before .before .before .before .before .before .before .before .before .before .before .pre .1 .1, c .before .before .before .before .before .before .before .before .before .before .before .before .before .before .if1 .left) in (c .before .before .before .loop .inv .0, c .before .before .before .loop .inv .1, columns-again (c .before .before .before .loop .inv .2) (omega (arith, c .before .before .loop-test .taken, own-length (c .before .before .before .before .before .before .before .before .before .before .before .before .before .before .before .before .before .before .before .pre .1 .0) l)) _ (own-at (c .before .before .before .before .before .before .before .before .before .before .before .before .before .before .before .before .before .before .before .pre .1 .0) l _ (c .before .before .loop-test .taken)) (own-small (c .before .before .before .before .before .before .before .before .before .before .before .before .before .before .before .before .before .before .before .pre .1 .0) l _ (c .before .before .loop-test .taken)) (⊎-elim (λ w. inr (w .1 .left)) (λ w. inl (w .left)) (c .if3 .came))))  -- add-heads-loop-again
-    (λ c. omega (arith, c .before .before .before .before .before .before .before .before .before .before .before .before .before .before .before .before .before .pre .1 .0 .few, c .before .before .before .before .before .before .before .before .before .before .before .before .before .before .before .before .before .pre .1 .1))  -- add-heads-add-add-heads
-    (λ c κs. let l : c .before .before .before .before .before .before .before .before .before .before .before .before .before .before .before .before .before .before .args .at < c .before .before .before .before .before .before .before .before .before .before .before .before .before .before .before .before .before .before .args .atom-count = omega (arith, c .before .before .before .before .before .before .before .before .before .before .before .before .before .before .before .before .before .before .pre .1 .1, c .before .before .before .before .before .before .before .before .before .before .before .before .before .if1 .left) in (omega (arith, c .before .before .before .before .before .before .before .before .before .before .before .before .before .before .before .before .before .before .pre .0, c .before .before .before .before .before .before .before .before .before .before .before .before .before .before .before .before .before .before .pre .1 .1, c .before .before .before .before .before .before .before .before .before .before .before .before .before .if1 .left), ((c .before .before .before .before .before .before .before .before .before .before .before .before .before .before .before .before .before .before .pre .1 .0), omega (arith, l), c .before .before .loop .inv .2 .bindings, reaches-next (c .before .before .before .before .before .before .before .before .before .before .before .before .before .before .before .before .before .before .pre .1 .0) l (c .before .before .before .before .before .rows .inv .1) (span-counted (c .before .before .before .before .before .before .before .before .before .before .before .before .before .before .before .before .before .before .pre .1 .0) l (c .before .before .before .before .before .rows .inv .0) (c .before .before .before .before .rows-test .taken)) (rw (c .before .before .loop .inv .0) at (c .before .before .loop .inv .2)) (omega (arith, c .before .loop-test .left, own-length (c .before .before .before .before .before .before .before .before .before .before .before .before .before .before .before .before .before .before .pre .1 .0) l)) (c .before .before .before .before .before .before .before .before .before .before .before .before .before .before .before .before .before .before .pre .1 .3), omega (arith, (c .before .before .before .before .before .rows .inv .1) .long, (c .before .before .before .before .before .rows .inv .1) .grown .room), (c .before .before .before .before .before .rows .inv .1) .grown .list .ascending)))  -- add-heads-add-heads-requires
+    (λ c. let i = c .before .before .before .before .before in  -- add-heads-part-rows-left-end-2
+    let g = i .before .before .before .before .before .pre .1 in
+    omega (arith, bounds (g .0) (g .1) (i .if1 .left)))
+    (λ c κs. let i = c .before .before .before .before .before .before in  -- add-heads-rows-left-requires
+    let g = i .before .before .before .before .before .pre .1 in
+    rows-given (g .0) (g .1) (i .if1 .left) (g .2))
+    (λ c. let i = c .before .before .before .before .before .before .before in  -- add-heads-loop-holds
+    let g = i .before .before .before .before .before .pre .1 in
+    turn-start (g .0) (g .1) (i .if1 .left) (g .2) (g .3) _ _ (g .4) (g .5) (c .rows-left .result) (c .rows-left .ensures))
+    (λ c. omega (arith, turn-bounds (c .before .loop .inv) (c .loop-test .taken)))  -- add-heads-add-bind-row
+    (λ c. omega (arith, turn-bounds (c .before .loop .inv) (c .loop-test .taken)))  -- add-heads-sub-bind-row
+    (λ c. omega arith)  -- add-heads-part-bind-row-start
+    (λ c. omega (arith, turn-bounds (c .before .loop .inv) (c .loop-test .taken)))  -- add-heads-part-bind-row-end
+    (λ c. omega (arith, turn-bounds (c .before .before .loop .inv) (c .before .loop-test .taken)))  -- add-heads-add-bind-row-2
+    (λ c. omega (arith, turn-bounds (c .before .before .loop .inv) (c .before .loop-test .taken)))  -- add-heads-mul-bind-row
+    (λ c. omega (arith, turn-bounds (c .before .before .before .loop .inv) (c .before .before .loop-test .taken)))  -- add-heads-shared-slice-read-bind-row
+    (λ c κs. turn-given (c .before .before .before .before .loop .inv) (c .before .before .before .loop-test .taken))  -- add-heads-bind-row-requires
+    (λ c. omega (arith, turn-bounds (c .before .before .before .before .before .before .loop .inv) (c .before .before .before .before .before .loop-test .taken)))  -- add-heads-add-r
+    (λ c. search needs)  -- add-heads-loop-less
+    (λ c. let o = c .before .before .before .before .before .before .loop in  -- add-heads-loop-again
+    let b = c .before .bind-row in
+    turn-skip (o .inv) (c .before .before .before .before .before .loop-test .taken) (b .result) (b .last .1 .1 .0) (b .ensures) (c .if3 .taken))
+    (λ c. omega (arith, turn-bounds (c .before .before .before .before .before .before .loop .inv) (c .before .before .before .before .before .loop-test .taken)))  -- add-heads-add-add-heads
+    (λ c κs. let o = c .before .before .before .before .before .before .before .loop .inv in  -- add-heads-add-heads-requires
+    let h = c .before .before .before .before .before .before .loop-test .taken in
+    let b = c .before .before .bind-row in
+    let w = turn-bound o h (b .result) (b .last .1 .1 .0) (b .ensures) (c .before .if3 .left) in
+    (omega (arith, c .before .before .before .before .before .before .before .before .before .before .before .before .before .before .before .before .before .before .before .before .pre .0, o .left), (o .plan, omega (arith, o .left), w .bindings, turn-reaches o h w, turn-room o .0, turn-room o .1)))
     (λ c. search needs)  -- add-heads-enum-told
     (λ c. search needs)  -- add-heads-same-length-3
-    (λ c. let l : c .before .before .before .before .before .before .before .before .before .before .before .before .before .before .before .before .before .before .before .before .before .before .before .args .at < c .before .before .before .before .before .before .before .before .before .before .before .before .before .before .before .before .before .before .before .before .before .before .before .args .atom-count = omega (arith, c .before .before .before .before .before .before .before .before .before .before .before .before .before .before .before .before .before .before .before .before .before .before .before .pre .1 .1, c .before .before .before .before .before .before .before .before .before .before .before .before .before .before .before .before .before .before .if1 .left) in trying-over (c .before .before .before .before .before .before .before .before .before .before .before .before .before .before .before .before .before .before .before .before .before .before .before .pre .1 .0) l (c .before .before .before .before .before .before .before .before .before .before .rows .inv .1) (span-counted (c .before .before .before .before .before .before .before .before .before .before .before .before .before .before .before .before .before .before .before .before .before .before .before .pre .1 .0) l (c .before .before .before .before .before .before .before .before .before .before .rows .inv .0) (c .before .before .before .before .before .before .before .before .before .rows-test .taken)) (rw (c .before .before .before .before .before .before .before .loop .inv .0) at (c .before .before .before .before .before .before .before .loop .inv .2)) (omega (arith, c .before .before .before .before .before .before .loop-test .left, own-length (c .before .before .before .before .before .before .before .before .before .before .before .before .before .before .before .before .before .before .before .before .before .before .before .pre .1 .0) l)) (rw (c .enum-told .given .1) at (c .before .before .before .before .add-heads .ensures)))  -- add-heads-returns-3
+    (λ c. let o = c .before .before .before .before .before .before .before .before .before .before .before .before .loop .inv in  -- add-heads-returns-3
+    let h = c .before .before .before .before .before .before .before .before .before .before .before .loop-test .taken in
+    let b = c .before .before .before .before .before .before .before .bind-row in
+    let w = turn-bound o h (b .result) (b .last .1 .1 .0) (b .ensures) (c .before .before .before .before .before .before .if3 .left) in
+    turn-over o h w (rw (c .enum-told .given .1) at (c .before .before .before .before .add-heads .ensures)))
     (λ c. search needs)  -- add-heads-enum-known-k
-    (λ c. let l : c .before .before .before .before .before .before .before .before .before .before .before .before .before .before .before .before .before .before .before .before .before .before .before .before .args .at < c .before .before .before .before .before .before .before .before .before .before .before .before .before .before .before .before .before .before .before .before .before .before .before .before .args .atom-count = omega (arith, c .before .before .before .before .before .before .before .before .before .before .before .before .before .before .before .before .before .before .before .before .before .before .before .before .pre .1 .1, c .before .before .before .before .before .before .before .before .before .before .before .before .before .before .before .before .before .before .before .if1 .left) in omega (arith, (span-counted (c .before .before .before .before .before .before .before .before .before .before .before .before .before .before .before .before .before .before .before .before .before .before .before .before .pre .1 .0) l (c .before .before .before .before .before .before .before .before .before .before .before .rows .inv .0) (c .before .before .before .before .before .before .before .before .before .before .rows-test .taken)), c .before .before .before .before .before .before .before .before .before .before .before .before .before .before .before .before .before .before .before .before .before .before .before .before .pre .1 .0 .counted (c .before .before .before .before .before .before .before .before .before .before .before .before .before .before .before .before .before .before .before .before .before .before .before .before .args .at) l, c .before .before .before .before .before .before .before .before .loop .inv .0))  -- add-heads-add-r-2
-    (λ c. omega (arith, c .before .before .before .before .before .before .before .before .loop .inv .0, c .before .before .before .before .before .before .before .before .loop .inv .1))  -- add-heads-rows-less-2
-    (λ c. let l : c .before .before .before .before .before .before .before .before .before .before .before .before .before .before .before .before .before .before .before .before .before .before .before .before .args .at < c .before .before .before .before .before .before .before .before .before .before .before .before .before .before .before .before .before .before .before .before .before .before .before .before .args .atom-count = omega (arith, c .before .before .before .before .before .before .before .before .before .before .before .before .before .before .before .before .before .before .before .before .before .before .before .before .pre .1 .1, c .before .before .before .before .before .before .before .before .before .before .before .before .before .before .before .before .before .before .before .if1 .left) in ((c .before .before .before .before .before .before .before .before .before .before .before .rows .inv .0), rw (c .before .before .before .before .before .before .before .before .loop .inv .0) (trying-more (c .before .before .before .before .before .before .before .before .before .before .before .before .before .before .before .before .before .before .before .before .before .before .before .before .pre .1 .0) l (c .before .before .before .before .before .before .before .before .before .before .before .rows .inv .1) (span-counted (c .before .before .before .before .before .before .before .before .before .before .before .before .before .before .before .before .before .before .before .before .before .before .before .before .pre .1 .0) l (c .before .before .before .before .before .before .before .before .before .before .before .rows .inv .0) (c .before .before .before .before .before .before .before .before .before .before .rows-test .taken)) (rw (c .before .before .before .before .before .before .before .before .loop .inv .0) at (c .before .before .before .before .before .before .before .before .loop .inv .2)) (omega (arith, c .before .before .before .before .before .before .before .loop-test .left, own-length (c .before .before .before .before .before .before .before .before .before .before .before .before .before .before .before .before .before .before .before .before .before .before .before .before .pre .1 .0) l)) (rw (c .before .k .given .1) at (c .before .before .before .before .before .add-heads .ensures)) (c .before .before .before .before .before .add-heads .kept .1 .1 .1 .1 .1 .1 .1 .0))))  -- add-heads-rows-again-2
+    (λ c. omega (arith, turn-bounds (c .before .before .before .before .before .before .before .before .before .before .before .before .before .loop .inv) (c .before .before .before .before .before .before .before .before .before .before .before .before .loop-test .taken)))  -- add-heads-add-r-2
+    (λ c. search needs)  -- add-heads-loop-less-2
+    (λ c. let o = c .before .before .before .before .before .before .before .before .before .before .before .before .before .loop .inv in  -- add-heads-loop-again-2
+    let h = c .before .before .before .before .before .before .before .before .before .before .before .before .loop-test .taken in
+    let b = c .before .before .before .before .before .before .before .before .bind-row in
+    let w = turn-bound o h (b .result) (b .last .1 .1 .0) (b .ensures) (c .before .before .before .before .before .before .before .if3 .left) in
+    turn-more o h w (rw (c .before .k .given .1) at (c .before .before .before .before .before .add-heads .ensures)) (c .before .before .before .before .before .add-heads .kept .1 .1 .1 .1 .1 .1 .1 .0))
     (λ c. search needs)  -- add-heads-same-length-4
-    (λ c. let l : c .before .before .before .before .before .before .before .before .before .before .before .before .before .before .args .at < c .before .before .before .before .before .before .before .before .before .before .before .before .before .before .args .atom-count = omega (arith, c .before .before .before .before .before .before .before .before .before .before .before .before .before .before .pre .1 .1, c .before .before .before .before .before .before .before .before .before .if1 .left) in trying-done (c .before .before .before .before .before .before .before .before .before .before .before .before .before .before .pre .1 .0) l (c .before .rows .inv .1) (c .before .rows .inv .0) (c .rows-test .left))  -- add-heads-returns-4
+    (λ c. turn-done (c .before .loop .inv) (c .loop-test .left))  -- add-heads-returns-4
