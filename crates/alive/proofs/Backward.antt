@@ -8,10 +8,10 @@ use mathlib.Core.Path.{refl, subst, sym, _∙_, _≡_}
 use native.Mathlib.Decide.{ℕ-discrete}
 use native.Mathlib.Omega.{arith}
 use Prim.Native.Nat.{ℕ, _-_, _<_, _≤_}
-use Rattle.alive.specs.Steps.{At, LeafBack, Led, PartBack, PartReady, SubjectAt, SubjectOn, Turns, labels, leaves, stays, steps, takes, turns}
+use Rattle.alive.specs.Steps.{AliveAt, LeafBack, Led, PartBack, PartReady, SubjectAt, SubjectOn, Turns, labels, leaves, stays, steps, takes, turns}
 use Rattle.index.proofs.Chains.{met-first, met-later, met-none, met-split}
 use Rattle.index.specs.Index.{Met}
-use Rattle.index.specs.Triples.{predicateOf, subjectOf}
+use Rattle.index.specs.Triples.{predicateAt, subjectAt}
 use Rattle.meaning.specs.Limits.{maxStates}
 use Rattle.query.specs.Tree.{firstNumber, kindOf}
 use Rattle.states.proofs.Marking.{adds-as, adds-none, adds-same, adds-then}
@@ -24,10 +24,10 @@ use Rattle.meaning.proofs.Cases.{true-false}
 -- ---- one triple
 
 module _ {triples : List ℕ} {k kind want i : ℕ} {t₁ q₁ : List ℕ} {k₁ : ℕ} where
-  pub subject-none : (b : Bool) → not b ≡ true → b ≡ takes kind want (predicateOf triples k) → Table 1 maxStates t₁ q₁ k₁ → Adds 1 maxStates (SubjectAt triples k kind want i) (SubjectAt triples k kind want i) t₁ q₁ k₁ t₁ q₁ k₁
+  pub subject-none : (b : Bool) → not b ≡ true → b ≡ takes kind want (predicateAt triples k) → Table 1 maxStates t₁ q₁ k₁ → Adds 1 maxStates (SubjectAt triples k kind want i) (SubjectAt triples k kind want i) t₁ q₁ k₁ t₁ q₁ k₁
   subject-none b n e t = adds-none t (λ y s. true-false (e ∙ s .taken) (not-true b n))
 
-  pub subject-one : {t₂ q₂ : List ℕ} {k₂ : ℕ} → takes kind want (predicateOf triples k) ≡ true → Adds 1 maxStates (λ y. y ≡ state i (subjectOf triples k)) (λ y. y ≡ state i (subjectOf triples k)) t₁ q₁ k₁ t₂ q₂ k₂ → Adds 1 maxStates (SubjectAt triples k kind want i) (SubjectAt triples k kind want i) t₁ q₁ k₁ t₂ q₂ k₂
+  pub subject-one : {t₂ q₂ : List ℕ} {k₂ : ℕ} → takes kind want (predicateAt triples k) ≡ true → Adds 1 maxStates (λ y. y ≡ state i (subjectAt triples k)) (λ y. y ≡ state i (subjectAt triples k)) t₁ q₁ k₁ t₂ q₂ k₂ → Adds 1 maxStates (SubjectAt triples k kind want i) (SubjectAt triples k kind want i) t₁ q₁ k₁ t₂ q₂ k₂
   subject-one e a = adds-same a (λ y p. record { taken = e; state = p }) (λ y s. s .state)
 
 -- ---- a chain of triples
@@ -185,15 +185,15 @@ leaf-kind (steps g h s) = omega arith
 leaf-kind (labels g h e s) = omega arith
 
 module _ {triples earlier last tree next wanted table : List ℕ} {i j m : ℕ} {q₁ : List ℕ} {k₁ : ℕ} where
-  pub part-turns : {t₂ q₂ : List ℕ} {k₂ : ℕ} → Led (At table m) (getD next i 0) (partOf tree i) → Adds 1 maxStates (λ y. y ≡ state i m) (λ y. y ≡ state i m) table q₁ k₁ t₂ q₂ k₂
+  pub part-turns : {t₂ q₂ : List ℕ} {k₂ : ℕ} → Led (AliveAt table m) (getD next i 0) (partOf tree i) → Adds 1 maxStates (λ y. y ≡ state i m) (λ y. y ≡ state i m) table q₁ k₁ t₂ q₂ k₂
       → Adds 1 maxStates (PartBack triples earlier last tree next wanted table i j m) (PartBack triples earlier last tree next wanted table i j m) table q₁ k₁ t₂ q₂ k₂
   part-turns l a = adds-same a (λ y e. turns l e) back
     where
       back : (y : ℕ) → PartBack triples earlier last tree next wanted table i j m y → y ≡ state i m
-      back y (leaves e b) = absurd (led-no-leaf tree i (At table m) (getD next i 0) l (leaf-kind b))
+      back y (leaves e b) = absurd (led-no-leaf tree i (AliveAt table m) (getD next i 0) l (leaf-kind b))
       back y (turns x e) = e
 
-  pub part-none : (Led (At table m) (getD next i 0) (partOf tree i) → ⊥) → (getD next i 0 ≡ j → ⊥) → Table 1 maxStates table q₁ k₁
+  pub part-none : (Led (AliveAt table m) (getD next i 0) (partOf tree i) → ⊥) → (getD next i 0 ≡ j → ⊥) → Table 1 maxStates table q₁ k₁
       → Adds 1 maxStates (PartBack triples earlier last tree next wanted table i j m) (PartBack triples earlier last tree next wanted table i j m) table q₁ k₁ table q₁ k₁
   part-none l n t = adds-none t none
     where
@@ -201,7 +201,7 @@ module _ {triples earlier last tree next wanted table : List ℕ} {i j m : ℕ} 
       none y (leaves e b) = n e
       none y (turns x e) = l x
 
-  pub part-leaf : {t₂ q₂ : List ℕ} {k₂ : ℕ} → (Led (At table m) (getD next i 0) (partOf tree i) → ⊥) → getD next i 0 ≡ j → (kind : ℕ) → kind ≡ kindOf tree i
+  pub part-leaf : {t₂ q₂ : List ℕ} {k₂ : ℕ} → (Led (AliveAt table m) (getD next i 0) (partOf tree i) → ⊥) → getD next i 0 ≡ j → (kind : ℕ) → kind ≡ kindOf tree i
       → Adds 1 maxStates (LeafBack triples earlier (getD last m 0) kind (getD wanted i 0) i m) (LeafBack triples earlier (getD last m 0) kind (getD wanted i 0) i m) table q₁ k₁ t₂ q₂ k₂
       → Adds 1 maxStates (PartBack triples earlier last tree next wanted table i j m) (PartBack triples earlier last tree next wanted table i j m) table q₁ k₁ t₂ q₂ k₂
   part-leaf {t₂} {q₂} {k₂} l e kind k a = adds-same (subst (λ x. Adds 1 maxStates (LeafBack triples earlier (getD last m 0) x (getD wanted i 0) i m) (LeafBack triples earlier (getD last m 0) x (getD wanted i 0) i m) table q₁ k₁ t₂ q₂ k₂) k a) (λ y b. leaves e b) back

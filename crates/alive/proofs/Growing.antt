@@ -7,11 +7,11 @@ use mathlib.Core.Path.{ap, refl, subst, sym, _∙_, _≡_}
 use native.Mathlib.Decide.{decLt, ℕ-discrete}
 use native.Mathlib.Omega.{arith}
 use Prim.Native.Nat.{ℕ, _*_, _+_, _-_, _/_, _<_, _≤_}
-use Rattle.alive.specs.Fits.{Fits}
+use Rattle.alive.specs.Fits.{ListsFit}
 use Rattle.alive.specs.Links.{Caused}
 use Rattle.alive.specs.Lists.{Lists, leafAt, numbered}
 use Rattle.alive.specs.Living.{Living, SomeAt, Yes}
-use Rattle.alive.specs.Steps.{AllAlive, At, BackAt, BackTo, EndAt, Led, PartBack, StateAlive, Touches, leads, turns}
+use Rattle.alive.specs.Steps.{AllAlive, AliveAt, BackAt, BackTo, EndAt, Led, PartBack, StateAlive, Touches, leads, turns}
 use Rattle.index.proofs.Chains.{met-first, met-later, met-none, met-split}
 use Rattle.index.specs.Index.{ByObject, Met}
 use Rattle.meaning.specs.Limits.{maxStates}
@@ -73,7 +73,7 @@ back-touches : {L : Lists} {table : List ℕ} {s i y : ℕ} → BackAt L table s
 back-touches {L} {table} {s} {i} (leads n e p j q) = subst (λ x. Touches (getD (L .next) i 0) x (partAt s)) (sym e) (sym p)
 back-touches (turns x w q) = w
 
-pub back-start : {L : Lists} {heads rest : List ℕ} {s : ℕ} {t q : List ℕ} {k : ℕ} → Fits L → Caused L heads rest → StateAlive L s → Table 1 maxStates t q k → Backing L rest s t q k t q k (getD heads (partAt s) 0)
+pub back-start : {L : Lists} {heads rest : List ℕ} {s : ℕ} {t q : List ℕ} {k : ℕ} → ListsFit L → Caused L heads rest → StateAlive L s → Table 1 maxStates t q k → Backing L rest s t q k t q k (getD heads (partAt s) 0)
 back-start {L} {heads} {rest} {s} f c w t =
     let a = f .query .few in
     let b = w .part in
@@ -88,7 +88,7 @@ module _ {L : Lists} {rest : List ℕ} {s : ℕ} {t₁ q₁ : List ℕ} {k₁ : 
   pub link-first : 0 < at → at - 1 < L .parts * 3
   link-first l = g .inside (at - 1) (met-first at l)
 
-  pub back-again : {last earlier t₃ q₃ : List ℕ} {k₃ : ℕ} → Fits L → ByObject (L .triples) (L .edges) last earlier → Table 1 maxStates t₁ q₁ k₁ → AllAlive L t₁ → StateAlive L s → 0 < at → {j m : ℕ} → j ≡ partAt s → m ≡ nodeAt s
+  pub back-again : {last earlier t₃ q₃ : List ℕ} {k₃ : ℕ} → ListsFit L → ByObject (L .triples) (L .edges) last earlier → Table 1 maxStates t₁ q₁ k₁ → AllAlive L t₁ → StateAlive L s → 0 < at → {j m : ℕ} → j ≡ partAt s → m ≡ nodeAt s
       → Adds 1 maxStates (PartBack (L .triples) earlier last (L .tree) (L .next) (L .wanted) t₂ ((at - 1) / 3) j m) (PartBack (L .triples) earlier last (L .tree) (L .next) (L .wanted) t₂ ((at - 1) / 3) j m) t₂ q₂ k₂ t₃ q₃ k₃
       → Backing L rest s t₁ q₁ k₁ t₃ q₃ k₃ (getD rest (at - 1) 0)
   back-again {last} {earlier} {t₃} {q₃} {k₃} f b t a w l {j} {m} pj pm d₀ = record {
@@ -140,7 +140,7 @@ pub record Growing (L : Lists) (table queue : List ℕ) (head tail : ℕ) : Type
   pub led : (k : ℕ) → k < head → (i n : ℕ) → i < L .parts → partOf (L .tree) i ≡ leaf → getD (L .next) i 0 ≡ partAt (getD queue k 0) → Joins (numbered L) (leafAt L i) n (nodeAt (getD queue k 0)) → Marked 1 table (state i n)
   pub turned : (i m : ℕ) → i < L .parts → m < L .nodes → Led (Passed queue head m) (getD (L .next) i 0) (partOf (L .tree) i) → Marked 1 table (state i m)
 
-module _ {L : Lists} (f : Fits L) where
+module _ {L : Lists} (f : ListsFit L) where
   -- nothing is passed yet
   none-led : (B : ℕ → Type 0) → ((j : ℕ) → B j → ⊥) → (after : ℕ) (p : Part) → Led B after p → ⊥
   none-led B out after leaf x = x
@@ -190,7 +190,7 @@ module _ {L : Lists} (f : Fits L) where
             let w : getD q₃ k 0 ≡ getD q₂ k 0 = a .kept k (omega arith) in
             a .more (state i n) (g .led k (omega arith) i n r e (p ∙ ap (λ x. partAt x) w) (subst (λ x. Joins (numbered L) (leafAt L i) n (nodeAt x)) w j))
 
-        marked-now : (m j : ℕ) → Passed q₃ (head + 1) m j → At t₂ m j
+        marked-now : (m j : ℕ) → Passed q₃ (head + 1) m j → AliveAt t₂ m j
         marked-now m j (k, h, e) =
             let w : getD q₂ k 0 ≡ state j m = sym (a .kept k (omega arith)) ∙ e in
             subst (λ x. Marked 1 t₂ x) w (g .marks .marked k (omega arith))
@@ -221,7 +221,7 @@ module _ {L : Lists} (f : Fits L) where
 
         by-part : (i m : ℕ) → i < L .parts → m < L .nodes → Led (Passed q₃ (head + 1) m) (getD (L .next) i 0) (partOf (L .tree) i) → Led (Passed q₂ head m) (getD (L .next) i 0) (partOf (L .tree) i) ⊎ (Touches (getD (L .next) i 0) (partOf (L .tree) i) (partAt s) × (m ≡ nodeAt s)) → Marked 1 t₃ (state i m)
         by-part i m r h x (inl y) = a .more (state i m) (g .turned i m r h y)
-        by-part i m r h x (inr (y, z)) = a .all (state i m) (record { part = i; is = r; back = turns (subst (λ y. Led (At t₂ y) (getD (L .next) i 0) (partOf (L .tree) i)) z (led-more f (Passed q₃ (head + 1) m) (At t₂ m) (marked-now m) (getD (L .next) i 0) (partOf (L .tree) i) x)) y (ap (λ y. state i y) z) })
+        by-part i m r h x (inr (y, z)) = a .all (state i m) (record { part = i; is = r; back = turns (subst (λ y. Led (AliveAt t₂ y) (getD (L .next) i 0) (partOf (L .tree) i)) z (led-more f (Passed q₃ (head + 1) m) (AliveAt t₂ m) (marked-now m) (getD (L .next) i 0) (partOf (L .tree) i) x)) y (ap (λ y. state i y) z) })
 
   -- All listed states are passed: the marked states are saturated.
   module _ {table queue : List ℕ} {head tail : ℕ} (g : Growing L table queue head tail) (whole : tail ≤ head) where

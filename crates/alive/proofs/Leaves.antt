@@ -10,7 +10,7 @@ use Prim.Native.Nat.{ℕ, _<_, _≤_}
 use Rattle.alive.specs.Lists.{Lists, leafAt, numbered}
 use Rattle.alive.specs.Steps.{LeafBack, takes}
 use Rattle.index.specs.Index.{ByObject}
-use Rattle.index.specs.Triples.{GraphFits, TripleIn, objectOf, predicateOf, subjectOf}
+use Rattle.index.specs.Triples.{GraphFits, TripleIn, objectAt, predicateAt, subjectAt}
 use Rattle.meaning.specs.Limits.{maxNodes}
 use Rattle.meaning.specs.Query.{Expr, Joins, anyStep, atIri, atLiteral, stay, step}
 use Rattle.query.specs.Tree.{kindOf}
@@ -20,7 +20,7 @@ use Rattle.walk.specs.Parts.{leafBy}
 -- A leaf of this kind, which wants this number, joins n to m.
 pub data LeafJoins (L : Lists) (kind want n m : ℕ) : Type 0 where
   rests : kind ≡ 0 → n < L .nodes → n ≡ m → LeafJoins L kind want n m
-  goes : 1 ≤ kind → kind ≤ 2 → (k : ℕ) → k < L .edges → subjectOf (L .triples) k ≡ n → objectOf (L .triples) k ≡ m → takes kind want (predicateOf (L .triples) k) ≡ true → LeafJoins L kind want n m
+  goes : 1 ≤ kind → kind ≤ 2 → (k : ℕ) → k < L .edges → subjectAt (L .triples) k ≡ n → objectAt (L .triples) k ≡ m → takes kind want (predicateAt (L .triples) k) ≡ true → LeafJoins L kind want n m
   is-at : 3 ≤ kind → kind ≤ 4 → n < L .nodes → want ≡ n → n ≡ m → LeafJoins L kind want n m
 
 -- ---- it is what its expression joins
@@ -67,10 +67,10 @@ module _ (L : Lists) (i : ℕ) where
         go (yes e) b c d = let (h, p) = at stay (is-stay e) in rests e h p
         go (no x) (yes e) c d =
             let (p, t) = at anyStep (is-any e) in
-            goes (omega arith) (omega arith) (t .at) (t .inside) (t .subject) (t .object) (takes-any (kindOf (L .tree) i) (getD (L .wanted) i 0) (predicateOf (L .triples) (t .at)) e)
+            goes (omega arith) (omega arith) (t .at) (t .inside) (t .subject) (t .object) (takes-any (kindOf (L .tree) i) (getD (L .wanted) i 0) (predicateAt (L .triples) (t .at)) e)
         go (no x) (no y) (yes e) d =
             let (p, w, t) = at (step (i ∷ [])) (is-step e) in
-            goes (omega arith) (omega arith) (t .at) (t .inside) (t .subject) (t .object) (takes-named (kindOf (L .tree) i) (getD (L .wanted) i 0) (predicateOf (L .triples) (t .at)) e (t .predicate ∙ w))
+            goes (omega arith) (omega arith) (t .at) (t .inside) (t .subject) (t .object) (takes-named (kindOf (L .tree) i) (getD (L .wanted) i 0) (predicateAt (L .triples) (t .at)) e (t .predicate ∙ w))
         go (no x) (no y) (no z) (yes e) = let (h, w, p) = at (atIri (i ∷ [])) (is-iri e) in is-at (omega arith) (omega arith) h (sym w) p
         go (no x) (no y) (no z) (no u) = let (h, w, p) = at (atLiteral (i ∷ [])) (is-literal (omega arith)) in is-at (omega arith) (omega arith) h (sym w) p
 
@@ -79,14 +79,14 @@ module _ (L : Lists) (i : ℕ) where
     says-leaf (rests e h p) = subst (λ x. Joins (numbered L) x n m) (sym (is-stay e)) (h, p)
     says-leaf (goes l h k lt s o t) = go (ℕ-discrete (kindOf (L .tree) i) 1)
       where
-        triple : TripleIn (L .triples) (L .edges) n (predicateOf (L .triples) k) m
+        triple : TripleIn (L .triples) (L .edges) n (predicateAt (L .triples) k) m
         triple = record { at = k; inside = lt; subject = s; predicate = refl; object = o }
 
         go : Dec (kindOf (L .tree) i ≡ 1) → Joins (numbered L) (leafAt L i) n m
-        go (yes e) = subst (λ x. Joins (numbered L) x n m) (sym (is-any e)) (predicateOf (L .triples) k, triple)
+        go (yes e) = subst (λ x. Joins (numbered L) x n m) (sym (is-any e)) (predicateAt (L .triples) k, triple)
         go (no e) =
             let e′ : kindOf (L .tree) i ≡ 2 = omega arith in
-            subst (λ x. Joins (numbered L) x n m) (sym (is-step e′)) (predicateOf (L .triples) k, named-takes (kindOf (L .tree) i) (getD (L .wanted) i 0) (predicateOf (L .triples) k) e′ t, triple)
+            subst (λ x. Joins (numbered L) x n m) (sym (is-step e′)) (predicateAt (L .triples) k, named-takes (kindOf (L .tree) i) (getD (L .wanted) i 0) (predicateAt (L .triples) k) e′ t, triple)
     says-leaf (is-at l h b w p) = go (ℕ-discrete (kindOf (L .tree) i) 3)
       where
         go : Dec (kindOf (L .tree) i ≡ 3) → Joins (numbered L) (leafAt L i) n m
@@ -113,7 +113,7 @@ module _ {L : Lists} {last earlier : List ℕ} {kind want i m : ℕ} (b : ByObje
   back-joins h (LeafBack.stays e s) = (m, s, rests e h refl)
   back-joins h (LeafBack.steps g r s) =
       let (lt, o) = b .exactly m (s .at) l .0 (s .met) in
-      (subjectOf (L .triples) (s .at), s .state, goes g r (s .at) lt refl o (s .taken))
+      (subjectAt (L .triples) (s .at), s .state, goes g r (s .at) lt refl o (s .taken))
   back-joins h (LeafBack.labels g r e s) = (m, s, is-at g r h e refl)
 
   pub joins-back : {n y : ℕ} → LeafJoins L kind want n m → y ≡ state i n → LeafBack (L .triples) earlier (getD last m 0) kind want i m y

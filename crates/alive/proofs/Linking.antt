@@ -7,12 +7,12 @@ use mathlib.Core.Path.{subst, sym, _∙_, _≡_}
 use native.Mathlib.Decide.{decLt, ℕ-discrete}
 use native.Mathlib.Omega.{arith}
 use Prim.Native.Nat.{ℕ, _*_, _+_, _-_, _/_, _<_, _≤_}
-use Rattle.alive.specs.Fits.{Fits}
-use Rattle.alive.specs.Links.{Caused, Link, Linked, LinkReady, maxLinks}
+use Rattle.alive.specs.Fits.{ListsFit}
+use Rattle.alive.specs.Links.{Caused, Link, LinksListed, LinkReady, maxLinks}
 use Rattle.alive.specs.Lists.{Lists}
 use Rattle.alive.specs.Steps.{Touches}
 use Rattle.index.specs.Index.{ByObject, ChainReady, Met}
-use Rattle.index.specs.Triples.{GraphFits, objectOf, subjectOf}
+use Rattle.index.specs.Triples.{GraphFits, objectAt, subjectAt}
 use Rattle.meaning.specs.Limits.{maxNodes, maxParts}
 use Rattle.query.specs.Tree.{firstNumber, kindOf}
 use Rattle.walk.proofs.KindLaws.{kind-chain, kind-either, kind-leaf, kind-repeat, kind-test}
@@ -21,10 +21,10 @@ use Rattle.alive.proofs.States.{part-ready}
 
 -- ---- link by link
 
-pub link-start : {tree next links : List ℕ} → Linked tree next 0 links
+pub link-start : {tree next links : List ℕ} → LinksListed tree next 0 links
 link-start = record { whole = omega arith; subjects = λ e l. absurd (omega arith); objects = λ e l. absurd (omega arith) }
 
-module _ {tree next links : List ℕ} {n c : ℕ} (d : Linked tree next n links) (room : n * 3 + 3 ≤ length links) (x : Link tree next n c) where
+module _ {tree next links : List ℕ} {n c : ℕ} (d : LinksListed tree next n links) (room : n * 3 + 3 ≤ length links) (x : Link tree next n c) where
   one : List ℕ
   one = set links (n * 3) 0
 
@@ -43,38 +43,38 @@ module _ {tree next links : List ℕ} {n c : ℕ} (d : Linked tree next n links)
   unfolding one two
   kept k p q = getD-set-other one (n * 3 + 2) k c 0 q ∙ getD-set-other links (n * 3) k 0 0 p
 
-  new-subject : subjectOf two n ≡ 0
+  new-subject : subjectAt two n ≡ 0
   unfolding one two
   new-subject = getD-set-other one (n * 3 + 2) (n * 3) c 0 (λ e. omega arith) ∙ getD-set-same links (n * 3) 0 0 (omega arith)
 
-  new-object : objectOf two n ≡ c
+  new-object : objectAt two n ≡ c
   unfolding two
   new-object = let z = long in getD-set-same one (n * 3 + 2) c 0 (omega arith)
 
-  subjects′ : (e : ℕ) → e < n + 1 → subjectOf two e ≡ 0
+  subjects′ : (e : ℕ) → e < n + 1 → subjectAt two e ≡ 0
   subjects′ e l = go (decLt e n)
     where
-      go : Dec (e < n) → subjectOf two e ≡ 0
+      go : Dec (e < n) → subjectAt two e ≡ 0
       go (yes h) = kept (e * 3) (λ q. omega arith) (λ q. omega arith) ∙ d .subjects e h
-      go (no h) = let p : n ≡ e = omega arith in subst (λ k. subjectOf two k ≡ 0) p new-subject
+      go (no h) = let p : n ≡ e = omega arith in subst (λ k. subjectAt two k ≡ 0) p new-subject
 
-  objects′ : (e : ℕ) → e < n + 1 → Link tree next e (objectOf two e)
+  objects′ : (e : ℕ) → e < n + 1 → Link tree next e (objectAt two e)
   objects′ e l = go (decLt e n)
     where
-      go : Dec (e < n) → Link tree next e (objectOf two e)
+      go : Dec (e < n) → Link tree next e (objectAt two e)
       go (yes h) = subst (λ z. Link tree next e z) (sym (kept (e * 3 + 2) (λ q. omega arith) (λ q. omega arith))) (d .objects e h)
-      go (no h) = let p : n ≡ e = omega arith in subst (λ k. Link tree next k (objectOf two k)) p (subst (λ z. Link tree next n z) (sym new-object) x)
+      go (no h) = let p : n ≡ e = omega arith in subst (λ k. Link tree next k (objectAt two k)) p (subst (λ z. Link tree next n z) (sym new-object) x)
 
-  pub link-again : Linked tree next (n + 1) (set (set links (n * 3) 0) (n * 3 + 2) c)
+  pub link-again : LinksListed tree next (n + 1) (set (set links (n * 3) 0) (n * 3 + 2) c)
   unfolding one two
   link-again = record { whole = let z = longer in omega arith; subjects = subjects′; objects = objects′ }
 
-pub link-done : {tree next links : List ℕ} {n m : ℕ} → Linked tree next m links → m ≡ n → Linked tree next n links
-link-done {tree} {next} {links} d e = subst (λ k. Linked tree next k links) e d
+pub link-done : {tree next links : List ℕ} {n m : ℕ} → LinksListed tree next m links → m ≡ n → LinksListed tree next n links
+link-done {tree} {next} {links} d e = subst (λ k. LinksListed tree next k links) e d
 
 -- ---- chains of links
 
-pub link-ready : {L : Lists} → Fits L → LinkReady (L .tree) (L .next) (L .parts)
+pub link-ready : {L : Lists} → ListsFit L → LinkReady (L .tree) (L .next) (L .parts)
 link-ready f = record { few = f .query .few; ready = λ i l. part-ready f i l }
 
 -- No part has a chain yet.
@@ -82,7 +82,7 @@ pub heads-ready : {parts : ℕ} → parts ≤ maxParts → ChainReady (parts * 3
 heads-ready l = record { heads = omega arith; links = omega arith; none = λ o h. getD-replicate maxNodes o 0 0 h }
 
 -- Links are triples within their bounds.
-pub links-fit : {tree next links : List ℕ} {parts : ℕ} → parts ≤ maxParts → Linked tree next (parts * 3) links → GraphFits maxNodes (parts * 3) links
+pub links-fit : {tree next links : List ℕ} {parts : ℕ} → parts ≤ maxParts → LinksListed tree next (parts * 3) links → GraphFits maxNodes (parts * 3) links
 links-fit l d = record {
   few-nodes = omega arith;
   few-edges = omega arith;
@@ -91,26 +91,26 @@ links-fit l d = record {
   objects = λ k h. d .objects k h .small;
 }
 
-module _ {L : Lists} {links heads rest : List ℕ} (f : Fits L) (d : Linked (L .tree) (L .next) (L .parts * 3) links) (b : ByObject links (L .parts * 3) heads rest) where
+module _ {L : Lists} {links heads rest : List ℕ} (f : ListsFit L) (d : LinksListed (L .tree) (L .next) (L .parts * 3) links) (b : ByObject links (L .parts * 3) heads rest) where
   -- a link of the part i that leads from j
-  found : (i j e : ℕ) → j < maxNodes → e < L .parts * 3 → e / 3 ≡ i → objectOf links e ≡ j → (e : ℕ) × Met rest (getD heads j 0) e × (e / 3 ≡ i)
+  found : (i j e : ℕ) → j < maxNodes → e < L .parts * 3 → e / 3 ≡ i → objectAt links e ≡ j → (e : ℕ) × Met rest (getD heads j 0) e × (e / 3 ≡ i)
   found i j e h l p q = (e, b .exactly j e h .1 (l, q), p)
 
   module _ (i j : ℕ) (l : i < L .parts) (h : j < maxNodes) where
     from-after : j ≡ getD (L .next) i 0 → (e : ℕ) × Met rest (getD heads j 0) e × (e / 3 ≡ i)
     from-after q =
         let p : i * 3 / 3 ≡ i = omega arith in
-        found i j (i * 3) h (omega arith) p (subst (λ k. objectOf links (i * 3) ≡ getD (L .next) k 0) p (d .objects (i * 3) (omega arith) .after (omega arith)) ∙ sym q)
+        found i j (i * 3) h (omega arith) p (subst (λ k. objectAt links (i * 3) ≡ getD (L .next) k 0) p (d .objects (i * 3) (omega arith) .after (omega arith)) ∙ sym q)
 
     from-body : 5 ≤ kindOf (L .tree) i → j ≡ i - 1 → (e : ℕ) × Met rest (getD heads j 0) e × (e / 3 ≡ i)
     from-body k q =
         let p : (i * 3 + 1) / 3 ≡ i = omega arith in
-        found i j (i * 3 + 1) h (omega arith) p (subst (λ x. 5 ≤ kindOf (L .tree) x → objectOf links (i * 3 + 1) ≡ x - 1) p (d .objects (i * 3 + 1) (omega arith) .body (omega arith)) k ∙ sym q)
+        found i j (i * 3 + 1) h (omega arith) p (subst (λ x. 5 ≤ kindOf (L .tree) x → objectAt links (i * 3 + 1) ≡ x - 1) p (d .objects (i * 3 + 1) (omega arith) .body (omega arith)) k ∙ sym q)
 
     from-first : 7 ≤ kindOf (L .tree) i → j ≡ firstNumber (L .tree) i → (e : ℕ) × Met rest (getD heads j 0) e × (e / 3 ≡ i)
     from-first k q =
         let p : (i * 3 + 2) / 3 ≡ i = omega arith in
-        found i j (i * 3 + 2) h (omega arith) p (subst (λ x. 7 ≤ kindOf (L .tree) x → objectOf links (i * 3 + 2) ≡ firstNumber (L .tree) x) p (d .objects (i * 3 + 2) (omega arith) .first (omega arith)) k ∙ sym q)
+        found i j (i * 3 + 2) h (omega arith) p (subst (λ x. 7 ≤ kindOf (L .tree) x → objectAt links (i * 3 + 2) ≡ firstNumber (L .tree) x) p (d .objects (i * 3 + 2) (omega arith) .first (omega arith)) k ∙ sym q)
 
     abbrev Way : Part → Type 0
     Way p = Touches (getD (L .next) i 0) p j → (e : ℕ) × Met rest (getD heads j 0) e × (e / 3 ≡ i)

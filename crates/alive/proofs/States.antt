@@ -6,9 +6,9 @@ use mathlib.Core.Path.{refl, subst, sym, _≡_}
 use native.Mathlib.Decide.{decLt}
 use native.Mathlib.Omega.{arith}
 use Prim.Native.Nat.{ℕ, _<_, _≤_}
-use Rattle.alive.specs.Fits.{Fits}
+use Rattle.alive.specs.Fits.{ListsFit}
 use Rattle.alive.specs.Lists.{AliveIn, Lists}
-use Rattle.alive.specs.Steps.{AllAlive, At, BackAt, Chain, Led, PartBack, PartReady, StateAlive, leads, leaves, turns}
+use Rattle.alive.specs.Steps.{AllAlive, AliveAt, BackAt, Chain, Led, PartBack, PartReady, StateAlive, leads, leaves, turns}
 use Rattle.index.specs.Index.{ByObject, Met}
 use Rattle.meaning.specs.Limits.{maxNodes}
 use Rattle.query.specs.Tree.{kindOf}
@@ -21,7 +21,7 @@ use Rattle.alive.proofs.Backward.{is-leaf, not-leaf}
 use Rattle.alive.proofs.Leaves.{LeafJoins, back-joins, joins-back, leaf-from, leaf-says, says-leaf}
 
 -- The parts that a part leads to, and the end, are within the table.
-module _ {L : Lists} (f : Fits L) where
+module _ {L : Lists} (f : ListsFit L) where
   pub part-ready : (i : ℕ) → i < L .parts → PartReady (L .tree) (L .next) i
   part-ready i l =
       let a = f .query .few in
@@ -44,7 +44,7 @@ module _ {L : Lists} (f : Fits L) where
 
   -- ---- a part at a node, by what is alive there
 
-  pub alive-at : (table : List ℕ) → AllAlive L table → (m j : ℕ) → m < L .nodes → j ≤ L .parts → At table m j → AliveIn L j m
+  pub alive-at : (table : List ℕ) → AllAlive L table → (m j : ℕ) → m < L .nodes → j ≤ L .parts → AliveAt table m j → AliveIn L j m
   alive-at table a m j l h e =
       let p = f .query .few in
       let q = f .graph .few-nodes in
@@ -94,7 +94,7 @@ module _ {L : Lists} (f : Fits L) where
       small (LeafJoins.is-at g h c u p) = omega arith
   part-alive {last} {earlier} {table} b a s w i y l (turns x e) =
       state-alive i (nodeAt s) y (omega arith) (w .node) e
-      (led-alive i (nodeAt s) l (w .node) (At table (nodeAt s)) (λ j h z. alive-at table a (nodeAt s) j (w .node) h z) x)
+      (led-alive i (nodeAt s) l (w .node) (AliveAt table (nodeAt s)) (λ j h z. alive-at table a (nodeAt s) j (w .node) h z) x)
 
   -- COMPLETE: what a part is to add, it adds; more may be marked by then.
   pub led-more : (B C : ℕ → Type 0) → ((j : ℕ) → B j → C j) → (after : ℕ) (p : Part) → Led B after p → Led C after p
@@ -120,4 +120,4 @@ module _ {L : Lists} (f : Fits L) where
       → BackAt L table s i y → PartBack (L .triples) earlier last (L .tree) (L .next) (L .wanted) table′ i (partAt s) (nodeAt s) y
   back-part {last} {earlier} {table} {table′} b up s i y d l (leads n e p j q) = leaves p (joins-back {L = L} b d (leaf-says L i n (nodeAt s) (leaf-kind i l e) j) q)
   back-part {last} {earlier} {table} {table′} b up s i y d l (BackAt.turns x w q) =
-      turns (led-more (At table (nodeAt s)) (At table′ (nodeAt s)) (λ j h. up (state j (nodeAt s)) h) (getD (L .next) i 0) (partOf (L .tree) i) x) q
+      turns (led-more (AliveAt table (nodeAt s)) (AliveAt table′ (nodeAt s)) (λ j h. up (state j (nodeAt s)) h) (getD (L .next) i 0) (partOf (L .tree) i) x) q

@@ -6,7 +6,7 @@ use Prim.Native.Nat.{ℕ, _%_, _*_, _-_, _/_, _<_, _≤_}
 use Rattle.alive.specs.Lists.{Lists}
 use Rattle.alive.specs.Steps.{PartReady, Touches}
 use Rattle.index.specs.Index.{Met}
-use Rattle.index.specs.Triples.{objectOf, subjectOf}
+use Rattle.index.specs.Triples.{objectAt, subjectAt}
 use Rattle.meaning.specs.Limits.{maxNodes, maxParts}
 use Rattle.query.specs.Tree.{firstNumber, kindOf}
 use Rattle.walk.specs.Parts.{partOf}
@@ -27,10 +27,10 @@ pub record LinkReady (tree next : List ℕ) (parts : ℕ) : Type 0 where
   pub ready : (i : ℕ) → i < parts → PartReady tree next i
 
 -- The first n links, each the object of a triple from node 0.
-pub record Linked (tree next : List ℕ) (n : ℕ) (links : List ℕ) : Type 0 where
+pub record LinksListed (tree next : List ℕ) (n : ℕ) (links : List ℕ) : Type 0 where
   pub whole : n * 3 ≤ length links
-  pub subjects : (e : ℕ) → e < n → subjectOf links e ≡ 0
-  pub objects : (e : ℕ) → e < n → Link tree next e (objectOf links e)
+  pub subjects : (e : ℕ) → e < n → subjectAt links e ≡ 0
+  pub objects : (e : ℕ) → e < n → Link tree next e (objectAt links e)
 
 -- The parts that the part j can make alive are met, as links, on the chain that begins at heads[j].
 pub record Caused (L : Lists) (heads rest : List ℕ) : Type 0 where

@@ -8,7 +8,7 @@ use mathlib.Core.Path.{_≡_}
 use Prim.Native.Nat.{ℕ, _*_, _+_, _<_, _≤_}
 use Rattle.alive.specs.Lists.{AliveIn, Lists, leafAt, numbered}
 use Rattle.index.specs.Index.{Met}
-use Rattle.index.specs.Triples.{predicateOf, subjectOf}
+use Rattle.index.specs.Triples.{predicateAt, subjectAt}
 use Rattle.meaning.specs.Limits.{maxNodes, maxParts, maxStates}
 use Rattle.meaning.specs.Query.{Joins}
 use Rattle.query.specs.Tree.{kindOf}
@@ -24,20 +24,20 @@ takes kind want p = eqb kind 1 || eqb p want
 pub record Chain (triples earlier : List ℕ) (x : ℕ) : Type 0 where
   pub listed : (k : ℕ) → Met earlier x k → k < length earlier
   pub whole : (k : ℕ) → Met earlier x k → k * 3 + 3 ≤ length triples
-  pub nodes : (k : ℕ) → Met earlier x k → subjectOf triples k < maxNodes
+  pub nodes : (k : ℕ) → Met earlier x k → subjectAt triples k < maxNodes
   pub falls : (k : ℕ) → Met earlier x k → getD earlier k 0 ≤ k
 
 -- y is the part i at the subject of the triple k, which the step takes.
 pub record SubjectAt (triples : List ℕ) (k kind want i y : ℕ) : Type 0 where
-  pub taken : takes kind want (predicateOf triples k) ≡ true
-  pub state : y ≡ state i (subjectOf triples k)
+  pub taken : takes kind want (predicateAt triples k) ≡ true
+  pub state : y ≡ state i (subjectAt triples k)
 
 -- y is the part i at the subject of a triple of the chain that the step takes.
 pub record SubjectOn (triples earlier : List ℕ) (x kind want i y : ℕ) : Type 0 where
   pub at : ℕ
   pub met : Met earlier x at
-  pub taken : takes kind want (predicateOf triples at) ≡ true
-  pub state : y ≡ state i (subjectOf triples at)
+  pub taken : takes kind want (predicateAt triples at) ≡ true
+  pub state : y ≡ state i (subjectAt triples at)
 
 -- y is the leaf i, of this kind, at a node from which it leads to m, where a chain has the triples that end at m.
 pub data LeafBack (triples earlier : List ℕ) (x kind want i m y : ℕ) : Type 0 where
@@ -58,13 +58,13 @@ Turns true B after p = Led B after p
 Turns false B after p = Led B after p → ⊥
 
 -- The parts that are marked at the node m.
-abbrev pub At : List ℕ → ℕ → ℕ → Type 0
-At table m j = Marked 1 table (state j m)
+abbrev pub AliveAt : List ℕ → ℕ → ℕ → Type 0
+AliveAt table m j = Marked 1 table (state j m)
 
 -- y is the part i at a node from which a step of it leads to (j, m), or which its own parts at m make alive.
 pub data PartBack (triples earlier last tree next wanted table : List ℕ) (i j m y : ℕ) : Type 0 where
   leaves : getD next i 0 ≡ j → LeafBack triples earlier (getD last m 0) (kindOf tree i) (getD wanted i 0) i m y → PartBack triples earlier last tree next wanted table i j m y
-  turns : Led (At table m) (getD next i 0) (partOf tree i) → y ≡ state i m → PartBack triples earlier last tree next wanted table i j m y
+  turns : Led (AliveAt table m) (getD next i 0) (partOf tree i) → y ≡ state i m → PartBack triples earlier last tree next wanted table i j m y
 
 -- The part i is there, its own parts stand before it, and after it comes a part or the end.
 pub record PartReady (tree next : List ℕ) (i : ℕ) : Type 0 where
@@ -103,7 +103,7 @@ Touches after (either left right) j = (j ≡ left) ⊎ (j ≡ right)
 -- it has parts, s is of one of these or of what comes after, and they make it alive at the node of s.
 pub data BackAt (L : Lists) (table : List ℕ) (s i y : ℕ) : Type 0 where
   leads : (n : ℕ) → partOf (L .tree) i ≡ leaf → getD (L .next) i 0 ≡ partAt s → Joins (numbered L) (leafAt L i) n (nodeAt s) → y ≡ state i n → BackAt L table s i y
-  turns : Led (At table (nodeAt s)) (getD (L .next) i 0) (partOf (L .tree) i) → Touches (getD (L .next) i 0) (partOf (L .tree) i) (partAt s) → y ≡ state i (nodeAt s) → BackAt L table s i y
+  turns : Led (AliveAt table (nodeAt s)) (getD (L .next) i 0) (partOf (L .tree) i) → Touches (getD (L .next) i 0) (partOf (L .tree) i) (partAt s) → y ≡ state i (nodeAt s) → BackAt L table s i y
 
 pub record BackTo (L : Lists) (table : List ℕ) (s y : ℕ) : Type 0 where
   pub part : ℕ

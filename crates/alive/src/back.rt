@@ -2,8 +2,8 @@
 ghost use lib.ListN.{getD, length};
 ghost use mathlib.Core.Path.{_≡_};
 ghost use Prim.Native.Nat.{_*_, _+_, _<_, _≤_};
-ghost use Rattle.alive.specs.Steps.{At, Chain, LeafBack, PartBack, PartReady, SubjectAt, SubjectOn, Turns, takes};
-ghost use Rattle.index.specs.Triples.{subjectOf};
+ghost use Rattle.alive.specs.Steps.{AliveAt, Chain, LeafBack, PartBack, PartReady, SubjectAt, SubjectOn, Turns, takes};
+ghost use Rattle.index.specs.Triples.{subjectAt};
 ghost use Rattle.meaning.specs.Limits.{maxNodes, maxParts, maxStates};
 ghost use Rattle.states.specs.Table.{AddsOnly, Table};
 ghost use Rattle.walk.specs.Parts.{partOf};
@@ -31,7 +31,7 @@ fn mark_subject(
     queue: &mut [u32],
     tail: usize,
 ) -> usize
-    requires { ⌜ (k * 3 + 3 ≤ length (now triples)) × ((subjectOf (now triples) k < maxNodes) × ((i < maxParts) × Table 1 maxStates (now alive) (now queue) tail)) ⌝ }
+    requires { ⌜ (k * 3 + 3 ≤ length (now triples)) × ((subjectAt (now triples) k < maxNodes) × ((i < maxParts) × Table 1 maxStates (now alive) (now queue) tail)) ⌝ }
     ensures { λ r. ⌜ AddsOnly 1 maxStates (SubjectAt (now (triples .entry)) k kind want i) (now (alive .entry)) (now (queue .entry)) tail (now (alive .exit)) (now (queue .exit)) r ⌝ }
 {
     if !takes_predicate(kind, want, triples[k * 3 + 1]) {
@@ -99,7 +99,7 @@ fn mark_leaf(
 // Whether the part i, which has parts, is alive at m by what is marked there.
 fn turns_alive(tree: &[u32], next: &[u16], i: usize, m: usize, alive: &[u8]) -> bool
     requires { ⌜ PartReady (now tree) (now next) i × ((m < maxNodes) × (maxStates ≤ length (now alive))) ⌝ }
-    ensures { λ r. ⌜ Turns r (At (now (alive .entry)) m) (getD (now (next .entry)) i 0) (partOf (now (tree .entry)) i) ⌝ }
+    ensures { λ r. ⌜ Turns r (AliveAt (now (alive .entry)) m) (getD (now (next .entry)) i 0) (partOf (now (tree .entry)) i) ⌝ }
 {
     let kind = kind_of(tree, i);
     if kind < kinds::NESTED {

@@ -11,14 +11,14 @@ use Prim.Native.Nat.{ℕ, _+_, _-_, _<_, _≤_}
 use Rattle.alive.proofs.Backward.{is-leaf, not-leaf}
 use Rattle.alive.proofs.Leaves.{LeafJoins, goes, is-at, leaf-says, leaf-to, rests, says-leaf}
 use Rattle.alive.proofs.States.{leaf-kind}
-use Rattle.alive.specs.Fits.{Fits}
+use Rattle.alive.specs.Fits.{ListsFit}
 use Rattle.alive.specs.Lists.{AliveIn, Lists, StepIn, leafAt, numbered}
 use Rattle.alive.specs.Living.{Living}
-use Rattle.alive.specs.Steps.{At, takes}
+use Rattle.alive.specs.Steps.{AliveAt, takes}
 use Rattle.answers.specs.Steps.{Ahead, LeafOnward, ObjectAt, ObjectIn, PartsOnward, StepFrom, labels, stays, steps}
 use Rattle.index.proofs.Ranges.{range-ordered, subject-range}
 use Rattle.index.specs.Index.{BySubject, SubjectRange}
-use Rattle.index.specs.Triples.{objectOf, predicateOf}
+use Rattle.index.specs.Triples.{objectAt, predicateAt}
 use Rattle.meaning.specs.Limits.{maxNodes, maxStates}
 use Rattle.meaning.specs.Query.{Joins}
 use Rattle.query.specs.Tree.{firstNumber, kindOf}
@@ -42,10 +42,10 @@ module _ {stamp : ℕ} where
   -- ---- one triple, and a range of them
 
   module _ {triples : List ℕ} {kind want to : ℕ} {t₁ q₁ : List ℕ} {k₁ : ℕ} where
-    pub object-none : {k : ℕ} (b : Bool) → not b ≡ true → b ≡ takes kind want (predicateOf triples k) → Table stamp maxStates t₁ q₁ k₁ → Adds stamp maxStates (ObjectAt triples k kind want to) (ObjectAt triples k kind want to) t₁ q₁ k₁ t₁ q₁ k₁
+    pub object-none : {k : ℕ} (b : Bool) → not b ≡ true → b ≡ takes kind want (predicateAt triples k) → Table stamp maxStates t₁ q₁ k₁ → Adds stamp maxStates (ObjectAt triples k kind want to) (ObjectAt triples k kind want to) t₁ q₁ k₁ t₁ q₁ k₁
     object-none b n e t = adds-none t (λ y s. true-false (e ∙ s .taken) (not-true b n))
 
-    pub object-one : {k : ℕ} {t₂ q₂ : List ℕ} {k₂ : ℕ} → takes kind want (predicateOf triples k) ≡ true → Adds stamp maxStates (λ y. y ≡ state to (objectOf triples k)) (λ y. y ≡ state to (objectOf triples k)) t₁ q₁ k₁ t₂ q₂ k₂ → Adds stamp maxStates (ObjectAt triples k kind want to) (ObjectAt triples k kind want to) t₁ q₁ k₁ t₂ q₂ k₂
+    pub object-one : {k : ℕ} {t₂ q₂ : List ℕ} {k₂ : ℕ} → takes kind want (predicateAt triples k) ≡ true → Adds stamp maxStates (λ y. y ≡ state to (objectAt triples k)) (λ y. y ≡ state to (objectAt triples k)) t₁ q₁ k₁ t₂ q₂ k₂ → Adds stamp maxStates (ObjectAt triples k kind want to) (ObjectAt triples k kind want to) t₁ q₁ k₁ t₂ q₂ k₂
     object-one e a = adds-same a (λ y p. record { taken = e; state = p }) (λ y s. s .state)
 
     pub objects-start : (lo : ℕ) → Table stamp maxStates t₁ q₁ k₁ → Adds stamp maxStates (ObjectIn triples lo lo kind want to) (ObjectIn triples lo lo kind want to) t₁ q₁ k₁ t₁ q₁ k₁
@@ -107,11 +107,11 @@ module _ {stamp : ℕ} where
   -- ---- a part that has parts
 
   module _ (tree table : List ℕ) (i after n : ℕ) {t₁ q₁ : List ℕ} {k₁ : ℕ} where
-    pub test-none : kindOf tree i ≡ 5 → (At table n (i - 1) → ⊥) → Table stamp maxStates t₁ q₁ k₁ → Adds stamp maxStates (PartsOnward table after n (partOf tree i)) (PartsOnward table after n (partOf tree i)) t₁ q₁ k₁ t₁ q₁ k₁
+    pub test-none : kindOf tree i ≡ 5 → (AliveAt table n (i - 1) → ⊥) → Table stamp maxStates t₁ q₁ k₁ → Adds stamp maxStates (PartsOnward table after n (partOf tree i)) (PartsOnward table after n (partOf tree i)) t₁ q₁ k₁ t₁ q₁ k₁
     test-none k a t = adds-none t (λ y x. a (to-part tree table i after n (test (i - 1)) (kind-test tree i k) y x .0))
 
     module _ {t₂ q₂ : List ℕ} {k₂ : ℕ} where
-      pub test-one : kindOf tree i ≡ 5 → At table n (i - 1) → Adds stamp maxStates (λ y. y ≡ state after n) (λ y. y ≡ state after n) t₁ q₁ k₁ t₂ q₂ k₂ → Adds stamp maxStates (PartsOnward table after n (partOf tree i)) (PartsOnward table after n (partOf tree i)) t₁ q₁ k₁ t₂ q₂ k₂
+      pub test-one : kindOf tree i ≡ 5 → AliveAt table n (i - 1) → Adds stamp maxStates (λ y. y ≡ state after n) (λ y. y ≡ state after n) t₁ q₁ k₁ t₂ q₂ k₂ → Adds stamp maxStates (PartsOnward table after n (partOf tree i)) (PartsOnward table after n (partOf tree i)) t₁ q₁ k₁ t₂ q₂ k₂
       test-one k a d = adds-same d (λ y e. from-part tree table i after n (test (i - 1)) (kind-test tree i k) y (a, e)) (λ y x. to-part tree table i after n (test (i - 1)) (kind-test tree i k) y x .1)
 
       pub sequence-one : kindOf tree i ≡ 7 → Adds stamp maxStates (λ y. y ≡ state (firstNumber tree i) n) (λ y. y ≡ state (firstNumber tree i) n) t₁ q₁ k₁ t₂ q₂ k₂ → Adds stamp maxStates (PartsOnward table after n (partOf tree i)) (PartsOnward table after n (partOf tree i)) t₁ q₁ k₁ t₂ q₂ k₂
@@ -139,7 +139,7 @@ module _ {L : Lists} {lo hi kind want to n : ℕ} (r : SubjectRange (L .triples)
   onward-joins h (LeafOnward.stays e s) = (n, s, rests e h refl)
   onward-joins h (LeafOnward.steps g u s) =
       let (lt, o) = r .exactly (s .at) .0 (s .above, s .below) in
-      (objectOf (L .triples) (s .at), s .state, goes g u (s .at) lt o refl (s .taken))
+      (objectAt (L .triples) (s .at), s .state, goes g u (s .at) lt o refl (s .taken))
   onward-joins h (LeafOnward.labels g u e s) = (n, s, is-at g u h e refl)
 
   pub joins-onward : {m y : ℕ} → LeafJoins L kind want n m → y ≡ state to m → LeafOnward (L .triples) lo hi kind want to n y
@@ -151,7 +151,7 @@ module _ {L : Lists} {lo hi kind want to n : ℕ} (r : SubjectRange (L .triples)
 
 -- ---- these are the steps
 
-module _ {L : Lists} (f : Fits L) where
+module _ {L : Lists} (f : ListsFit L) where
   -- A step leads to a part or the end, and to a node.
   pub step-in : {i j n m : ℕ} → n < L .nodes → StepIn L i n j m → (j ≤ L .parts) × (m < L .nodes)
   step-in {i} {j} {n} {m} h (l, s) = go (partOf (L .tree) i) refl s

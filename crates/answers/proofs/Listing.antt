@@ -7,10 +7,10 @@ use native.Mathlib.Decide.{ℕ-discrete}
 use native.Mathlib.Numerals.{add-one}
 use native.Mathlib.Omega.{arith}
 use Prim.Native.Nat.{suc, zero, ℕ, _+_, _-_, _<_, _≤_}
-use Rattle.alive.specs.Fits.{Fits}
+use Rattle.alive.specs.Fits.{ListsFit}
 use Rattle.alive.specs.Lists.{AliveIn, Lists, ReachedIn, leafAt, numbered}
 use Rattle.alive.specs.Living.{Living}
-use Rattle.answers.specs.Answers.{EndsAre, ListedBelow, ListedUpTo, PairIn, PairsAre, Walked, endsFrom}
+use Rattle.answers.specs.Walked.{EndsAre, ListedBelow, ListedUpTo, PairIn, PairsAre, Walked, endsFrom}
 use Rattle.answers.specs.declared.pairs.Pairs.{Pairs}
 use Rattle.answers.specs.declared.pairs.Pairs.the-variants.{Listed, TooMany}
 use Rattle.answers.specs.Keys.{pairKey}
@@ -146,7 +146,7 @@ module _ (seen : List ℕ) (part stamp start : ℕ) where
 
 -- ---- the pairs
 
-module _ {L : Lists} (f : Fits L) {named : ℕ} (fit : named ≤ L .nodes) where
+module _ {L : Lists} (f : ListsFit L) {named : ℕ} (fit : named ≤ L .nodes) where
   pub listed-start : {pairs : List ℕ} → ListedBelow L named 0 pairs 0
   listed-start = record { few = omega arith; are = list-none (PairIn L named) }
 

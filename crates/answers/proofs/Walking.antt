@@ -5,9 +5,9 @@ use mathlib.Core.Path.{ap, refl, subst, sym, _∙_, _≡_}
 use native.Mathlib.Decide.{decLt, ℕ-discrete}
 use native.Mathlib.Omega.{arith}
 use Prim.Native.Nat.{ℕ, _+_, _-_, _<_, _≤_}
-use Rattle.alive.specs.Fits.{Fits}
+use Rattle.alive.specs.Fits.{ListsFit}
 use Rattle.alive.specs.Lists.{Lists, ReachedIn, StepIn}
-use Rattle.answers.specs.Answers.{Walked}
+use Rattle.answers.specs.Walked.{Walked}
 use Rattle.answers.specs.Steps.{StepFrom}
 use Rattle.meaning.specs.Limits.{maxStates}
 use Rattle.states.proofs.States.{state-inside, state-node, state-part}
@@ -30,7 +30,7 @@ pub record Walking (L : Lists) (v stamp : ℕ) (seen queue : List ℕ) (head tai
   pub sound : (k : ℕ) → k < tail → StateReached L v (getD queue k 0)
   pub closed : (k : ℕ) → k < head → (y : ℕ) → StepFrom L (getD queue k 0) y → Marked stamp seen y
 
-module _ {L : Lists} (f : Fits L) {v : ℕ} where
+module _ {L : Lists} (f : ListsFit L) {v : ℕ} where
   state-reached : (i n y : ℕ) → i ≤ L .parts → n < L .nodes → y ≡ state i n → ReachedIn L v i n → StateReached L v y
   state-reached i n y l h e a =
       let q = f .graph .few-nodes in
@@ -42,7 +42,7 @@ module _ {L : Lists} (f : Fits L) {v : ℕ} where
         reached = subst (λ x. ReachedIn L v x (nodeAt y)) (sym u) (subst (λ x. ReachedIn L v i x) (sym w) a);
       }
 
-module _ {L : Lists} (f : Fits L) {v stamp : ℕ} where
+module _ {L : Lists} (f : ListsFit L) {v stamp : ℕ} where
   pub walk-start : {t₁ q₁ t₂ q₂ : List ℕ} {k₂ : ℕ} → v < L .nodes → Adds stamp maxStates (λ y. y ≡ state (L .parts - 1) v) (λ y. y ≡ state (L .parts - 1) v) t₁ q₁ 0 t₂ q₂ k₂ → Walking L v stamp t₂ q₂ 0 k₂
   walk-start {t₁} {q₁} {t₂} {q₂} {k₂} h a = record {
     within = omega arith;

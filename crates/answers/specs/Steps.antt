@@ -7,8 +7,8 @@ use mathlib.Core.Path.{_≡_}
 use Prim.Native.Nat.{ℕ, _*_, _<_, _≤_}
 use Rattle.alive.specs.declared.Sizes.{Sizes}
 use Rattle.alive.specs.Lists.{Lists, StepIn}
-use Rattle.alive.specs.Steps.{At, takes}
-use Rattle.index.specs.Triples.{objectOf, predicateOf}
+use Rattle.alive.specs.Steps.{AliveAt, takes}
+use Rattle.index.specs.Triples.{objectAt, predicateAt}
 use Rattle.meaning.specs.Limits.{maxNodes, maxTriples}
 use Rattle.states.specs.State.{nodeAt, partAt, state}
 use Rattle.walk.specs.Parts.{Part, chain, either, leaf, repeat, test}
@@ -18,13 +18,13 @@ pub record ObjectIn (triples : List ℕ) (lo hi kind want to y : ℕ) : Type 0 w
   pub at : ℕ
   pub above : lo ≤ at
   pub below : at < hi
-  pub taken : takes kind want (predicateOf triples at) ≡ true
-  pub state : y ≡ state to (objectOf triples at)
+  pub taken : takes kind want (predicateAt triples at) ≡ true
+  pub state : y ≡ state to (objectAt triples at)
 
 -- y is `to` at the object of the triple k, which the step takes.
 pub record ObjectAt (triples : List ℕ) (k kind want to y : ℕ) : Type 0 where
-  pub taken : takes kind want (predicateOf triples k) ≡ true
-  pub state : y ≡ state to (objectOf triples k)
+  pub taken : takes kind want (predicateAt triples k) ≡ true
+  pub state : y ≡ state to (objectAt triples k)
 
 -- The leaf leads from n to y, a node at `to`, where the triples from lo up to hi are those of n.
 pub data LeafOnward (triples : List ℕ) (lo hi kind want to n y : ℕ) : Type 0 where
@@ -37,7 +37,7 @@ pub record Ahead (triples : List ℕ) (lo hi : ℕ) : Type 0 where
   pub ordered : lo ≤ hi
   pub small : hi ≤ maxTriples
   pub whole : hi * 3 ≤ length triples
-  pub nodes : (k : ℕ) → lo ≤ k → k < hi → objectOf triples k < maxNodes
+  pub nodes : (k : ℕ) → lo ≤ k → k < hi → objectAt triples k < maxNodes
 
 -- The state s of the sizes' parts, or the end, and nodes.
 pub record StateIn (sizes : Sizes) (s : ℕ) : Type 0 where
@@ -47,7 +47,7 @@ pub record StateIn (sizes : Sizes) (s : ℕ) : Type 0 where
 -- The part p, which has parts, leads from the node n to y; nested tests go by the table.
 abbrev pub PartsOnward : List ℕ → ℕ → ℕ → Part → ℕ → Type 0
 PartsOnward table after n leaf y = ⊥
-PartsOnward table after n (test body) y = At table n body × (y ≡ state after n)
+PartsOnward table after n (test body) y = AliveAt table n body × (y ≡ state after n)
 PartsOnward table after n (repeat body) y = (y ≡ state after n) ⊎ (y ≡ state body n)
 PartsOnward table after n (chain left right) y = y ≡ state left n
 PartsOnward table after n (either left right) y = (y ≡ state left n) ⊎ (y ≡ state right n)

@@ -5,7 +5,7 @@ pub mod pairs; // the walk from each start
 
 ghost use Rattle.alive.specs.Lists.{lists};
 ghost use Rattle.alive.specs.Living.{Yes};
-ghost use Rattle.answers.specs.Answers.{PairsAre, PairsReady, YesReady};
+ghost use Rattle.answers.specs.Walked.{PairsAre, PairsReady, YesReady};
 use crate::pairs::Pairs;
 use crate::pairs::list_pairs;
 use alive::Sizes;

@@ -1,13 +1,13 @@
 // The states to which a step leads from one.
 ghost use lib.ListN.{getD, length};
 ghost use Prim.Native.Nat.{_*_, _+_, _<_, _≤_};
-ghost use Rattle.alive.specs.Fits.{Fits};
+ghost use Rattle.alive.specs.Fits.{ListsFit};
 ghost use Rattle.alive.specs.Lists.{lists};
 ghost use Rattle.alive.specs.Living.{Living};
 ghost use Rattle.alive.specs.Steps.{PartReady};
 ghost use Rattle.answers.specs.Steps.{Ahead, LeafOnward, ObjectAt, ObjectIn, PartsOnward, StateIn, StepFrom};
 ghost use Rattle.index.specs.Index.{BySubject};
-ghost use Rattle.index.specs.Triples.{objectOf};
+ghost use Rattle.index.specs.Triples.{objectAt};
 ghost use Rattle.meaning.specs.Limits.{maxNodes, maxParts, maxStates};
 ghost use Rattle.query.specs.Tree.{kindOf};
 ghost use Rattle.states.specs.Table.{AddsOnly, Table};
@@ -35,7 +35,7 @@ fn visit_object(
     queue: &mut [u32],
     tail: usize,
 ) -> usize
-    requires { ⌜ (k * 3 + 3 ≤ length (now triples)) × ((objectOf (now triples) k < maxNodes) × ((to ≤ maxParts) × Table stamp maxStates (now seen) (now queue) tail)) ⌝ }
+    requires { ⌜ (k * 3 + 3 ≤ length (now triples)) × ((objectAt (now triples) k < maxNodes) × ((to ≤ maxParts) × Table stamp maxStates (now seen) (now queue) tail)) ⌝ }
     ensures { λ r. ⌜ AddsOnly stamp maxStates (ObjectAt (now (triples .entry)) k kind want to) (now (seen .entry)) (now (queue .entry)) tail (now (seen .exit)) (now (queue .exit)) r ⌝ }
 {
     if !takes_predicate(kind, want, triples[k * 3 + 1]) {
@@ -149,7 +149,7 @@ pub fn visit_onward(
     queue: &mut [u32],
     tail: usize,
 ) -> usize
-    requires { ⌜ (Fits (lists sizes (now triples) (now tree) (now next) (now wanted)) × BySubject (now triples) (sizes .edges) (now first)) × ((Living (lists sizes (now triples) (now tree) (now next) (now wanted)) (now alive) × StateIn sizes s) × Table stamp maxStates (now seen) (now queue) tail) ⌝ }
+    requires { ⌜ (ListsFit (lists sizes (now triples) (now tree) (now next) (now wanted)) × BySubject (now triples) (sizes .edges) (now first)) × ((Living (lists sizes (now triples) (now tree) (now next) (now wanted)) (now alive) × StateIn sizes s) × Table stamp maxStates (now seen) (now queue) tail) ⌝ }
     ensures { λ r. ⌜ AddsOnly stamp maxStates (StepFrom (lists sizes (now (triples .entry)) (now (tree .entry)) (now (next .entry)) (now (wanted .entry))) s) (now (seen .entry)) (now (queue .entry)) tail (now (seen .exit)) (now (queue .exit)) r ⌝ }
 {
     let i = part_at(s);

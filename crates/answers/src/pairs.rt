@@ -1,10 +1,10 @@
 // The pairs of named nodes that a query joins, ascending.
 ghost use lib.ListN.{length};
 ghost use Prim.Native.Nat.{_+_, _<_, _≤_};
-ghost use Rattle.alive.specs.Fits.{Fits};
+ghost use Rattle.alive.specs.Fits.{ListsFit};
 ghost use Rattle.alive.specs.Lists.{lists};
 ghost use Rattle.alive.specs.Living.{Living};
-ghost use Rattle.answers.specs.Answers.{EndsAre, ListedBelow, ListedUpTo, PairsAre, Walked, endsFrom};
+ghost use Rattle.answers.specs.Walked.{EndsAre, ListedBelow, ListedUpTo, PairsAre, Walked, endsFrom};
 ghost use Rattle.answers.specs.Keys.{pairKey};
 ghost use Rattle.index.specs.Index.{BySubject};
 ghost use Rattle.meaning.specs.Limits.{maxNodes, maxPairs, maxParts, maxStates};
@@ -37,7 +37,7 @@ fn walk(
     seen: &mut [u16],
     queue: &mut [u32],
 )
-    requires { ⌜ (Fits (lists sizes (now triples) (now tree) (now next) (now wanted)) × BySubject (now triples) (sizes .edges) (now first)) × ((Living (lists sizes (now triples) (now tree) (now next) (now wanted)) (now alive) × (start < sizes .nodes)) × Unmarked stamp maxStates (now seen) (now queue)) ⌝ }
+    requires { ⌜ (ListsFit (lists sizes (now triples) (now tree) (now next) (now wanted)) × BySubject (now triples) (sizes .edges) (now first)) × ((Living (lists sizes (now triples) (now tree) (now next) (now wanted)) (now alive) × (start < sizes .nodes)) × Unmarked stamp maxStates (now seen) (now queue)) ⌝ }
     ensures { λ _. ⌜ Walked (lists sizes (now (triples .entry)) (now (tree .entry)) (now (next .entry)) (now (wanted .entry))) start stamp (now (seen .exit)) ⌝ }
 {
     let root = sizes.parts - 1;
@@ -108,7 +108,7 @@ fn list_from(
     pairs: &mut [u32],
     k: usize,
 ) -> Pairs
-    requires { ⌜ (Fits (lists sizes (now triples) (now tree) (now next) (now wanted)) × BySubject (now triples) (sizes .edges) (now first)) × ((Living (lists sizes (now triples) (now tree) (now next) (now wanted)) (now alive) × ((start < named) × (named ≤ sizes .nodes))) × (Unmarked (start + 1) maxStates (now seen) (now queue) × (ListedBelow (lists sizes (now triples) (now tree) (now next) (now wanted)) named (pairKey start 0) (now pairs) k × (maxPairs ≤ length (now pairs))))) ⌝ }
+    requires { ⌜ (ListsFit (lists sizes (now triples) (now tree) (now next) (now wanted)) × BySubject (now triples) (sizes .edges) (now first)) × ((Living (lists sizes (now triples) (now tree) (now next) (now wanted)) (now alive) × ((start < named) × (named ≤ sizes .nodes))) × (Unmarked (start + 1) maxStates (now seen) (now queue) × (ListedBelow (lists sizes (now triples) (now tree) (now next) (now wanted)) named (pairKey start 0) (now pairs) k × (maxPairs ≤ length (now pairs))))) ⌝ }
     ensures { λ r. ⌜ ListedUpTo r (lists sizes (now (triples .entry)) (now (tree .entry)) (now (next .entry)) (now (wanted .entry))) named (pairKey (start + 1) 0) (now (pairs .exit)) × Unmarked (start + 2) maxStates (now (seen .exit)) (now (queue .exit)) ⌝ }
 {
     let root = sizes.parts - 1;
@@ -146,7 +146,7 @@ pub fn list_pairs(
     queue: &mut [u32],
     pairs: &mut [u32],
 ) -> Pairs
-    requires { ⌜ (Fits (lists sizes (now triples) (now tree) (now next) (now wanted)) × BySubject (now triples) (sizes .edges) (now first)) × ((Living (lists sizes (now triples) (now tree) (now next) (now wanted)) (now alive) × (named ≤ sizes .nodes)) × (Unmarked 1 maxStates (now seen) (now queue) × (maxPairs ≤ length (now pairs)))) ⌝ }
+    requires { ⌜ (ListsFit (lists sizes (now triples) (now tree) (now next) (now wanted)) × BySubject (now triples) (sizes .edges) (now first)) × ((Living (lists sizes (now triples) (now tree) (now next) (now wanted)) (now alive) × (named ≤ sizes .nodes)) × (Unmarked 1 maxStates (now seen) (now queue) × (maxPairs ≤ length (now pairs)))) ⌝ }
     ensures { λ r. ⌜ PairsAre r (lists sizes (now (triples .entry)) (now (tree .entry)) (now (next .entry)) (now (wanted .entry))) named (now (pairs .exit)) ⌝ }
 {
     let mut k = 0;

@@ -1,5 +1,5 @@
 // Build, an open call: from a pack to its graph.
-ghost use Rattle.build.specs.Answer.{Answers};
+ghost use Rattle.build.specs.Answer.{BuildAnswers};
 ghost use Rattle.calls.specs.Call.{lent};
 use calls::long_enough;
 use construct::Constructed;
@@ -29,7 +29,7 @@ pub fn build(
     rows: &mut [u16],
     heads: &mut [u64],
 ) -> Constructed
-    ensures { λ r. ⌜ Answers (now (pack .entry)) r (lent nodes) (lent triples) (lent rows) (lent heads) ⌝ }
+    ensures { λ r. ⌜ BuildAnswers (now (pack .entry)) r (lent nodes) (lent triples) (lent rows) (lent heads) ⌝ }
 {
     let asked = LEAST_LENGTHS;
     let lengths = [nodes.len(), triples.len(), rows.len(), heads.len()];

@@ -39,7 +39,7 @@ use Rattle.pack.specs.Checked.{Checked, accepted, firstRefusal, wellFormed, ref
 use Rattle.pairs.specs.Answer as Pairs
 use Rattle.prepare.specs.Prepared as Prepared
 use Rattle.query.specs.Answer.{Refusal2}
-use Rattle.readback.proofs.Answered.{found-answer}
+use Rattle.readback.proofs.FromRead.{found-answer}
 use Rattle.readback.specs.Answer.{not-well-formed}
 use Rattle.spelling.proofs.CoreTerms.{plain-distinct, plain?}
 use Rattle.spelling.specs.Iri.{plain}

@@ -14,7 +14,7 @@ use Rattle.pack.proofs.Unpacking.{unpacked}
 use Rattle.pack.specs.Checked.{numberOf}
 use Rattle.pairs.proofs.Once.{one-list}
 use Rattle.readback.proofs.Once.{answers-once}
-use Rattle.readback.specs.Answer.{Answers, iri as reads, no-iri, not-well-formed, unreadAs}
+use Rattle.readback.specs.Answer.{ReadBackAnswers, iri as reads, no-iri, not-well-formed, unreadAs}
 use Rattle.readback.specs.declared.ReadBack.{ReadBack}
 use Rattle.spelling.specs.Iri.{iriOf}
 use Rattle.yes_no.proofs.Once as yes_no
@@ -22,7 +22,7 @@ use Rattle.yes_no.specs.declared.YesNo.{YesNo}
 
 -- ---- read-back: a refusal's number is not 0
 
-not-zero : {pack t : Text} {c : ℕ} {values : List ℕ} → c ≡ unused → Answers pack t (record { refusal = 0; constructor = c; values = values }) → ⊥
+not-zero : {pack t : Text} {c : ℕ} {values : List ℕ} → c ≡ unused → ReadBackAnswers pack t (record { refusal = 0; constructor = c; values = values }) → ⊥
 not-zero {pack} u (not-well-formed k w e) =
     let z : 0 ≡ k = ap (λ (x : ReadBack). x .refusal) e in
     let (P, a) = zero-accepted pack (z ∙ sym (ap numberOf w)) in
@@ -34,7 +34,7 @@ not-zero {pack} {c = c} u (reads P d vs w b e) =
     let l = inside (P .setting .constructors) d (b .term .constructor) (b .term .listed) in
     omega arith
 
-refused-or-read : {X : Type 0} {pack t : Text} {k c : ℕ} {values : List ℕ} → Answers pack t (unreadAs k) → Answers pack t (record { refusal = 0; constructor = c; values = values }) → X
+refused-or-read : {X : Type 0} {pack t : Text} {k c : ℕ} {values : List ℕ} → ReadBackAnswers pack t (unreadAs k) → ReadBackAnswers pack t (record { refusal = 0; constructor = c; values = values }) → X
 refused-or-read x y = absurd (not-zero (ap (λ (r : ReadBack). r .constructor) (answers-once y x)) y)
 
 -- ---- one outcome

@@ -48,9 +48,9 @@ pub data Says (pack : Text) : Call → Outcome → Type 0 where
   ask-gives : {q : Text} {y : answers.YesNo} {p : PairAnswer} {fronts lists : List (List ℕ)} {b : Bool} {pairs : List (List ℕ)} → YesNo.Gives pack q y fronts → y .yes ≡ b
       → (G : Pairs.Gives pack q p lists) → G .records ≡ pairs → Says pack (ask q) (answer b pairs)
   -- "Read-back uses 3 to 7, then 13."
-  read-refused : {t : Text} {k : ℕ} → ReadBack.Answers pack t (ReadBack.unreadAs k) → Says pack (read t) (refused k)
+  read-refused : {t : Text} {k : ℕ} → ReadBack.ReadBackAnswers pack t (ReadBack.unreadAs k) → Says pack (read t) (refused k)
   -- "the constructor number and, in argument order, as many value numbers as its arity, 65,535 in places unused"
-  read-gives : {t : Text} {c : ℕ} {values : List ℕ} → ReadBack.Answers pack t (record { refusal = 0; constructor = c; values = values })
+  read-gives : {t : Text} {c : ℕ} {values : List ℕ} → ReadBack.ReadBackAnswers pack t (record { refusal = 0; constructor = c; values = values })
       → Says pack (read t) (term (c ∷ values))
   -- "Prefix, then the values joined by "/"", of a well-formed pack
   spelled : {P : Pack} {c : ℕ} {values : List ℕ} {t : Text} → wellFormed pack ≡ accepted P → IsTerm P c values → iriOf P c values ≡ t

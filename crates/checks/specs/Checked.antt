@@ -3,9 +3,9 @@ use mathlib.Core.List.{List}
 use mathlib.Core.Path.{_≡_}
 use Prim.Native.Nat.{ℕ}
 use Rattle.checks.specs.declared.Checked.{Checked}
-use Rattle.records.specs.Held.{PackHeld, SettingHeld}
+use Rattle.records.specs.PackHeld.{PackHeld, SettingHeld}
 use Rattle.meaning.specs.Pack.{Pack}
-use Rattle.names.specs.Given.{PackGiven, SettingGiven}
+use Rattle.names.specs.PackGiven.{PackGiven, SettingGiven}
 use Rattle.pack.specs.Checked.{accepted, numberOf, wellFormed}
 
 -- "A pack is well formed when none of 3 to 7 is true of it": the numbers are this one's.

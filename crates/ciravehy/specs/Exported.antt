@@ -18,27 +18,27 @@ use Rattle.yes_no.specs.declared.YesNo.{YesNo}
 -- Build: "Build reports both counts."
 pub record Builds (pack : Text) (result : ℕ) (nodes triples rows heads : Contents) (report′ : List ℕ) : Type 0 where
   pub answer : Constructed
-  pub answers : Build.Answers pack answer nodes triples rows heads
+  pub answers : Build.BuildAnswers pack answer nodes triples rows heads
   pub refusal : result ≡ answer .refusal
   pub report : report′ ≡ reported (answer .nodes) (answer .triples) 0 (answer .clash)
 
 -- Yes/no: the answer's number is 1 for yes, 0 for no.
 pub record Decides (pack query : Text) (result : ℕ) (nodes triples rows heads alive queue : Contents) (report′ : List ℕ) : Type 0 where
   pub answer : YesNo
-  pub answers : YesOrNo.Answers pack query answer nodes triples rows heads alive queue
+  pub answers : YesOrNo.YesNoAnswers pack query answer nodes triples rows heads alive queue
   pub refusal : result ≡ answer .graph .refusal
   pub report : report′ ≡ reported (answer .graph .nodes) (answer .graph .triples) (number (answer .yes)) (answer .graph .clash)
 
 -- Pairs: the answer's number is the pair count.
 pub record Finds (pack query : Text) (result : ℕ) (nodes triples pairs rows heads alive queue seen : Contents) (report′ : List ℕ) : Type 0 where
   pub answer : PairAnswer
-  pub answers : Pairs.Answers pack query answer nodes triples pairs rows heads alive queue seen
+  pub answers : Pairs.PairsAnswers pack query answer nodes triples pairs rows heads alive queue seen
   pub refusal : result ≡ answer .graph .refusal
   pub report : report′ ≡ reported (answer .graph .nodes) (answer .graph .triples) (answer .pairs) (answer .graph .clash)
 
 -- Read-back: "the constructor number and, in argument order, as many value numbers as its arity, 65,535 in places unused"
 pub record Reads (pack text : Text) (result : ℕ) (report′ : List ℕ) : Type 0 where
   pub answer : ReadBack
-  pub answers : Readback.Answers pack text answer
+  pub answers : Readback.ReadBackAnswers pack text answer
   pub refusal : result ≡ answer .refusal
   pub report : report′ ≡ answer .constructor ∷ answer .values

@@ -14,7 +14,7 @@ use Rattle.clash.specs.Clash.{ClashAt, Clashes, LimitedAt, SameOrigin}
 use Rattle.core_lists.specs.Input.{Input}
 use Rattle.core_lists.proofs.Keys.{key-less, less-key}
 use Rattle.core_lists.proofs.Places.{EdgeAt, edge-at, edge-key, limits-masked, masked, place-of, place-small, predicate-small, same-node-at, same-place, shaped, well}
-use Rattle.core_lists.proofs.Proper.{proper}
+use Rattle.core_lists.proofs.ResolvedNodes.{proper}
 use Rattle.core_lists.proofs.Shaped.{limits-shape}
 use Rattle.meaning.proofs.Lists.Members.{element}
 use Rattle.meaning.proofs.Lists.OrderedPlaces.{greater-later, lower-earlier, next-le}

@@ -8,11 +8,11 @@ use native.Mathlib.Omega.{arith}
 use Prim.Native.Nat.{ℕ, suc, _+_, _<_, _≤_}
 use Rattle.core.specs.Keys.{keyOf, objectOf, predicateOf, subjectOf, tripleKey}
 use Rattle.clash.specs.Clash.{ClashAt, ClashWritten}
-use Rattle.core_lists.specs.Input.{Input, KeysSmall, Placed}
+use Rattle.core_lists.specs.Input.{Input, KeysSmall, CoreFits}
 use Rattle.node_list.specs.Records.{Arities, coreNumbers, overwritten}
 use Rattle.node_list.proofs.CoreList.{numbers-long}
 use Rattle.core_lists.proofs.Places.{masked, place-small, predicate-small, well}
-use Rattle.core_lists.proofs.Proper.{proper}
+use Rattle.core_lists.proofs.ResolvedNodes.{proper}
 use Rattle.node_list.proofs.Records.{core-record}
 use Rattle.meaning.proofs.Lists.Places.{entry-is, inside, ∈-at}
 use Rattle.meaning.specs.Built.{core}
@@ -48,7 +48,7 @@ pub kept-set : (n : ℕ) (out : List ℕ) (i v : ℕ) → n ≡ length (set out 
 kept-set n out i v e = e ∙ length-set out i v
 
 -- the places that a key names
-module _ {nodes triples masks : List ℕ} (l : Placed nodes triples masks) (i : ℕ) (h : i < length triples) where
+module _ {nodes triples masks : List ℕ} (l : CoreFits nodes triples masks) (i : ℕ) (h : i < length triples) where
   pub subject-place : subjectOf (getD triples i 0) < length nodes
   subject-place = l .subject (getD triples i 0) (∈-at triples i h)
 

@@ -3,7 +3,7 @@ ghost use lib.ListN.{getD, length};
 ghost use Prim.Native.Nat.{_+_, _<_, _≤_};
 ghost use Rattle.core.specs.Keys.{predicateOf, subjectOf};
 ghost use Rattle.clash.specs.Clash.{ClashRecorded, ClashShown, Clashes};
-ghost use Rattle.core_lists.specs.Input.{KeysSmall, Placed};
+ghost use Rattle.core_lists.specs.Input.{KeysSmall, CoreFits};
 ghost use Rattle.meaning.specs.Limits.{clashWidth, maxPredicates};
 use meaning::Arities;
 use meaning::NODE_WIDTH;
@@ -35,7 +35,7 @@ pub fn clashes(shapes: &ShapeTable, triples: &[u64], masks: &[u16], i: usize) ->
 // Looks for the first clash. Triples ascend by subject, predicate and object: so the objects of a subject and a predicate stand side
 // by side, and the first two triples that clash are those asked for.
 pub fn find_clash(shapes: &ShapeTable, nodes: &[u64], triples: &[u64], masks: &[u16]) -> Found
-    requires { ⌜ Placed (now nodes) (now triples) (now masks) ⌝ }
+    requires { ⌜ CoreFits (now nodes) (now triples) (now masks) ⌝ }
     ensures { λ r. ⌜ ClashShown (now (shapes .entry)) (now (nodes .entry)) (now (triples .entry)) (now (masks .entry)) r ⌝ }
 {
     for i in 1..triples.len() {
@@ -60,7 +60,7 @@ pub fn clash_records(
     i: usize,
     out: &mut [u16],
 )
-    requires { ⌜ Placed (now nodes) (now triples) (now masks) × KeysSmall (now nodes) × (i + 1 < length (now triples)) × (clashWidth ≤ length (now out)) ⌝ }
+    requires { ⌜ CoreFits (now nodes) (now triples) (now masks) × KeysSmall (now nodes) × (i + 1 < length (now triples)) × (clashWidth ≤ length (now out)) ⌝ }
     ensures { λ _. ⌜ ClashRecorded arities (now (nodes .entry)) (now (triples .entry)) (now (masks .entry)) i (now (out .entry)) (now (out .exit)) ⌝ }
 {
     let first = triples[i];

@@ -17,7 +17,7 @@ use Rattle.core.proofs.Iris.{iris-over}
 use Rattle.core.proofs.Shapes.{codes-fit, tabled}
 use Rattle.core.specs.Bounds.{Bounded, HeadsFit}
 use Rattle.core.specs.Heads.{HeadsHeld}
-use Rattle.core.specs.Held.{CoreHeld}
+use Rattle.core.specs.CoreHeld.{CoreHeld}
 use Rattle.core.specs.Outcomes.{CoreAnswer, CoreListed}
 use Rattle.core.specs.declared.Outcome.the-variants.{Held, TooLarge}
 use Rattle.core.specs.declared.Outcome.{Outcome}
@@ -28,8 +28,8 @@ use Rattle.meaning.specs.NoGraph.{CoreIri}
 use Rattle.meaning.specs.Ordered.{Over}
 use Rattle.meaning.specs.Pack.{Pack}
 use Rattle.meaning.specs.Tables.{ShapeTable}
-use Rattle.names.specs.Given.{ForSetting, IsSetting}
-use Rattle.rule_heads.proofs.Held.{bounded}
+use Rattle.names.specs.PackGiven.{ForSetting, IsSetting}
+use Rattle.rule_heads.proofs.HeldRule.{bounded}
 use Rattle.rule_heads.specs.declared.AllHeads.{AllHeads}
 use Rattle.meaning.proofs.Cases.{case-on}
 use Rattle.sets.specs.Ordered.{rankOf}

@@ -3,7 +3,7 @@ use mathlib.Core.List.{List}
 use Prim.Native.Nat.{ℕ}
 use Rattle.construct.specs.Steps.{HeadsOf}
 use Rattle.meaning.specs.Pack.{Pack}
-use Rattle.names.specs.Given.{Resolved}
+use Rattle.names.specs.PackGiven.{Resolved}
 use Rattle.rule_heads.specs.Answer.{HeadsFound}
 use Rattle.rule_heads.specs.declared.AllHeads.{AllHeads}
 

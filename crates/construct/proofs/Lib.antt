@@ -1,7 +1,7 @@
 pub mod Accepted
-pub mod Answer
-pub mod Decide
 pub mod FromCore
 pub mod FromHeads
 pub mod FromRows
+pub mod FromSteps
 pub mod Once
+pub mod RefusalNumbers

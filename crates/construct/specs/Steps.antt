@@ -13,7 +13,7 @@ use Rattle.meaning.specs.Clash.{ClashGiven}
 use Rattle.meaning.specs.NoGraph.{MixedKinds, TooLarge, TwoObjects}
 use Rattle.meaning.specs.Pack.{Pack}
 use Rattle.meaning.specs.WellFormed.{broken, dangling}
-use Rattle.names.specs.Given.{SettingGiven}
+use Rattle.names.specs.PackGiven.{SettingGiven}
 use Rattle.rule_heads.specs.Answer.{HeadsFound}
 use Rattle.rule_heads.specs.declared.AllHeads.{AllHeads}
 

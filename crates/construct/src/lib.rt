@@ -26,7 +26,7 @@ ghost use Rattle.construct.specs.Loaded.{LoadedIf};
 ghost use Rattle.construct.specs.Outcome.{Constructs, refusedAs};
 ghost use Rattle.construct.specs.Steps.{CoreGiven, FromCore, FromHeads, FromRows, HeadsGiven, OfCore, OfHeads};
 ghost use Rattle.meaning.specs.Limits.{headsLength, nodeListLength, rowsLength, settingLength, tripleListLength};
-ghost use Rattle.names.specs.Given.{ForResolved, IsResolved};
+ghost use Rattle.names.specs.PackGiven.{ForResolved, IsResolved};
 
 // What a pack comes to: a refusal's number, with the clash of 10; or 0 and the two counts.
 pub struct Constructed {

@@ -7,7 +7,7 @@ use mathlib.Core.Path.{_≡_, refl, subst}
 use native.Mathlib.Decide.{decLt}
 use native.Mathlib.Omega.{arith}
 use Prim.Native.Nat.{ℕ, _+_, _≤_, _<_}
-use Rattle.core.specs.Collected.{Adding, Beyond, FromKeys, FromRules, Grown}
+use Rattle.core.specs.Collected.{Adding, Beyond, FromKeys, FromRules, SetGrown}
 use Rattle.core.specs.Heads.{keysOf}
 use Rattle.core.specs.declared.counted.Counted.{Counted}
 use Rattle.core.specs.declared.counted.Counted.the-variants.{Count, TooLarge}
@@ -22,10 +22,10 @@ use Rattle.meaning.proofs.Lists.Members.{front-more, take-in}
 -- ---- one number
 
 module _ {n x : ℕ} {d d′ : List ℕ} (l : n ≤ length d) (a : InOrder _<_ (take n d)) where
-  pub grown-added : WasAdded n x d d′ → length d′ ≡ length d → Grown (λ y. y ≡ x) n (n + 1) d d′
+  pub grown-added : WasAdded n x d d′ → length d′ ≡ length d → SetGrown (λ y. y ≡ x) n (n + 1) d d′
   grown-added w k = record { fits = omega (arith, w .room); list = list-as (λ y. (⊎-swap, ⊎-swap)) (added-list w (own-list a)) }
 
-  pub grown-present : WasPresent n x d d′ → length d′ ≡ length d → Grown (λ y. y ≡ x) n n d d′
+  pub grown-present : WasPresent n x d d′ → length d′ ≡ length d → SetGrown (λ y. y ≡ x) n n d d′
   grown-present w k = record { fits = omega arith; list = list-as (λ y. (⊎-swap, ⊎-swap)) (present-list w (own-list a)) }
 
   pub grown-full : WasFull n x d d′ → Beyond (length d) (λ y. (y ∈ take n d) ⊎ (y ≡ x))
@@ -38,7 +38,7 @@ module _ {n x : ℕ} {d d′ : List ℕ} (l : n ≤ length d) (a : InOrder _<_ (
 
 -- ---- no number
 
-pub grown-start : {X : ℕ → Type 0} (n : ℕ) (d : List ℕ) → n ≤ length d → InOrder _<_ (take n d) → ((y : ℕ) → ¬ X y) → Grown X n n d d
+pub grown-start : {X : ℕ → Type 0} (n : ℕ) (d : List ℕ) → n ≤ length d → InOrder _<_ (take n d) → ((y : ℕ) → ¬ X y) → SetGrown X n n d d
 grown-start {X} n d l a none = record { fits = l; list = list-as (λ y. (inl, only y)) (own-list a) }
   where
     only : (y : ℕ) → (y ∈ take n d) ⊎ X y → y ∈ take n d
@@ -50,7 +50,7 @@ grown-start {X} n d l a none = record { fits = l; list = list-as (λ y. (inl, on
 pub beyond-as : {k : ℕ} {Q Q′ : ℕ → Type 0} → ((y : ℕ) → Q y → Q′ y) → Beyond k Q → Beyond k Q′
 beyond-as h b = record { some = b .some; ascending = b .ascending; members = λ y m. h y (b .members y m); over = b .over }
 
-module _ {X Y Z : ℕ → Type 0} {n m : ℕ} {d₀ d : List ℕ} (both : (y : ℕ) → (X y ⊎ Y y) ↔ Z y) (g : Grown X n m d₀ d) where
+module _ {X Y Z : ℕ → Type 0} {n m : ℕ} {d₀ d : List ℕ} (both : (y : ℕ) → (X y ⊎ Y y) ↔ Z y) (g : SetGrown X n m d₀ d) where
   forth : (y : ℕ) → (y ∈ take m d) ⊎ Y y → (y ∈ take n d₀) ⊎ Z y
   forth y (inl i) = go (g .list .members y .0 i)
     where
@@ -67,7 +67,7 @@ module _ {X Y Z : ℕ → Type 0} {n m : ℕ} {d₀ d : List ℕ} (both : (y : �
       go (inl x) = inl (g .list .members y .1 (inr x))
       go (inr q) = inr q
 
-  pub grown-then : {m′ : ℕ} {d′ : List ℕ} → Grown Y m m′ d d′ → Grown Z n m′ d₀ d′
+  pub grown-then : {m′ : ℕ} {d′ : List ℕ} → SetGrown Y m m′ d d′ → SetGrown Z n m′ d₀ d′
   grown-then h = record { fits = h .fits; list = list-as (λ y. (forth y, back y)) (h .list) }
 
   pub beyond-then : length d ≡ length d₀ → Beyond (length d) (λ y. (y ∈ take m d) ⊎ Y y) → Beyond (length d₀) (λ y. (y ∈ take n d₀) ⊎ Z y)

@@ -4,9 +4,9 @@ use mathlib.Core.List.{List, []}
 use mathlib.Core.Path.{_≡_, refl, ap}
 use native.Mathlib.Omega.{arith}
 use Prim.Native.Nat.{ℕ, _+_, _≤_, _<_}
-use Rattle.core.proofs.Proper.{Proper, core-proper, iri-low, key-injective, literal-key}
+use Rattle.core.proofs.DistinctKeys.{Proper, core-proper, iri-low, key-injective, literal-key}
 use Rattle.core.specs.Bounds.{Bounded}
-use Rattle.core.specs.Held.{NodeKey}
+use Rattle.core.specs.CoreHeld.{NodeKey}
 use Rattle.core.specs.Keys.{keyOf}
 use Rattle.meaning.specs.Core.{CoreNode, Node, iriNode, literalNode}
 use Rattle.meaning.specs.Limits.{firstLiteral, maxIris, maxValues}

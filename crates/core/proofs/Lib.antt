@@ -4,10 +4,10 @@ pub mod Powers
 pub mod Packed
 pub mod Sources
 pub mod NodeSources
-pub mod Proper
+pub mod DistinctKeys
 pub mod TripleSources
 pub mod Iris
-pub mod Answers
+pub mod Passed
 pub mod TripleAnswers
 pub mod TypeSources
 pub mod NodeKeys
@@ -17,4 +17,4 @@ pub mod Spreading
 pub mod Declared
 pub mod Shapes
 pub mod Fits
-pub mod Whole
+pub mod AllPasses

@@ -6,7 +6,7 @@ use mathlib.Core.Logic.{_↔_, _⊎_, inl, inr}
 use mathlib.Core.Path.{_≡_}
 use Prim.Native.Nat.{ℕ}
 use Rattle.core.proofs.Growing.{beyond-as}
-use Rattle.core.specs.Collected.{Beyond, Grown, nodeKeys, objectKey, subjectKey}
+use Rattle.core.specs.Collected.{Beyond, SetGrown, nodeKeys, objectKey, subjectKey}
 use Rattle.core.specs.Heads.{kindNumber}
 use Rattle.meaning.specs.Member.{_∈_, here, there}
 use Rattle.meaning.proofs.Lists.SetLists.{list-as}
@@ -36,8 +36,8 @@ module _ (head : List ℕ) (k : ℕ) where
   pub link-keys : (kindNumber head ≡ 0 → ⊥) → (y : ℕ) → ((y ≡ subjectKey head k) ⊎ (y ≡ objectKey head k)) ↔ (y ∈ nodeKeys head k)
   link-keys n y = rw (keys-of-link n) (both, two)
 
-  pub type-keys : {n m : ℕ} {d d′ : List ℕ} → kindNumber head ≡ 0 → Grown (λ y. y ≡ subjectKey head k) n m d d′
-      → Grown (λ y. y ∈ nodeKeys head k) n m d d′
+  pub type-keys : {n m : ℕ} {d d′ : List ℕ} → kindNumber head ≡ 0 → SetGrown (λ y. y ≡ subjectKey head k) n m d d′
+      → SetGrown (λ y. y ∈ nodeKeys head k) n m d d′
   type-keys {n} {d = d} e g = record { fits = g .fits; list = list-as (λ y. (forth y, back y)) (g .list) }
     where
       forth : (y : ℕ) → (y ∈ take n d) ⊎ (y ≡ subjectKey head k) → (y ∈ take n d) ⊎ (y ∈ nodeKeys head k)

@@ -10,7 +10,7 @@ use Rattle.core.proofs.Packed.{Bytes}
 use Rattle.core.proofs.Sources.{Source, link-object, link-subject, type-subject, value-object, value-subject}
 use Rattle.core.specs.Bounds.{Bounded}
 use Rattle.core.specs.Collected.{nodeKeys}
-use Rattle.core.specs.Held.{NodeKey}
+use Rattle.core.specs.CoreHeld.{NodeKey}
 use Rattle.core.specs.Keys.{keyOf}
 use Rattle.meaning.proofs.Lists.Members.{element, ∈-append, ∈-map⁻¹}
 use Rattle.meaning.proofs.Model.Core.{nodesIn}

@@ -11,7 +11,7 @@ use native.Mathlib.Nat.{not-suc-le-zero, le-of-suc-le-suc}
 use native.Mathlib.Omega.{arith}
 use Prim.Native.Nat.{ℕ, zero, suc, _+_, _^_, _≤_, _<_, zero-le}
 use Rattle.core.specs.Keys.{objectOf, predicateOf, subjectOf}
-use Rattle.core.specs.Spread.{Carried, PassShown, Passed, PassedOnce, Passes, RoundShown, SpreadFrom, along, held, maskRoom}
+use Rattle.core.specs.Spread.{Carried, PassShown, Passed, PassedOnce, Passes, SpreadRoundShown, SpreadFrom, along, held, maskRoom}
 use Rattle.meaning.specs.Member.{_∈_}
 use Rattle.meaning.specs.Pack.{Setting, Shape, Target, type}
 use Rattle.meaning.specs.Tables.{setOfMask}
@@ -187,7 +187,7 @@ module _ {table : List (List ℕ)} {triples : List ℕ} {i : ℕ} {changed : Boo
     })
 
 pub round-done : {table : List (List ℕ)} {triples : List ℕ} {i : ℕ} {changed : Bool} {p₀ p d₀ d : List ℕ} → RoundDone table triples i changed p₀ p d₀ d
-    → length triples ≤ i → RoundShown table triples changed p₀ p d₀ d
+    → length triples ≤ i → SpreadRoundShown table triples changed p₀ p d₀ d
 round-done {triples = triples} {i} r h S tab car =
     let o = r .done S tab car in (
       record {
@@ -221,7 +221,7 @@ passed-again f (held {i} {R} h) = f i R h
 passed-again f (along m q s e g) = along m (passed-again f q) s e g
 
 module _ {table : List (List ℕ)} {triples p p′ d₀ d d′ : List ℕ} {changed : Bool} (s : Spreading table triples p d₀ d) (l : length d′ ≡ length d)
-    (r : RoundShown table triples changed p p′ d d′) where
+    (r : SpreadRoundShown table triples changed p p′ d d′) where
   pub spread-again : Spreading table triples p′ d₀ d′
   spread-again = record {
     long = l ∙ s .long;

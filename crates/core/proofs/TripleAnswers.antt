@@ -7,15 +7,15 @@ use mathlib.Core.Option.{some, Option·some-injective}
 use mathlib.Core.Path.{_≡_, refl, sym, ap, ap₂, _∙_, subst}
 use native.Mathlib.Omega.{arith}
 use Prim.Native.Nat.{ℕ, _≤_, _<_}
-use Rattle.core.proofs.Proper.{core-proper, key-injective}
+use Rattle.core.proofs.DistinctKeys.{core-proper, key-injective}
 use Rattle.core.proofs.Sources.{sources}
 use Rattle.core.proofs.TripleSources.{at-rank, rank-at, triple-sources}
 use Rattle.core.specs.Bounds.{Bounded, HeadFits, HeadsFit}
-use Rattle.core.specs.Collected.{Adding, Beyond, FromRules, Grown, tripleKeys}
+use Rattle.core.specs.Collected.{Adding, Beyond, FromRules, SetGrown, tripleKeys}
 use Rattle.core.specs.Heads.{HeadsHeld}
-use Rattle.core.specs.Held.{NodeKey, TripleKey}
+use Rattle.core.specs.CoreHeld.{NodeKey, TripleKey}
 use Rattle.core.specs.Keys.{keyOf, tripleKey}
-use Rattle.core.specs.Outcomes.{TriplesAnswer, TriplesListed}
+use Rattle.core.specs.Outcomes.{TriplesAnswer, TripleKeysListed}
 use Rattle.core.specs.declared.counted.Counted.{Counted}
 use Rattle.core.specs.declared.counted.Counted.the-variants.{Count, TooLarge}
 use Rattle.meaning.proofs.Lists.Places.{inside, placed}
@@ -51,7 +51,7 @@ module _ {rules : List (List ℕ)} {count : ℕ} {heads counts : List ℕ} (fit 
         all : Triples nodes rules count heads counts y ↔ TripleKey P nodes y
         all = Iff·trans (sources h (λ head k x. x ∈ tripleKeys nodes head k) y) (triple-sources nodes b l y)
 
-    triple-list : {m : ℕ} {d d′ : List ℕ} → Grown (Triples nodes rules count heads counts) 0 m d d′ → ListOf _<_ (TripleKey P nodes) (take m d′)
+    triple-list : {m : ℕ} {d d′ : List ℕ} → SetGrown (Triples nodes rules count heads counts) 0 m d d′ → ListOf _<_ (TripleKey P nodes) (take m d′)
     triple-list g = list-as triple-iff (g .list)
 
     abbrev keyed : Node × ℕ × Node → ℕ
@@ -124,8 +124,8 @@ module _ {rules : List (List ℕ)} {count : ℕ} {heads counts : List ℕ} (fit 
               is = refl;
             })
 
-  pub triples-listed : {m : ℕ} {d d′ : List ℕ} → Grown (Triples nodes rules count heads counts) 0 m d d′ → length d′ ≡ maxCoreTriples
-      → TriplesListed m nodes rules count heads counts d d′
+  pub triples-listed : {m : ℕ} {d d′ : List ℕ} → SetGrown (Triples nodes rules count heads counts) 0 m d d′ → length d′ ≡ maxCoreTriples
+      → TripleKeysListed m nodes rules count heads counts d d′
   triples-listed {m} {d′ = d′} g k = record {
     grown = g;
     list = λ P h b l. triple-list P h b l g;

@@ -6,7 +6,7 @@ use mathlib.Core.Logic.{_↔_}
 use mathlib.Core.Path.{_≡_}
 use Prim.Native.Nat.{ℕ, _+_, _*_, _≤_, _<_}
 use Rattle.core.proofs.Growing.{grown-start}
-use Rattle.core.specs.Collected.{Grown, objectKey, subjectKey, tripleKeys}
+use Rattle.core.specs.Collected.{SetGrown, objectKey, subjectKey, tripleKeys}
 use Rattle.core.specs.Heads.{kindNumber, namedNumber}
 use Rattle.core.specs.Keys.{tripleKey}
 use Rattle.meaning.specs.Limits.{placeRoom, predicateRoom}
@@ -28,7 +28,7 @@ module _ (nodes head : List ℕ) (k : ℕ) where
   none e m = elim (rw (no-triple e) at m) [ ]
 
   pub type-triples : kindNumber head ≡ 0 → (n : ℕ) (d : List ℕ) → n ≤ length d → InOrder _<_ (take n d)
-      → Grown (λ y. y ∈ tripleKeys nodes head k) n n d d
+      → SetGrown (λ y. y ∈ tripleKeys nodes head k) n n d d
   type-triples e n d l a = grown-start n d l a (λ y. none e)
 
   -- the key as code makes it

@@ -11,9 +11,9 @@ use Rattle.core.proofs.Sources.{sources, type-subject}
 use Rattle.core.proofs.TripleAnswers.{node-in, predicate-small, rank-one}
 use Rattle.core.proofs.TripleSources.{at-rank, rank-at}
 use Rattle.core.specs.Bounds.{Bounded, HeadsFit}
-use Rattle.core.specs.Collected.{FromRules, Marked, TypeFact}
+use Rattle.core.specs.Collected.{FromRules, TypesMarked, HeadType}
 use Rattle.core.specs.Heads.{HeadsHeld}
-use Rattle.core.specs.Held.{NodeKey, TripleKey}
+use Rattle.core.specs.CoreHeld.{NodeKey, TripleKey}
 use Rattle.core.specs.Keys.{keyOf, objectOf, predicateOf, subjectOf, tripleKey}
 use Rattle.core.specs.Spread.{Passed, SpreadFrom, along, held}
 use Rattle.meaning.proofs.Lists.Places.{inside}
@@ -33,7 +33,7 @@ use Rattle.shapes.specs.Shapes.{Tabled}
 -- ---- the type fact of a head
 
 module _ (nodes : List ℕ) (σ : Assignment) where
-  fact-of : (k : Head) → Fine σ k → (i : ℕ) (R : Target) → TypeFact nodes (headNumbers k) (packed (map σ (headArguments k))) (i, R)
+  fact-of : (k : Head) → Fine σ k → (i : ℕ) (R : Target) → HeadType nodes (headNumbers k) (packed (map σ (headArguments k))) (i, R)
       → (n : Node) × (headFact σ k ≡ typed n R) × (i ≡ rankOf (keyOf n) nodes)
   unfolding headFact headNumbers headTerms
   fact-of (hasType s t) f i R g =
@@ -42,7 +42,7 @@ module _ (nodes : List ℕ) (σ : Assignment) where
   fact-of (linksToValue s p v) f i R g = absurd (omega (arith, g .typing))
 
   of-fact : (k : Head) → Fine σ k → (n : Node) (R : Target) → headFact σ k ≡ typed n R
-      → TypeFact nodes (headNumbers k) (packed (map σ (headArguments k))) (rankOf (keyOf n) nodes, R)
+      → HeadType nodes (headNumbers k) (packed (map σ (headArguments k))) (rankOf (keyOf n) nodes, R)
   unfolding headFact headNumbers headTerms
   of-fact (hasType s t) f n R e =
       let a : nodeOf σ s ≡ n = cc in
@@ -63,23 +63,23 @@ decoded s p o a b = (omega arith, omega arith, omega arith)
 module _ {rules : List (List ℕ)} {count : ℕ} {heads counts : List ℕ} (fit : HeadsFit rules count heads counts) (nodes : List ℕ)
     (few : length nodes ≤ maxCoreNodes) (P : Pack) (h : HeadsHeld P rules count heads counts) (b : Bounded P) (l : ListOf _<_ (NodeKey P) nodes)
     (triples : List ℕ) (ts : ListOf _<_ (TripleKey P nodes) triples) (zero start : List ℕ) (none : (i : ℕ) → getD zero i 0 ≡ 0)
-    (marked : Marked (FromRules (TypeFact nodes) rules count heads counts) zero start) where
+    (marked : TypesMarked (FromRules (HeadType nodes) rules count heads counts) zero start) where
   -- what the masks hold at the start
   start-only : (i : ℕ) (R : Target) → R ∈ₜ setOfMask (getD start i 0) → (n : Node) × Given P (typed n R) × (i ≡ rankOf (keyOf n) nodes)
   start-only i R m = go (marked i R .0 m)
     where
-      go : (R ∈ₜ setOfMask (getD zero i 0)) ⊎ FromRules (TypeFact nodes) rules count heads counts (i, R)
+      go : (R ∈ₜ setOfMask (getD zero i 0)) ⊎ FromRules (HeadType nodes) rules count heads counts (i, R)
           → (n : Node) × Given P (typed n R) × (i ≡ rankOf (keyOf n) nodes)
       go (inl q) = absurd (none-in R (subst (λ x. R ∈ₜ setOfMask x) (none i) q))
       go (inr f) =
-          let s = sources h (TypeFact nodes) (i, R) .0 f in
+          let s = sources h (HeadType nodes) (i, R) .0 f in
           let r = fact-of nodes (s .values) (s .rule .head) (fine b (s .listed) (s .values) (s .matches)) i R (s .gives) in
           (r .0, record { rule = s .rule; listed = s .listed; values = s .values; matches = s .matches; says = r .1 }, r .2)
 
   start-in : (n : Node) (R : Target) → Given P (typed n R) → R ∈ₜ setOfMask (getD start (rankOf (keyOf n) nodes) 0)
   start-in n R g =
       marked (rankOf (keyOf n) nodes) R .1
-      (inr (sources h (TypeFact nodes) (rankOf (keyOf n) nodes, R) .1 (record {
+      (inr (sources h (HeadType nodes) (rankOf (keyOf n) nodes, R) .1 (record {
         rule = g .rule;
         listed = g .listed;
         values = g .values;

@@ -46,7 +46,7 @@ tripleKeys nodes head k =
     (tripleKey (rankOf (subjectKey head k) nodes) (namedNumber head) (rankOf (objectKey head k) nodes) ∷ [])
 
 -- a type at a place
-pub record TypeFact (nodes head : List ℕ) (k : ℕ) (fact : ℕ × Target) : Type 0 where
+pub record HeadType (nodes head : List ℕ) (k : ℕ) (fact : ℕ × Target) : Type 0 where
   pub typing : kindNumber head ≡ 0
   pub place : fact .0 ≡ rankOf (subjectKey head k) nodes
   pub is : fact .1 ≡ type (namedNumber head)
@@ -80,7 +80,7 @@ KnownRules nodes rules count heads counts = (r : ℕ) → r < count → KnownKey
 -- ---- numbers added to the set in the first count places of a slice
 
 -- after is the set with the numbers of X added, in its first m places
-pub record Grown (X : ℕ → Type 0) (n m : ℕ) (before after : List ℕ) : Type 0 where
+pub record SetGrown (X : ℕ → Type 0) (n m : ℕ) (before after : List ℕ) : Type 0 where
   pub fits : m ≤ length after
   pub list : ListOf _<_ (λ y. (y ∈ take n before) ⊎ X y) (take m after)
 
@@ -93,11 +93,11 @@ pub record Beyond (k : ℕ) (Q : ℕ → Type 0) : Type 0 where
 
 -- what is answered: how many there are now, or that they are more than the slice holds
 abbrev pub Adding : Counted → (ℕ → Type 0) → ℕ → List ℕ → List ℕ → Type 0
-Adding (Count m) X n before after = Grown X n m before after
+Adding (Count m) X n before after = SetGrown X n m before after
 Adding TooLarge X n before after = Beyond (length before) (λ y. (y ∈ take n before) ⊎ X y)
 
 -- ---- types added to the masks of a slice
 
-abbrev pub Marked : (ℕ × Target → Type 0) → List ℕ → List ℕ → Type 0
-Marked X before after =
+abbrev pub TypesMarked : (ℕ × Target → Type 0) → List ℕ → List ℕ → Type 0
+TypesMarked X before after =
     (i : ℕ) (R : Target) → (R ∈ₜ setOfMask (getD after i 0)) ↔ ((R ∈ₜ setOfMask (getD before i 0)) ⊎ X (i, R))

@@ -1,5 +1,5 @@
 pub mod Keys
-pub mod Held
+pub mod CoreHeld
 pub mod Heads
 pub mod Bounds
 pub mod Collected

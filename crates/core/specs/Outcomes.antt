@@ -3,9 +3,9 @@ use lib.ListN.{take}
 use mathlib.Core.List.{List}
 use Prim.Native.Nat.{ℕ, _≤_, _<_}
 use Rattle.core.specs.Bounds.{Bounded}
-use Rattle.core.specs.Collected.{FromRules, Grown, nodeKeys, tripleKeys}
+use Rattle.core.specs.Collected.{FromRules, SetGrown, nodeKeys, tripleKeys}
 use Rattle.core.specs.Heads.{HeadsHeld}
-use Rattle.core.specs.Held.{CoreHeld, NodeKey, TripleKey, TypesAt}
+use Rattle.core.specs.CoreHeld.{CoreHeld, NodeKey, TripleKey, TypesAt}
 use Rattle.core.specs.declared.Outcome.{Outcome}
 use Rattle.core.specs.declared.Outcome.the-variants.{Held, TooLarge as NotHeld}
 use Rattle.core.specs.declared.counted.Counted.{Counted}
@@ -18,24 +18,24 @@ use Rattle.meaning.specs.Pack.{Pack}
 use Rattle.shapes.specs.Shapes.{Tabled}
 
 -- The node keys: all of them in the first m places, or the core has too many IRIs.
-pub record NodesListed (m : ℕ) (rules : List (List ℕ)) (count : ℕ) (heads counts before after : List ℕ) : Type 0 where
-  pub grown : Grown (FromRules (λ head k y. y ∈ nodeKeys head k) rules count heads counts) 0 m before after
+pub record NodeKeysListed (m : ℕ) (rules : List (List ℕ)) (count : ℕ) (heads counts before after : List ℕ) : Type 0 where
+  pub grown : SetGrown (FromRules (λ head k y. y ∈ nodeKeys head k) rules count heads counts) 0 m before after
   pub list : (P : Pack) → HeadsHeld P rules count heads counts → Bounded P → ListOf _<_ (NodeKey P) (take m after)
   pub within : (P : Pack) → HeadsHeld P rules count heads counts → Bounded P → ¬ Over maxIris (CoreIri P)
 
 abbrev pub NodesAnswer : Counted → List (List ℕ) → ℕ → List ℕ → List ℕ → List ℕ → List ℕ → Type 0
-NodesAnswer (Count m) rules count heads counts before after = NodesListed m rules count heads counts before after
+NodesAnswer (Count m) rules count heads counts before after = NodeKeysListed m rules count heads counts before after
 NodesAnswer TooLarge rules count heads counts before after =
     (P : Pack) → HeadsHeld P rules count heads counts → Bounded P → Over maxIris (CoreIri P)
 
 -- The triple keys, by the places of the nodes: all of them in the first m places, or the core has too many triples.
-pub record TriplesListed (m : ℕ) (nodes : List ℕ) (rules : List (List ℕ)) (count : ℕ) (heads counts before after : List ℕ) : Type 0 where
-  pub grown : Grown (FromRules (λ head k y. y ∈ tripleKeys nodes head k) rules count heads counts) 0 m before after
+pub record TripleKeysListed (m : ℕ) (nodes : List ℕ) (rules : List (List ℕ)) (count : ℕ) (heads counts before after : List ℕ) : Type 0 where
+  pub grown : SetGrown (FromRules (λ head k y. y ∈ tripleKeys nodes head k) rules count heads counts) 0 m before after
   pub list : (P : Pack) → HeadsHeld P rules count heads counts → Bounded P → ListOf _<_ (NodeKey P) nodes → ListOf _<_ (TripleKey P nodes) (take m after)
   pub within : (P : Pack) → HeadsHeld P rules count heads counts → Bounded P → ListOf _<_ (NodeKey P) nodes → ¬ Over maxCoreTriples (CoreTriple P)
 
 abbrev pub TriplesAnswer : Counted → List ℕ → List (List ℕ) → ℕ → List ℕ → List ℕ → List ℕ → List ℕ → Type 0
-TriplesAnswer (Count m) nodes rules count heads counts before after = TriplesListed m nodes rules count heads counts before after
+TriplesAnswer (Count m) nodes rules count heads counts before after = TripleKeysListed m nodes rules count heads counts before after
 TriplesAnswer TooLarge nodes rules count heads counts before after =
     (P : Pack) → HeadsHeld P rules count heads counts → Bounded P → ListOf _<_ (NodeKey P) nodes → Over maxCoreTriples (CoreTriple P)
 

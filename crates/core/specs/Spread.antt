@@ -14,13 +14,13 @@ use Rattle.meaning.specs.TypeSet.{_∈ₜ_}
 use Rattle.shapes.specs.Shapes.{SomeShape, Tabled}
 
 -- Its places are those of nodes, its predicate is one of the pack's.
-pub record Placed (k : ℕ) : Type 0 where
+pub record TripleFits (k : ℕ) : Type 0 where
   pub from : subjectOf k < maxCoreNodes
   pub named : predicateOf k < maxPredicates
   pub to : objectOf k < maxCoreNodes
 
-abbrev pub AllPlaced : List ℕ → Type 0
-AllPlaced triples = (k : ℕ) → k ∈ triples → Placed k
+abbrev pub AllTriplesFit : List ℕ → Type 0
+AllTriplesFit triples = (k : ℕ) → k ∈ triples → TripleFits k
 
 -- ---- the least set
 
@@ -62,11 +62,11 @@ maskRoom [] = 0
 maskRoom (m ∷ ms) = (65535 - m) + maskRoom ms
 
 -- Types are only passed along; every triple's are, if nothing changed.
-pub record Round (S : Setting) (triples : List ℕ) (changed : Bool) (before after : List ℕ) : Type 0 where
+pub record SpreadRound (S : Setting) (triples : List ℕ) (changed : Bool) (before after : List ℕ) : Type 0 where
   pub keeps : (i : ℕ) (R : Target) → R ∈ₜ setOfMask (getD before i 0) → R ∈ₜ setOfMask (getD after i 0)
   pub only : (i : ℕ) (R : Target) → R ∈ₜ setOfMask (getD after i 0) → Passed S triples before i R
   pub all : changed ≡ false → (k : ℕ) → k ∈ triples → (i : ℕ) (R : Target) → Passes S after k i R → R ∈ₜ setOfMask (getD after i 0)
 
-abbrev pub RoundShown : List (List ℕ) → List ℕ → Bool → List ℕ → List ℕ → List ℕ → List ℕ → Type 0
-RoundShown table triples changed passed passed′ before after =
-    (S : Setting) → Tabled S table → Carried S triples passed before → Round S triples changed before after × Carried S triples passed′ after
+abbrev pub SpreadRoundShown : List (List ℕ) → List ℕ → Bool → List ℕ → List ℕ → List ℕ → List ℕ → Type 0
+SpreadRoundShown table triples changed passed passed′ before after =
+    (S : Setting) → Tabled S table → Carried S triples passed before → SpreadRound S triples changed before after × Carried S triples passed′ after

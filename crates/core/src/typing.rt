@@ -18,16 +18,16 @@ ghost use Rattle.meaning.specs.Ordered.{InOrder};
 ghost use Rattle.sets.specs.Buffers.{zeros};
 ghost use Rattle.shapes.specs.Shapes.{CodesFit};
 ghost use Rattle.core.specs.Bounds.{HeadFits, KeyFits, KeysFit, HeadsFit};
-ghost use Rattle.core.specs.Collected.{FromKeys, FromRules, KnownMatch, KnownKeys, KnownRules, Marked, TypeFact};
+ghost use Rattle.core.specs.Collected.{FromKeys, FromRules, KnownMatch, KnownKeys, KnownRules, TypesMarked, HeadType};
 ghost use Rattle.core.specs.Outcomes.{TypesAnswer};
-ghost use Rattle.core.specs.Spread.{AllPlaced, maskRoom, PassShown, Placed, RoundShown, SpreadFrom};
+ghost use Rattle.core.specs.Spread.{AllTriplesFit, maskRoom, PassShown, TripleFits, SpreadRoundShown, SpreadFrom};
 ghost use Rattle.sets.specs.Progress.{Progress};
 
 // Marks the type of one match, if the head gives one. Looks for the subject at near first, and answers its place, or near
 // if there is no type.
 fn mark_match(head: Head, k: u64, nodes: &[u64], near: usize, masks: &mut [u16]) -> usize
     requires { ⌜ HeadFits head × KeyFits head k × InOrder _<_ (now nodes) × KnownMatch (now nodes) head k × (length (now nodes) ≤ length (now masks)) ⌝ }
-    ensures { λ _. ⌜ Marked (TypeFact (now (nodes .entry)) head k) (now (masks .entry)) (now (masks .exit)) ⌝ }
+    ensures { λ _. ⌜ TypesMarked (HeadType (now (nodes .entry)) head k) (now (masks .entry)) (now (masks .exit)) ⌝ }
 {
     if head[KIND] != 0 {
         return near;
@@ -41,7 +41,7 @@ fn mark_match(head: Head, k: u64, nodes: &[u64], near: usize, masks: &mut [u16])
 // Marks those of all matches of one rule.
 fn mark_rule(head: Head, keys: &[u64], nodes: &[u64], masks: &mut [u16])
     requires { ⌜ HeadFits head × KeysFit head (now keys) × InOrder _<_ (now nodes) × KnownKeys (now nodes) head (now keys) × (length (now nodes) ≤ length (now masks)) ⌝ }
-    ensures { λ _. ⌜ Marked (FromKeys (TypeFact (now (nodes .entry)) head) (now (keys .entry))) (now (masks .entry)) (now (masks .exit)) ⌝ }
+    ensures { λ _. ⌜ TypesMarked (FromKeys (HeadType (now (nodes .entry)) head) (now (keys .entry))) (now (masks .entry)) (now (masks .exit)) ⌝ }
 {
     let mut near = 0;
     for i in 0..keys.len() {
@@ -59,7 +59,7 @@ fn mark_rules(
     masks: &mut [u16],
 )
     requires { ⌜ HeadsFit rules count (now heads) counts × InOrder _<_ (now nodes) × KnownRules (now nodes) rules count (now heads) counts × (length (now nodes) ≤ length (now masks)) ⌝ }
-    ensures { λ _. ⌜ Marked (FromRules (TypeFact (now (nodes .entry))) rules count (now (heads .entry)) counts) (now (masks .entry)) (now (masks .exit)) ⌝ }
+    ensures { λ _. ⌜ TypesMarked (FromRules (HeadType (now (nodes .entry))) rules count (now (heads .entry)) counts) (now (masks .entry)) (now (masks .exit)) ⌝ }
 {
     for r in 0..count {
         let start = r * MAX_HEADS;
@@ -70,7 +70,7 @@ fn mark_rules(
 
 // Passes the subject's types along one triple; says whether that changed the object's.
 fn pass(shapes: &ShapeTable, key: u64, masks: &mut [u16]) -> bool
-    requires { ⌜ CodesFit (now shapes) × Placed key × (maxCoreNodes ≤ length (now masks)) ⌝ }
+    requires { ⌜ CodesFit (now shapes) × TripleFits key × (maxCoreNodes ≤ length (now masks)) ⌝ }
     ensures { λ r. ⌜ PassShown (now (shapes .entry)) key (now (masks .entry)) (now (masks .exit)) × Progress maskRoom r (now (masks .entry)) (now (masks .exit)) ⌝ }
 {
     let s = (key / SUBJECT_ROOM) as usize;
@@ -92,8 +92,8 @@ fn round(
     passed: &mut [u16; MAX_CORE_TRIPLES],
     masks: &mut [u16],
 ) -> bool
-    requires { ⌜ CodesFit (now shapes) × AllPlaced (now triples) × (length (now triples) ≤ maxCoreTriples) × (maxCoreNodes ≤ length (now masks)) ⌝ }
-    ensures { λ r. ⌜ RoundShown (now (shapes .entry)) (now (triples .entry)) r (now (passed .entry)) (now (passed .exit)) (now (masks .entry)) (now (masks .exit)) × Progress maskRoom r (now (masks .entry)) (now (masks .exit)) ⌝ }
+    requires { ⌜ CodesFit (now shapes) × AllTriplesFit (now triples) × (length (now triples) ≤ maxCoreTriples) × (maxCoreNodes ≤ length (now masks)) ⌝ }
+    ensures { λ r. ⌜ SpreadRoundShown (now (shapes .entry)) (now (triples .entry)) r (now (passed .entry)) (now (passed .exit)) (now (masks .entry)) (now (masks .exit)) × Progress maskRoom r (now (masks .entry)) (now (masks .exit)) ⌝ }
 {
     let mut changed = false;
     for i in 0..triples.len() {
@@ -112,7 +112,7 @@ fn round(
 
 // Passes along the triples until a round adds nothing. At the start nothing has passed along any.
 fn spread(shapes: &ShapeTable, triples: &[u64], masks: &mut [u16])
-    requires { ⌜ CodesFit (now shapes) × AllPlaced (now triples) × (length (now triples) ≤ maxCoreTriples) × (maxCoreNodes ≤ length (now masks)) ⌝ }
+    requires { ⌜ CodesFit (now shapes) × AllTriplesFit (now triples) × (length (now triples) ≤ maxCoreTriples) × (maxCoreNodes ≤ length (now masks)) ⌝ }
     ensures { λ _. ⌜ SpreadFrom (now (shapes .entry)) (now (triples .entry)) (now (masks .entry)) (now (masks .exit)) ⌝ }
 {
     let mut passed = [0u16; MAX_CORE_TRIPLES];
@@ -135,7 +135,7 @@ pub fn typing(
     triples: &[u64],
     masks: &mut [u16],
 )
-    requires { ⌜ CodesFit shapes × HeadsFit rules count (now heads) counts × InOrder _<_ (now nodes) × (length (now nodes) ≤ maxCoreNodes) × KnownRules (now nodes) rules count (now heads) counts × AllPlaced (now triples) × (length (now triples) ≤ maxCoreTriples) × (maxCoreNodes ≤ length (now masks)) × (now masks ≡ zeros (length (now masks))) ⌝ }
+    requires { ⌜ CodesFit shapes × HeadsFit rules count (now heads) counts × InOrder _<_ (now nodes) × (length (now nodes) ≤ maxCoreNodes) × KnownRules (now nodes) rules count (now heads) counts × AllTriplesFit (now triples) × (length (now triples) ≤ maxCoreTriples) × (maxCoreNodes ≤ length (now masks)) × (now masks ≡ zeros (length (now masks))) ⌝ }
     ensures { λ _. ⌜ TypesAnswer shapes rules count (now (heads .entry)) counts (now (nodes .entry)) (now (triples .entry)) (now (masks .exit)) ⌝ }
 {
     mark_rules(rules, count, heads, counts, nodes, masks);

@@ -8,7 +8,7 @@ use native.Mathlib.Omega.{arith}
 use Prim.Native.Nat.{ℕ, _+_, _*_, _<_, _≤_}
 use Rattle.core.specs.Bounds.{Bounded}
 use Rattle.core.specs.Keys.{keyOf}
-use Rattle.core_lists.proofs.Proper.{Proper}
+use Rattle.core_lists.proofs.ResolvedNodes.{Proper}
 use Rattle.meaning.proofs.Lists.Members.{element}
 use Rattle.meaning.proofs.Lists.Ordered.{take-less}
 use Rattle.meaning.proofs.Lists.Places.{inside}

@@ -1,4 +1,4 @@
-pub mod Proper
+pub mod ResolvedNodes
 pub mod Keys
 pub mod Shaped
 pub mod Places

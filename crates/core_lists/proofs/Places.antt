@@ -9,9 +9,9 @@ use Prim.Native.Nat.{ℕ, _%_, _<_}
 use Rattle.core.proofs.Declared.{edge-predicate}
 use Rattle.core.proofs.Shapes.{codes-fit, tabled}
 use Rattle.core.specs.Keys.{keyOf, objectOf, predicateOf, subjectOf, tripleKey}
-use Rattle.core_lists.specs.Input.{Input, Placed}
+use Rattle.core_lists.specs.Input.{Input, CoreFits}
 use Rattle.core_lists.proofs.Keys.{key-one}
-use Rattle.core_lists.proofs.Proper.{proper}
+use Rattle.core_lists.proofs.ResolvedNodes.{proper}
 use Rattle.meaning.proofs.Lists.Bits.{mask-lt}
 use Rattle.meaning.proofs.Lists.Members.{element}
 use Rattle.meaning.proofs.Lists.Ordered.{<-strict}
@@ -30,7 +30,7 @@ use Rattle.shapes.specs.Shapes.{CodesFit, Tabled}
 
 -- ---- what the keys of a well placed core say
 
-module _ {nodes triples masks : List ℕ} (l : Placed nodes triples masks) (i : ℕ) (h : i < length triples) where
+module _ {nodes triples masks : List ℕ} (l : CoreFits nodes triples masks) (i : ℕ) (h : i < length triples) where
   pub subject-masked : subjectOf (getD triples i 0) < length masks
   subject-masked = let s = l .subject (getD triples i 0) (∈-at triples i h) in let g = l .long in omega arith
 
@@ -167,7 +167,7 @@ module _ {P : Pack} {table : List (List ℕ)} {nodes triples masks : List ℕ} (
   predicate-small e = let h = edge-predicate P (I .bounded .resolved) e in let b = I .bounded .predicates in omega arith
 
   -- the input is well placed
-  pub input-placed : Placed nodes triples masks
+  pub input-placed : CoreFits nodes triples masks
   input-placed = record {
     nodes-ascend = I .held .node-keys .ascending;
     triples-ascend = I .held .triple-keys .ascending;

@@ -3,7 +3,7 @@ use lib.ListN.{length}
 use mathlib.Core.List.{List}
 use Prim.Native.Nat.{ℕ, _+_, _<_, _≤_}
 use Rattle.core.specs.Bounds.{Bounded}
-use Rattle.core.specs.Held.{CoreHeld}
+use Rattle.core.specs.CoreHeld.{CoreHeld}
 use Rattle.core.specs.Keys.{objectOf, predicateOf, subjectOf}
 use Rattle.meaning.specs.Limits.{firstLiteral, maxCoreNodes, maxCoreTriples, maxIris, maxPredicates, maxValues}
 use Rattle.meaning.specs.Member.{_∈_}
@@ -13,7 +13,7 @@ use Rattle.meaning.specs.Tables.{ShapeTable}
 use Rattle.sets.specs.Ordered.{rankOf}
 
 -- The ends of the triples are places of nodes, and each node has its type set; refusal 9's bounds hold.
-pub record Placed (nodes triples masks : List ℕ) : Type 0 where
+pub record CoreFits (nodes triples masks : List ℕ) : Type 0 where
   pub nodes-ascend : InOrder _<_ nodes
   pub triples-ascend : InOrder _<_ triples
   pub few : length nodes ≤ maxCoreNodes

@@ -13,7 +13,7 @@ use Rattle.meaning.specs.Member.{_∈_, here, there}
 use Rattle.meaning.specs.Pack.{Row}
 use Rattle.meaning.specs.Tables.{packed}
 use Rattle.meaning.specs.WellFormed.{agree}
-use Rattle.depends.specs.Keys.{chosen, keyOf, low, named}
+use Rattle.depends.specs.Keys.{chosen, columnsKey, low, named}
 use Rattle.depends.proofs.Keying.{step}
 
 -- a row's columns, as its numbers have them
@@ -21,7 +21,7 @@ abbrev pub padded : List ℕ → List ℕ
 padded cells = take maxColumns (cells ++ replicate maxColumns unused)
 
 abbrev pub keyOfRow : ℕ → Row → ℕ
-keyOfRow m x = keyOf m (map low (padded (x .cells)))
+keyOfRow m x = columnsKey m (map low (padded (x .cells)))
 
 -- ---- equal keys
 
@@ -84,7 +84,7 @@ padded-long cells = length-take-le maxColumns (cells ++ replicate maxColumns unu
 pub keys-agree : (m : ℕ) (x y : Row) → length (x .cells) ≡ length (y .cells) → length (x .cells) ≤ maxColumns
     → Values (x .cells) → Values (y .cells)
     → eqb (keyOfRow m x) (keyOfRow m y) ≡ agree m (x .cells) (y .cells)
-unfolding keyOf packed
+unfolding columnsKey packed
 keys-agree m x y e h p q =
     folded m 0 0 (padded (x .cells)) (padded (y .cells)) (padded-long (x .cells) ∙ sym (padded-long (y .cells)))
     ∙ agree-front maxColumns m (x .cells) (y .cells) (replicate maxColumns unused) e h p q

@@ -8,7 +8,7 @@ use mathlib.Core.Path.{_≡_, sym, subst, _∙_}
 use native.Mathlib.Nat.{mul-le-mul-right, suc-mul}
 use native.Mathlib.Omega.{arith}
 use Prim.Native.Nat.{ℕ, _+_, _-_, _*_, _≤_, _<_}
-use Rattle.records.specs.Held.{Held}
+use Rattle.records.specs.PackHeld.{RecordsHeld}
 use Rattle.meaning.proofs.Lists.Places.{inside}
 use Rattle.meaning.proofs.Model.Resolved.{resolved}
 use Rattle.meaning.specs.Limits.{dependenciesAt, dependencyWidth, maxColumns, maxValues, rowWidth}
@@ -19,7 +19,7 @@ use Rattle.meaning.proofs.Lists.Parts.{slice-by, take-slice}
 use Rattle.meaning.specs.Tables.{RowsHeld}
 use Rattle.names.proofs.Good.{row-good, same-arity}
 use Rattle.names.proofs.Dependency.{dependencies-few, dependencies-many}
-use Rattle.names.specs.Given.{Resolved}
+use Rattle.names.specs.PackGiven.{Resolved}
 use Rattle.depends.specs.Answer.{DependenciesHeld, Even, SaysBroken}
 
 -- ---- rows of one relation have as many cells
@@ -37,7 +37,7 @@ module _ (P : Pack) (not-7 : dangling P ≡ false) where
 -- ---- the numbers of a pack, as they are lent
 
 -- a body's part of the numbers
-pub held-part : {A : Type 0} {N : A → List ℕ → Type 0} (w : ℕ) {xs : List A} {at : ℕ} {numbers : List ℕ} → Held N w xs at numbers → Held N w xs 0 (take (length xs * w) (drop at numbers))
+pub held-part : {A : Type 0} {N : A → List ℕ → Type 0} (w : ℕ) {xs : List A} {at : ℕ} {numbers : List ℕ} → RecordsHeld N w xs at numbers → RecordsHeld N w xs 0 (take (length xs * w) (drop at numbers))
 held-part {A} {N} w {xs} {at} {numbers} h = record {
   each = λ i x e. subst (N x) (sym (part (drop at numbers) i (length xs) (inside xs i x e))) (h .each i x e);
 }

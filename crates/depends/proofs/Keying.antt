@@ -11,7 +11,7 @@ use native.Mathlib.Omega.{arith}
 use Prim.Native.Nat.{ℕ, zero, suc, _+_, _*_, _-_, _/_, _%_, _≤_, _<_}
 use Rattle.meaning.specs.Limits.{maxColumns, maxValues}
 use Rattle.meaning.specs.Tables.{packed}
-use Rattle.depends.specs.Keys.{chosen, columnsAt, keyOf, low, named}
+use Rattle.depends.specs.Keys.{chosen, columnsAt, columnsKey, low, named}
 
 -- ---- a key fits 64 bits
 
@@ -57,20 +57,20 @@ none-chosen (x ∷ xs) = none-chosen xs
 -- the columns from c on are to be added, those that the rest of the mask names
 pub record Keying (rows : List ℕ) (mask first k rest c : ℕ) : Type 0 where
   pub inside : first + maxColumns ≤ length rows
-  pub is : foldl step k (chosen rest (drop c (columnsAt rows first))) ≡ keyOf mask (columnsAt rows first)
+  pub is : foldl step k (chosen rest (drop c (columnsAt rows first))) ≡ columnsKey mask (columnsAt rows first)
   pub low-key : k < below c
   pub before : c ≤ maxColumns
 
 pub keying-start : (rows : List ℕ) (mask first : ℕ) → first + maxColumns ≤ length rows → Keying rows mask first 0 mask 0
-unfolding below keyOf packed
+unfolding below columnsKey packed
 keying-start rows mask first h = record { inside = h; is = refl; low-key = omega arith; before = omega arith }
 
 -- no column is named any more
-pub keying-none : {rows : List ℕ} {mask first k rest c : ℕ} → Keying rows mask first k rest c → rest ≡ 0 → k ≡ keyOf mask (columnsAt rows first)
+pub keying-none : {rows : List ℕ} {mask first k rest c : ℕ} → Keying rows mask first k rest c → rest ≡ 0 → k ≡ columnsKey mask (columnsAt rows first)
 keying-none {rows} {mask} {first} {k} {rest} {c} p e =
     ap (foldl step k) (sym (ap (λ m. chosen m (drop c (columnsAt rows first))) e ∙ none-chosen (drop c (columnsAt rows first)))) ∙ p .is
 
-pub keying-done : {rows : List ℕ} {mask first k rest c : ℕ} → Keying rows mask first k rest c → maxColumns ≤ c → k ≡ keyOf mask (columnsAt rows first)
+pub keying-done : {rows : List ℕ} {mask first k rest c : ℕ} → Keying rows mask first k rest c → maxColumns ≤ c → k ≡ columnsKey mask (columnsAt rows first)
 unfolding chosen
 keying-done {rows} {mask} {first} {k} {rest} {c} p h =
     let g : length (columnsAt rows first) ≤ c = omega (arith, length-columns rows first (p .inside), h) in
@@ -80,7 +80,7 @@ module _ {rows : List ℕ} {mask first k rest c : ℕ} (p : Keying rows mask fir
   pub keying-room : k * maxValues + (maxValues - 1) < 18446744073709551616
   keying-room = omega (arith, below-more c k (maxValues - 1) (p .low-key) (omega arith), below-le (c + 1) maxColumns (omega (arith, h)), below-columns)
 
-  next : (b : Bool) → eqb (rest % 2) 0 ≡ b → foldl step k (named b (low (getD rows (first + c) 0)) (chosen (rest / 2) (drop (c + 1) (columnsAt rows first)))) ≡ keyOf mask (columnsAt rows first)
+  next : (b : Bool) → eqb (rest % 2) 0 ≡ b → foldl step k (named b (low (getD rows (first + c) 0)) (chosen (rest / 2) (drop (c + 1) (columnsAt rows first)))) ≡ columnsKey mask (columnsAt rows first)
   unfolding chosen
   next b e =
       let q : drop c (columnsAt rows first) ≡ low (getD rows (first + c) 0) ∷ drop (c + 1) (columnsAt rows first) =

@@ -1,7 +1,7 @@
 pub mod Agreeing
-pub mod Asking
+pub mod DependencyLoop
 pub mod Even
-pub mod Held
+pub mod HeldRows
+pub mod KeySearch
 pub mod Keying
 pub mod Listing
-pub mod Looking

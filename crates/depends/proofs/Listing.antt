@@ -17,9 +17,9 @@ use Rattle.meaning.specs.Tests.{any, anyTwo}
 use Rattle.meaning.specs.WellFormed.{agree, breaks}
 use Rattle.meaning.proofs.Lists.Pairs.{two-at, two-none}
 use Rattle.depends.specs.Answer.{Even, SaysBreaks}
-use Rattle.depends.specs.Keys.{columnsAt, differs, keyOf}
+use Rattle.depends.specs.Keys.{columnsAt, differs, columnsKey}
 use Rattle.depends.proofs.Agreeing.{keyOfRow, keys-agree}
-use Rattle.depends.proofs.Held.{columns-at, relation-at, rowAt, rows-counted}
+use Rattle.depends.proofs.HeldRows.{columns-at, relation-at, rowAt, rows-counted}
 
 -- ---- the rows of a dependency's relation
 
@@ -164,16 +164,16 @@ module _ {d : Dependency} {rows lefts rights : List ℕ} {count n i : ℕ} (p : 
 
     -- row i is of the relation, and these are its keys
     module _ (f : getD rows (i * rowWidth) 0 ≡ d .relation) (l r : ℕ)
-        (le : l ≡ keyOf (d .left) (columnsAt rows (i * rowWidth + 1))) (re : r ≡ keyOf (d .right) (columnsAt rows (i * rowWidth + 1))) where
+        (le : l ≡ columnsKey (d .left) (columnsAt rows (i * rowWidth + 1))) (re : r ≡ columnsKey (d .right) (columnsAt rows (i * rowWidth + 1))) where
       module _ (rs : List Row) (q : RowsHeld rs rows) (v : Even rs) where
         same : eqb (rowAt rs i .relation) (d .relation) ≡ true
         same = eq-eqb _ _ (sym (relation-at q i (inside rs q)) ∙ f)
 
         left-key : l ≡ keyOfRow (d .left) (rowAt rs i)
-        left-key = le ∙ ap (keyOf (d .left)) (columns-at q i (inside rs q))
+        left-key = le ∙ ap (columnsKey (d .left)) (columns-at q i (inside rs q))
 
         right-key : r ≡ keyOfRow (d .right) (rowAt rs i)
-        right-key = re ∙ ap (keyOf (d .right)) (columns-at q i (inside rs q))
+        right-key = re ∙ ap (columnsKey (d .right)) (columns-at q i (inside rs q))
 
         told : (x : Row) → x ∈ take i rs → eqb (x .relation) (d .relation) ≡ true → Told x (rowAt rs i)
         told x m e k =

@@ -4,7 +4,7 @@ use mathlib.Core.Bool.{Bool}
 use mathlib.Core.List.{List, []}
 use mathlib.Core.Path.{_≡_}
 use Prim.Native.Nat.{ℕ, _*_, _≤_, _<_}
-use Rattle.records.specs.Held.{BodyHeld}
+use Rattle.records.specs.PackHeld.{BodyHeld}
 use Rattle.meaning.specs.Limits.{dependencyWidth, maxColumns, maxValues}
 use Rattle.meaning.specs.Member.{_∈_}
 use Rattle.meaning.specs.Pack.{Dependency, Row}

@@ -17,8 +17,8 @@ unfoldable pub chosen : ℕ → List ℕ → List ℕ
 chosen m [] = []
 chosen m (x ∷ xs) = named (eqb (m % 2) 0) x (chosen (m / 2) xs)
 
-unfoldable pub keyOf : ℕ → List ℕ → ℕ
-keyOf m xs = packed (chosen m xs)
+unfoldable pub columnsKey : ℕ → List ℕ → ℕ
+columnsKey m xs = packed (chosen m xs)
 
 -- columns as a key has them: the number of a value is kept, and those that are unused are alike
 abbrev pub low : ℕ → ℕ

@@ -7,9 +7,9 @@ ghost use lib.ListN.{length, take};
 ghost use lib.Seq.{slice};
 ghost use Rattle.meaning.specs.Limits.{maxColumns, maxRows, rowsLength};
 ghost use Rattle.meaning.specs.WellFormed.{broken};
-ghost use Rattle.names.specs.Given.{ForResolved, IsResolved};
+ghost use Rattle.names.specs.PackGiven.{ForResolved, IsResolved};
 ghost use Rattle.depends.specs.Answer.{dependencyOf, SaysBreaks, SaysBroken};
-ghost use Rattle.depends.specs.Keys.{columnsAt, differs, hasLeft, keyOf};
+ghost use Rattle.depends.specs.Keys.{columnsAt, differs, hasLeft, columnsKey};
 use meaning::BODIES;
 use meaning::DEPENDENCIES_AT;
 use meaning::DEPENDENCIES_BODY;
@@ -30,7 +30,7 @@ pub struct Depends {
 // The columns that the mask names, as one number, where those of a row stand from a place on.
 fn key(rows: &[u16], mask: u16, first: usize) -> u64
     requires { ⌜ first + maxColumns ≤ length (now rows) ⌝ }
-    ensures { λ r. ⌜ r ≡ keyOf mask (columnsAt (now (rows .entry)) first) ⌝ }
+    ensures { λ r. ⌜ r ≡ columnsKey mask (columnsAt (now (rows .entry)) first) ⌝ }
 {
     let mut key: u64 = 0;
     let mut rest = mask;

@@ -21,7 +21,7 @@ use Rattle.meaning.specs.Limits.{nodeWidth}
 use Rattle.meaning.specs.Listing.{NodeRecord, inventedKind, kind, nodeKey}
 use Rattle.meaning.specs.Pack.{Pack, Text}
 use Rattle.meaning.proofs.Cases.{case-on}
-use Rattle.evaluate.proofs.Held.{count-is, inOrder}
+use Rattle.evaluate.proofs.HeldGraph.{count-is, inOrder}
 use Rattle.meaning.proofs.Lists.Ordered.{first-rises}
 
 -- ---- the kind of a node is the first number of its record and of its key

@@ -1,7 +1,7 @@
-pub mod Answers
+pub mod CertainAnswers
 pub mod Built
 pub mod InLists
-pub mod Held
+pub mod HeldGraph
 pub mod KindOrder
 pub mod CertainPairs
 pub mod Places

@@ -10,7 +10,7 @@ use Rattle.meaning.specs.Query.{View}
 
 module _ (G : View) (nodes : List (G .Node)) where
   -- The place n is that of a node of which Q holds.
-  pub record At (n : ℕ) (Q : G .Node → Type 0) : Type 0 where
+  pub record NodePlace (n : ℕ) (Q : G .Node → Type 0) : Type 0 where
     pub node : G .Node
     pub at : getElem? nodes n ≡ some node
     pub holds : Q node
@@ -29,8 +29,8 @@ module _ (G : View) (nodes : List (G .Node)) where
     IsNode = λ n. n < length nodes;
     Edge = λ n p m. Between n m (λ b c. G .Edge b p c);
     Names = G .Names;
-    IriLabel = λ label n. At n (G .IriLabel label);
-    LiteralLabel = λ label n. At n (G .LiteralLabel label);
+    IriLabel = λ label n. NodePlace n (G .IriLabel label);
+    LiteralLabel = λ label n. NodePlace n (G .LiteralLabel label);
   }
 
   -- The list holds each node of the graph once, and nothing else.

@@ -4,9 +4,9 @@ use mathlib.Core.List.{List, [], _∷_}
 use mathlib.Core.Option.{some}
 use mathlib.Core.Path.{_≡_}
 use Prim.Native.Nat.{ℕ, _<_}
-use Rattle.answers.specs.Graph.{Numbered}
+use Rattle.answers.specs.Graph.{NumberedGraph}
 use Rattle.answers.specs.Keys.{pairFrom, pairTo}
-use Rattle.evaluate.specs.Listed.{At, Between}
+use Rattle.evaluate.specs.Listed.{NodePlace, Between}
 use Rattle.meaning.specs.Built.{BuiltNode, core}
 use Rattle.meaning.specs.Certain.{built}
 use Rattle.meaning.specs.Core.{Node}
@@ -18,13 +18,13 @@ pub record NamedFirst (nodes : List BuiltNode) (named : ℕ) : Type 0 where
   pub core-node : (n : ℕ) → n < named → (k : Node) × (getElem? nodes n ≡ some (core k))
   pub named-place : (n : ℕ) (k : Node) → getElem? nodes n ≡ some (core k) → n < named
 
-abbrev pub byPlace : Spelling → Pack → List BuiltNode → Numbered
+abbrev pub byPlace : Spelling → Pack → List BuiltNode → NumberedGraph
 byPlace σ P nodes = record {
   count = length nodes;
   Edge = λ n p m. Between (built σ P) nodes n m (λ b c. built σ P .Edge b p c);
   Names = built σ P .Names;
-  IriLabel = λ label n. At (built σ P) nodes n (built σ P .IriLabel label);
-  LiteralLabel = λ label n. At (built σ P) nodes n (built σ P .LiteralLabel label);
+  IriLabel = λ label n. NodePlace (built σ P) nodes n (built σ P .IriLabel label);
+  LiteralLabel = λ label n. NodePlace (built σ P) nodes n (built σ P .LiteralLabel label);
 }
 
 -- a pair's number taken apart: start and end

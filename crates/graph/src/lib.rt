@@ -2,7 +2,7 @@
 ghost use lib.ListN.{length};
 ghost use Prim.Native.Nat.{_≤_};
 ghost use Rattle.graph.specs.Build.{BuildShown};
-ghost use Rattle.core_lists.specs.Input.{KeysSmall, Placed};
+ghost use Rattle.core_lists.specs.Input.{KeysSmall, CoreFits};
 ghost use Rattle.meaning.specs.Limits.{memberSets, nodeListLength, tripleListLength};
 ghost use Rattle.shapes.specs.Shapes.{CodesFit};
 use clash::find_clash;
@@ -33,7 +33,7 @@ pub fn build(
     records: &mut [u16],
     edges: &mut [u16],
 ) -> Built
-    requires { ⌜ Placed (now nodes) (now triples) (now masks) × KeysSmall (now nodes) × CodesFit shapes × (memberSets ≤ length (now flags)) × (memberSets ≤ length (now places)) × (nodeListLength ≤ length (now records)) × (tripleListLength ≤ length (now edges)) ⌝ }
+    requires { ⌜ CoreFits (now nodes) (now triples) (now masks) × KeysSmall (now nodes) × CodesFit shapes × (memberSets ≤ length (now flags)) × (memberSets ≤ length (now places)) × (nodeListLength ≤ length (now records)) × (tripleListLength ≤ length (now edges)) ⌝ }
     ensures { λ r. ⌜ BuildShown shapes arities (now (nodes .entry)) (now (triples .entry)) (now (masks .entry)) (now (records .entry)) (now (records .exit)) (now (edges .entry)) (now (edges .exit)) r ⌝ }
 {
     let found = find_clash(&shapes, nodes, triples, masks);

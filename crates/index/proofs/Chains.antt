@@ -8,7 +8,7 @@ use native.Mathlib.Decide.{decLt, ℕ-discrete}
 use native.Mathlib.Omega.{arith}
 use Prim.Native.Nat.{suc, zero, ℕ, _+_, _-_, _<_, _≤_}
 use Rattle.index.specs.Index.{ByObject, ChainReady, Met, first, later}
-use Rattle.index.specs.Triples.{objectOf}
+use Rattle.index.specs.Triples.{objectAt}
 use Rattle.meaning.specs.Limits.{maxNodes}
 
 -- Numbers fall along a chain.
@@ -43,7 +43,7 @@ met-later zero l m = absurd (omega arith)
 pub record Chained (triples last earlier : List ℕ) (k : ℕ) : Type 0 where
   pub begins : (o : ℕ) → o < maxNodes → getD last o 0 ≤ k
   pub falls : Falls earlier k
-  pub exactly : (o j : ℕ) → o < maxNodes → Met earlier (getD last o 0) j ↔ ((j < k) × (objectOf triples j ≡ o))
+  pub exactly : (o j : ℕ) → o < maxNodes → Met earlier (getD last o 0) j ↔ ((j < k) × (objectAt triples j ≡ o))
 
 pub chain-start : {triples last earlier : List ℕ} {edges : ℕ} → ChainReady edges last earlier → Chained triples last earlier 0
 chain-start {triples} {last} {earlier} r = record {
@@ -52,23 +52,23 @@ chain-start {triples} {last} {earlier} r = record {
   exactly = λ o j l. ((λ m. absurd (met-none (r .none o l) m)), (λ (h, e). absurd (omega arith)));
 }
 
-module _ {triples last earlier : List ℕ} {k : ℕ} (c : Chained triples last earlier k) (room : k < length earlier) (heads : maxNodes ≤ length last) (small : objectOf triples k < maxNodes) where
+module _ {triples last earlier : List ℕ} {k : ℕ} (c : Chained triples last earlier k) (room : k < length earlier) (heads : maxNodes ≤ length last) (small : objectAt triples k < maxNodes) where
   object : ℕ
-  object = objectOf triples k
+  object = objectAt triples k
 
   earlier′ : List ℕ
-  earlier′ = set earlier k (getD last (objectOf triples k) 0)
+  earlier′ = set earlier k (getD last (objectAt triples k) 0)
 
   last′ : List ℕ
-  last′ = set last (objectOf triples k) (k + 1)
+  last′ = set last (objectAt triples k) (k + 1)
 
-  here : getD earlier′ k 0 ≡ getD last (objectOf triples k) 0
+  here : getD earlier′ k 0 ≡ getD last (objectAt triples k) 0
   unfolding earlier′
-  here = getD-set-same earlier k (getD last (objectOf triples k) 0) 0 room
+  here = getD-set-same earlier k (getD last (objectAt triples k) 0) 0 room
 
   same : (j : ℕ) → j < k → getD earlier′ j 0 ≡ getD earlier j 0
   unfolding earlier′
-  same j l = getD-set-other earlier k j (getD last (objectOf triples k) 0) 0 (λ e. omega arith)
+  same j l = getD-set-other earlier k j (getD last (objectAt triples k) 0) 0 (λ e. omega arith)
 
   falls′ : Falls earlier′ (k + 1)
   falls′ j l = go (decLt j k)
@@ -78,20 +78,20 @@ module _ {triples last earlier : List ℕ} {k : ℕ} (c : Chained triples last e
       go (no h) =
           let p : j ≡ k = omega arith in
           let z = ap (λ x. getD earlier′ x 0) p ∙ here in
-          let b = c .begins (objectOf triples k) small in omega arith
+          let b = c .begins (objectAt triples k) small in omega arith
 
-  at-object : getD last′ (objectOf triples k) 0 ≡ suc k
+  at-object : getD last′ (objectAt triples k) 0 ≡ suc k
   unfolding last′
-  at-object = getD-set-same last (objectOf triples k) (k + 1) 0 (omega arith) ∙ omega arith
+  at-object = getD-set-same last (objectAt triples k) (k + 1) 0 (omega arith) ∙ omega arith
 
-  at-other : (o : ℕ) → (o ≡ objectOf triples k → ⊥) → getD last′ o 0 ≡ getD last o 0
+  at-other : (o : ℕ) → (o ≡ objectAt triples k → ⊥) → getD last′ o 0 ≡ getD last o 0
   unfolding last′
-  at-other o n = getD-set-other last (objectOf triples k) o (k + 1) 0 n
+  at-other o n = getD-set-other last (objectAt triples k) o (k + 1) 0 n
 
   begins′ : (o : ℕ) → o < maxNodes → getD last′ o 0 ≤ k + 1
-  begins′ o l = go (ℕ-discrete o (objectOf triples k))
+  begins′ o l = go (ℕ-discrete o (objectAt triples k))
     where
-      go : Dec (o ≡ objectOf triples k) → getD last′ o 0 ≤ k + 1
+      go : Dec (o ≡ objectAt triples k) → getD last′ o 0 ≤ k + 1
       go (yes p) = let z = ap (λ x. getD last′ x 0) p ∙ at-object in omega arith
       go (no p) = let z = at-other o p in let b = c .begins o l in omega arith
 
@@ -102,21 +102,21 @@ module _ {triples last earlier : List ℕ} {k : ℕ} (c : Chained triples last e
   back : (o j : ℕ) → o < maxNodes → Met earlier′ (getD last o 0) j → Met earlier (getD last o 0) j
   back o j l m = met-kept (λ i h. let z = falls′ i (omega arith) in z) (c .begins o l) (λ i h. sym (same i h)) m
 
-  exactly′ : (o j : ℕ) → o < maxNodes → Met earlier′ (getD last′ o 0) j ↔ ((j < k + 1) × (objectOf triples j ≡ o))
-  exactly′ o j l = go (ℕ-discrete o (objectOf triples k))
+  exactly′ : (o j : ℕ) → o < maxNodes → Met earlier′ (getD last′ o 0) j ↔ ((j < k + 1) × (objectAt triples j ≡ o))
+  exactly′ o j l = go (ℕ-discrete o (objectAt triples k))
     where
-      from-split : o ≡ objectOf triples k → (j ≡ suc k - 1) ⊎ Met earlier′ (getD earlier′ (suc k - 1) 0) j → (j < k + 1) × (objectOf triples j ≡ o)
-      from-split p (inl e) = let q : j ≡ k = omega arith in (omega arith, ap (λ x. objectOf triples x) q ∙ sym p)
+      from-split : o ≡ objectAt triples k → (j ≡ suc k - 1) ⊎ Met earlier′ (getD earlier′ (suc k - 1) 0) j → (j < k + 1) × (objectAt triples j ≡ o)
+      from-split p (inl e) = let q : j ≡ k = omega arith in (omega arith, ap (λ x. objectAt triples x) q ∙ sym p)
       from-split p (inr m) =
           let q : suc k - 1 ≡ k = omega arith in
-          let x = c .exactly (objectOf triples k) j small .0 (back (objectOf triples k) j small (subst (λ y. Met earlier′ y j) (ap (λ y. getD earlier′ y 0) q ∙ here) m)) in
+          let x = c .exactly (objectAt triples k) j small .0 (back (objectAt triples k) j small (subst (λ y. Met earlier′ y j) (ap (λ y. getD earlier′ y 0) q ∙ here) m)) in
           (let h = x .0 in omega arith, x .1 ∙ sym p)
 
-      into : o ≡ objectOf triples k → (j < k + 1) → objectOf triples j ≡ o → Dec (j ≡ k) → Met earlier′ (suc k) j
+      into : o ≡ objectAt triples k → (j < k + 1) → objectAt triples j ≡ o → Dec (j ≡ k) → Met earlier′ (suc k) j
       into p h e (yes q) = subst (λ y. Met earlier′ (suc k) y) (sym q) first
-      into p h e (no q) = later (subst (λ y. Met earlier′ y j) (sym here) (forth (objectOf triples k) j small (c .exactly (objectOf triples k) j small .1 (omega arith, e ∙ p))))
+      into p h e (no q) = later (subst (λ y. Met earlier′ y j) (sym here) (forth (objectAt triples k) j small (c .exactly (objectAt triples k) j small .1 (omega arith, e ∙ p))))
 
-      go : Dec (o ≡ objectOf triples k) → Met earlier′ (getD last′ o 0) j ↔ ((j < k + 1) × (objectOf triples j ≡ o))
+      go : Dec (o ≡ objectAt triples k) → Met earlier′ (getD last′ o 0) j ↔ ((j < k + 1) × (objectAt triples j ≡ o))
       go (yes p) =
           let z : getD last′ o 0 ≡ suc k = ap (λ x. getD last′ x 0) p ∙ at-object in
           ((λ m. from-split p (met-split (subst (λ y. Met earlier′ y j) z m))), (λ (h, e). subst (λ y. Met earlier′ y j) (sym z) (into p h e (ℕ-discrete j k))))
@@ -126,11 +126,11 @@ module _ {triples last earlier : List ℕ} {k : ℕ} (c : Chained triples last e
             (λ (h, e). subst (λ y. Met earlier′ y j) (sym z) (forth o j l (c .exactly o j l .1 (before h e (ℕ-discrete j k), e)))),
           )
         where
-          before : (j < k + 1) → objectOf triples j ≡ o → Dec (j ≡ k) → j < k
-          before h e (yes q) = absurd (p (sym e ∙ ap (λ x. objectOf triples x) q))
+          before : (j < k + 1) → objectAt triples j ≡ o → Dec (j ≡ k) → j < k
+          before h e (yes q) = absurd (p (sym e ∙ ap (λ x. objectAt triples x) q))
           before h e (no q) = omega arith
 
-  pub chain-again : Chained triples (set last (objectOf triples k) (k + 1)) (set earlier k (getD last (objectOf triples k) 0)) (k + 1)
+  pub chain-again : Chained triples (set last (objectAt triples k) (k + 1)) (set earlier k (getD last (objectAt triples k) 0)) (k + 1)
   unfolding earlier′ last′
   chain-again = record { begins = begins′; falls = falls′; exactly = exactly′ }
 

@@ -7,7 +7,7 @@ use native.Mathlib.Decide.{decLt, ℕ-discrete}
 use native.Mathlib.Omega.{arith}
 use Prim.Native.Nat.{suc, zero, ℕ, _+_, _-_, _<_, _≤_}
 use Rattle.index.specs.Index.{BySubject, SkippedTo, SubjectRange, SubjectsBelow}
-use Rattle.index.specs.Triples.{SubjectsRise, subjectOf}
+use Rattle.index.specs.Triples.{SubjectsRise, subjectAt}
 use Rattle.meaning.specs.Limits.{maxNodes}
 
 -- ---- one number
@@ -15,19 +15,19 @@ use Rattle.meaning.specs.Limits.{maxNodes}
 pub record Skipping (triples : List ℕ) (edges k n r : ℕ) : Type 0 where
   pub from : k ≤ r
   pub inside : r ≤ edges
-  pub below : (j : ℕ) → k ≤ j → j < r → subjectOf triples j < n
+  pub below : (j : ℕ) → k ≤ j → j < r → subjectAt triples j < n
 
 pub skip-start : {triples : List ℕ} {edges k n : ℕ} → k ≤ edges → Skipping triples edges k n k
 skip-start l = record { from = omega arith; inside = l; below = λ j g h. absurd (omega arith) }
 
-pub skip-again : {triples : List ℕ} {edges k n r : ℕ} → Skipping triples edges k n r → r < edges → subjectOf triples r < n → Skipping triples edges k n (r + 1)
+pub skip-again : {triples : List ℕ} {edges k n r : ℕ} → Skipping triples edges k n r → r < edges → subjectAt triples r < n → Skipping triples edges k n (r + 1)
 skip-again {triples} {edges} {k} {n} {r} s l h = record { from = let a = s .from in omega arith; inside = omega arith; below = λ j g e. go j g e (decLt j r) }
   where
-    go : (j : ℕ) → k ≤ j → j < r + 1 → Dec (j < r) → subjectOf triples j < n
+    go : (j : ℕ) → k ≤ j → j < r + 1 → Dec (j < r) → subjectAt triples j < n
     go j g e (yes w) = s .below j g w
-    go j g e (no w) = let p : r ≡ j = omega arith in subst (λ x. subjectOf triples x < n) p h
+    go j g e (no w) = let p : r ≡ j = omega arith in subst (λ x. subjectAt triples x < n) p h
 
-pub skip-found : {triples : List ℕ} {edges k n r : ℕ} → Skipping triples edges k n r → n ≤ subjectOf triples r → SkippedTo triples edges k n r
+pub skip-found : {triples : List ℕ} {edges k n r : ℕ} → Skipping triples edges k n r → n ≤ subjectAt triples r → SkippedTo triples edges k n r
 skip-found s h = record { from = s .from; inside = s .inside; below = s .below; stops = λ l. h }
 
 pub skip-end : {triples : List ℕ} {edges k n r : ℕ} → Skipping triples edges k n r → edges ≤ r → SkippedTo triples edges k n r
@@ -35,18 +35,18 @@ skip-end s h = record { from = s .from; inside = s .inside; below = s .below; st
 
 -- ---- all numbers
 
-risen : (triples : List ℕ) (edges : ℕ) → SubjectsRise triples edges → (r d : ℕ) → r + d < edges → subjectOf triples r ≤ subjectOf triples (r + d)
-risen triples edges up r zero l = let e : r ≡ r + 0 = omega arith in subst (λ x. subjectOf triples r ≤ subjectOf triples x) e (omega arith)
+risen : (triples : List ℕ) (edges : ℕ) → SubjectsRise triples edges → (r d : ℕ) → r + d < edges → subjectAt triples r ≤ subjectAt triples (r + d)
+risen triples edges up r zero l = let e : r ≡ r + 0 = omega arith in subst (λ x. subjectAt triples r ≤ subjectAt triples x) e (omega arith)
 risen triples edges up r (suc d) l =
     let h = risen triples edges up r d (omega arith) in
     let g = up (r + d) (omega arith) in
     let e : r + d + 1 ≡ r + suc d = omega arith in
-    subst (λ x. subjectOf triples r ≤ subjectOf triples x) e (omega arith)
+    subst (λ x. subjectAt triples r ≤ subjectAt triples x) e (omega arith)
 
 -- first is counted below n, and k are below n - 1 at least.
 pub record Counting (triples : List ℕ) (edges : ℕ) (first : List ℕ) (k n : ℕ) : Type 0 where
   pub inside : k ≤ edges
-  pub low : (j : ℕ) → j < k → subjectOf triples j < n
+  pub low : (j : ℕ) → j < k → subjectAt triples j < n
   pub counts : (m : ℕ) → m < n → SubjectsBelow triples edges m (getD first m 0)
 
 pub count-start : {triples first : List ℕ} {edges : ℕ} → Counting triples edges first 0 0
@@ -59,19 +59,19 @@ count-again {triples} {first} {edges} {k} {n} {r} up room c s = record {
   counts = λ m l. go m l (ℕ-discrete m n);
 }
   where
-    low′ : (j : ℕ) → j < r → subjectOf triples j < n
+    low′ : (j : ℕ) → j < r → subjectAt triples j < n
     low′ j l = by (decLt j k)
       where
-        by : Dec (j < k) → subjectOf triples j < n
+        by : Dec (j < k) → subjectAt triples j < n
         by (yes h) = c .low j h
         by (no h) = s .below j (omega arith) l
 
-    high : (j : ℕ) → r ≤ j → j < edges → n ≤ subjectOf triples j
+    high : (j : ℕ) → r ≤ j → j < edges → n ≤ subjectAt triples j
     high j g l =
         let a = s .stops (omega arith) in
         let b = risen triples edges up r (j - r) (omega arith) in
         let e : r + (j - r) ≡ j = omega arith in
-        let h : subjectOf triples r ≤ subjectOf triples j = subst (λ x. subjectOf triples r ≤ subjectOf triples x) e b in
+        let h : subjectAt triples r ≤ subjectAt triples j = subst (λ x. subjectAt triples r ≤ subjectAt triples x) e b in
         omega arith
 
     go : (m : ℕ) → m < n + 1 → Dec (m ≡ n) → SubjectsBelow triples edges m (getD (set first n r) m 0)
@@ -95,14 +95,14 @@ subject-range {triples} {first} {edges} n l b = record {
     hi : SubjectsBelow triples edges (n + 1) (getD first (n + 1) 0)
     hi = b .counts (n + 1) (omega arith)
 
-    equal : (k : ℕ) → getD first n 0 ≤ k → k < getD first (n + 1) 0 → subjectOf triples k ≡ n
+    equal : (k : ℕ) → getD first n 0 ≤ k → k < getD first (n + 1) 0 → subjectAt triples k ≡ n
     equal k g h = let a = hi .below k h in let i = hi .inside in let c = lo .above k g (omega arith) in omega arith
 
-    from : (k : ℕ) → k < edges → subjectOf triples k ≡ n → Dec (k < getD first n 0) → getD first n 0 ≤ k
+    from : (k : ℕ) → k < edges → subjectAt triples k ≡ n → Dec (k < getD first n 0) → getD first n 0 ≤ k
     from k h e (yes g) = let a = lo .below k g in absurd (omega arith)
     from k h e (no g) = omega arith
 
-    upto : (k : ℕ) → k < edges → subjectOf triples k ≡ n → Dec (k < getD first (n + 1) 0) → k < getD first (n + 1) 0
+    upto : (k : ℕ) → k < edges → subjectAt triples k ≡ n → Dec (k < getD first (n + 1) 0) → k < getD first (n + 1) 0
     upto k h e (yes g) = g
     upto k h e (no g) = let a = hi .above k (omega arith) h in absurd (omega arith)
 

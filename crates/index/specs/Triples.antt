@@ -7,22 +7,22 @@ use Rattle.meaning.specs.Limits.{maxNodes, maxTriples}
 
 -- ---- "A triple is three 16-bit numbers: subject, predicate, object"
 
-abbrev pub subjectOf : List ℕ → ℕ → ℕ
-subjectOf triples k = getD triples (k * 3) 0
+abbrev pub subjectAt : List ℕ → ℕ → ℕ
+subjectAt triples k = getD triples (k * 3) 0
 
-abbrev pub predicateOf : List ℕ → ℕ → ℕ
-predicateOf triples k = getD triples (k * 3 + 1) 0
+abbrev pub predicateAt : List ℕ → ℕ → ℕ
+predicateAt triples k = getD triples (k * 3 + 1) 0
 
-abbrev pub objectOf : List ℕ → ℕ → ℕ
-objectOf triples k = getD triples (k * 3 + 2) 0
+abbrev pub objectAt : List ℕ → ℕ → ℕ
+objectAt triples k = getD triples (k * 3 + 2) 0
 
 -- One of the first `edges` triples.
 pub record TripleIn (triples : List ℕ) (edges s p o : ℕ) : Type 0 where
   pub at : ℕ
   pub inside : at < edges
-  pub subject : subjectOf triples at ≡ s
-  pub predicate : predicateOf triples at ≡ p
-  pub object : objectOf triples at ≡ o
+  pub subject : subjectAt triples at ≡ s
+  pub predicate : predicateAt triples at ≡ p
+  pub object : objectAt triples at ≡ o
 
 -- ---- their bounds
 
@@ -31,9 +31,9 @@ pub record GraphFits (nodes edges : ℕ) (triples : List ℕ) : Type 0 where
   pub few-nodes : nodes ≤ maxNodes
   pub few-edges : edges ≤ maxTriples
   pub whole : edges * 3 ≤ length triples
-  pub subjects : (k : ℕ) → k < edges → subjectOf triples k < nodes
-  pub objects : (k : ℕ) → k < edges → objectOf triples k < nodes
+  pub subjects : (k : ℕ) → k < edges → subjectAt triples k < nodes
+  pub objects : (k : ℕ) → k < edges → objectAt triples k < nodes
 
 -- The subjects of the triples do not fall: a part of their ascending order.
 abbrev pub SubjectsRise : List ℕ → ℕ → Type 0
-SubjectsRise triples edges = (k : ℕ) → k + 1 < edges → subjectOf triples k ≤ subjectOf triples (k + 1)
+SubjectsRise triples edges = (k : ℕ) → k + 1 < edges → subjectAt triples k ≤ subjectAt triples (k + 1)

@@ -13,7 +13,7 @@ use native.Mathlib.Omega.{arith}
 use Prim.Native.Nat.{ℕ, _+_, _%_, _<_}
 use Rattle.core.specs.Keys.{keyOf, originAt, predicateOf, subjectOf, tripleKey}
 use Rattle.core_lists.specs.Input.{Input}
-use Rattle.invent.specs.Invent.{Follows, InventedSets, Lacks, Leads, Marked, Upto, follows, marked, setAt}
+use Rattle.invent.specs.Invent.{Follows, InventedSets, Lacks, Leads, FlagsMarked, Upto, follows, marked, setAt}
 use Rattle.core_lists.proofs.Places.{edge-at, edge-key, masked, node-at, place-of, place-small, requires-masked, same-node-at, targets-masked, masked-targets, well}
 use Rattle.core_lists.specs.Origin.{HasOrigin}
 use Rattle.invent.proofs.SetNumbers.{number-one}
@@ -102,7 +102,7 @@ module _ {P : Pack} {table : List (List ℕ)} {nodes triples masks : List ℕ} (
       })
 
   module _ {zero-flags flags : List ℕ} (start : (j : ℕ) → getD zero-flags j 0 ≡ 1 → ⊥)
-      (m : Marked (Upto (λ s. Upto (Lacks P triples s (getD masks s 0)) maxPredicates) (length nodes)) zero-flags flags) where
+      (m : FlagsMarked (Upto (λ s. Upto (Lacks P triples s (getD masks s 0)) maxPredicates) (length nodes)) zero-flags flags) where
     seeded-built : (j : ℕ) → (getD zero-flags j 0 ≡ 1) ⊎ Upto (λ s. Upto (Lacks P triples s (getD masks s 0)) maxPredicates) (length nodes) j
         → (j < memberSets) × IsBuilt P (invented (setAt j))
     seeded-built j (inl e) = absurd (start j e)

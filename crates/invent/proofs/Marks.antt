@@ -11,7 +11,7 @@ use native.Mathlib.Decide.{ℕ-discrete}
 use native.Mathlib.Nat.{le-of-suc-le-suc, not-suc-le-zero}
 use native.Mathlib.Omega.{arith}
 use Prim.Native.Nat.{ℕ, zero, suc, _+_, _%_, _^_, _<_, _≤_}
-use Rattle.invent.specs.Invent.{Leads, Marked, MarksTargets, Upto, numberOf, unset, setAt}
+use Rattle.invent.specs.Invent.{Leads, FlagsMarked, MarksTargets, Upto, numberOf, unset, setAt}
 use Rattle.core_lists.proofs.Places.{types-below}
 use Rattle.invent.proofs.SetNumbers.{number-lt, number-one, number-set}
 use Rattle.core_lists.proofs.Shaped.{requires-shape, targets-shape}
@@ -35,7 +35,7 @@ unset-set (x ∷ xs) (suc j) h n = let r = unset-set xs j (le-of-suc-le-suc h) n
 
 -- ---- what is marked
 
-pub marked-none : {Q : ℕ → Type 0} (d : List ℕ) → ((j : ℕ) → ¬ Q j) → Marked Q d d
+pub marked-none : {Q : ℕ → Type 0} (d : List ℕ) → ((j : ℕ) → ¬ Q j) → FlagsMarked Q d d
 marked-none {Q} d n = record { marks = λ j. (λ e. inl e, back j) }
   where
     back : (j : ℕ) → (getD d j 0 ≡ 1) ⊎ Q j → getD d j 0 ≡ 1
@@ -43,14 +43,14 @@ marked-none {Q} d n = record { marks = λ j. (λ e. inl e, back j) }
     back j (inr q) = absurd (n j q)
 
 -- Q is of one number at most, and that is marked
-pub marked-old : {Q : ℕ → Type 0} (d : List ℕ) (n : ℕ) → getD d n 0 ≡ 1 → ((j : ℕ) → Q j → j ≡ n) → Marked Q d d
+pub marked-old : {Q : ℕ → Type 0} (d : List ℕ) (n : ℕ) → getD d n 0 ≡ 1 → ((j : ℕ) → Q j → j ≡ n) → FlagsMarked Q d d
 marked-old {Q} d n e only = record { marks = λ j. (λ m. inl m, back j) }
   where
     back : (j : ℕ) → (getD d j 0 ≡ 1) ⊎ Q j → getD d j 0 ≡ 1
     back j (inl m) = m
     back j (inr q) = rw (only j q) e
 
-pub marked-new : {Q : ℕ → Type 0} (d : List ℕ) (n : ℕ) → n < length d → Q n → ((j : ℕ) → Q j → j ≡ n) → Marked Q d (set d n 1)
+pub marked-new : {Q : ℕ → Type 0} (d : List ℕ) (n : ℕ) → n < length d → Q n → ((j : ℕ) → Q j → j ≡ n) → FlagsMarked Q d (set d n 1)
 marked-new {Q} d n h q only = record { marks = λ j. (forth j (ℕ-discrete j n), back j (ℕ-discrete j n)) }
   where
     forth : (j : ℕ) → Dec (j ≡ n) → getD (set d n 1) j 0 ≡ 1 → (getD d j 0 ≡ 1) ⊎ Q j
@@ -64,10 +64,10 @@ marked-new {Q} d n h q only = record { marks = λ j. (forth j (ℕ-discrete j n)
 
 -- ---- a loop that marks Q at one number after the other
 
-pub upto-start : {Q : ℕ → ℕ → Type 0} (d : List ℕ) → Marked (Upto Q 0) d d
+pub upto-start : {Q : ℕ → ℕ → Type 0} (d : List ℕ) → FlagsMarked (Upto Q 0) d d
 upto-start d = marked-none d (λ j u. not-suc-le-zero (u .below))
 
-pub upto-again : {Q : ℕ → ℕ → Type 0} {n : ℕ} {d₀ d d′ : List ℕ} → Marked (Upto Q n) d₀ d → Marked (Q n) d d′ → Marked (Upto Q (n + 1)) d₀ d′
+pub upto-again : {Q : ℕ → ℕ → Type 0} {n : ℕ} {d₀ d d′ : List ℕ} → FlagsMarked (Upto Q n) d₀ d → FlagsMarked (Q n) d d′ → FlagsMarked (Upto Q (n + 1)) d₀ d′
 upto-again {Q} {n} {d₀} {d} {d′} m s = record { marks = λ j. (λ e. forth j (s .marks j .0 e), λ e. s .marks j .1 (back j e)) }
   where
     more : (j : ℕ) → Upto Q n j → Upto Q (n + 1) j
@@ -119,7 +119,7 @@ module _ (table : List (List ℕ)) (mask p : ℕ) (d : List ℕ) where
     newly n e l f =
         let small = number-lt m m-lt in (
           unset-set d n (omega arith) f,
-          λ P h. subst (λ x. Marked (Leads P (invented (setOfMask mask)) p) d (set d x 1)) (sym e)
+          λ P h. subst (λ x. FlagsMarked (Leads P (invented (setOfMask mask)) p) d (set d x 1)) (sym e)
               (marked-new d (numberOf m) (omega arith)
               (record { small = small; needs = requires-shape P mask p .0 (rs (P .setting) h .0 (subst T (sym yes′) tt)); targets = targets-set P h }) (only P h)),
         )

@@ -34,7 +34,7 @@ pub record Leads (P : Pack) (b : BuiltNode) (p j : ℕ) : Type 0 where
   pub targets : PTargets P b p (setAt j)
 
 -- After, the flags are those of before and those of Q.
-pub record Marked (Q : ℕ → Type 0) (before after : List ℕ) : Type 0 where
+pub record FlagsMarked (Q : ℕ → Type 0) (before after : List ℕ) : Type 0 where
   pub marks : (j : ℕ) → (getD after j 0 ≡ 1) ↔ ((getD before j 0 ≡ 1) ⊎ Q j)
 
 -- Q at some number below n
@@ -50,16 +50,16 @@ unset (x ∷ xs) = cond (eqb x 1) 0 1 + unset xs
 
 module _ (table : List (List ℕ)) where
   abbrev pub MarksTargets : ℕ → ℕ → List ℕ → List ℕ → Type 0
-  MarksTargets mask p before after = (P : Pack) → Tabled (P .setting) table → Marked (Leads P (invented (setOfMask mask)) p) before after
+  MarksTargets mask p before after = (P : Pack) → Tabled (P .setting) table → FlagsMarked (Leads P (invented (setOfMask mask)) p) before after
 
   abbrev pub MarksAll : ℕ → List ℕ → List ℕ → Type 0
   MarksAll mask before after =
-      (P : Pack) → Tabled (P .setting) table → Marked (Upto (Leads P (invented (setOfMask mask))) maxPredicates) before after
+      (P : Pack) → Tabled (P .setting) table → FlagsMarked (Upto (Leads P (invented (setOfMask mask))) maxPredicates) before after
 
   -- if the set is marked
   abbrev pub MarksFollowing : ℕ → List ℕ → List ℕ → Type 0
   MarksFollowing n before after =
-      (P : Pack) → Tabled (P .setting) table → Marked (λ j. (getD before n 0 ≡ 1) × Upto (Leads P (invented (setAt n))) maxPredicates j) before after
+      (P : Pack) → Tabled (P .setting) table → FlagsMarked (λ j. (getD before n 0 ≡ 1) × Upto (Leads P (invented (setAt n))) maxPredicates j) before after
 
 -- ---- what follows from the sets that are marked
 
@@ -68,13 +68,13 @@ pub data Follows (P : Pack) (flags : List ℕ) : ℕ → Type 0 where
   marked : {j : ℕ} → getD flags j 0 ≡ 1 → Follows P flags j
   follows : {i j p : ℕ} → Follows P flags i → i < memberSets → p < maxPredicates → Leads P (invented (setAt i)) p j → Follows P flags j
 
-pub record Round (P : Pack) (before after : List ℕ) : Type 0 where
+pub record InventRound (P : Pack) (before after : List ℕ) : Type 0 where
   pub sound : (j : ℕ) → getD after j 0 ≡ 1 → Follows P before j
   pub keeps : (j : ℕ) → getD before j 0 ≡ 1 → getD after j 0 ≡ 1
   pub passes : (i p j : ℕ) → i < memberSets → p < maxPredicates → getD before i 0 ≡ 1 → Leads P (invented (setAt i)) p j → getD after j 0 ≡ 1
 
-abbrev pub RoundShown : List (List ℕ) → List ℕ → List ℕ → Type 0
-RoundShown table before after = (P : Pack) → Tabled (P .setting) table → Round P before after
+abbrev pub InventRoundShown : List (List ℕ) → List ℕ → List ℕ → Type 0
+InventRoundShown table before after = (P : Pack) → Tabled (P .setting) table → InventRound P before after
 
 abbrev pub CloseShown : List (List ℕ) → List ℕ → List ℕ → Type 0
 CloseShown table before after = (P : Pack) → Tabled (P .setting) table → (j : ℕ) → (getD after j 0 ≡ 1) ↔ Follows P before j
@@ -88,16 +88,16 @@ pub record Lacks (P : Pack) (triples : List ℕ) (s mask p j : ℕ) : Type 0 whe
 
 abbrev pub SeedShown : List (List ℕ) → List ℕ → ℕ → ℕ → ℕ → List ℕ → List ℕ → Type 0
 SeedShown table triples s mask p before after =
-    (P : Pack) → Tabled (P .setting) table → Marked (Lacks P triples s mask p) before after
+    (P : Pack) → Tabled (P .setting) table → FlagsMarked (Lacks P triples s mask p) before after
 
 abbrev pub SeedNodeShown : List (List ℕ) → List ℕ → ℕ → ℕ → List ℕ → List ℕ → Type 0
 SeedNodeShown table triples s mask before after =
-    (P : Pack) → Tabled (P .setting) table → Marked (Upto (Lacks P triples s mask) maxPredicates) before after
+    (P : Pack) → Tabled (P .setting) table → FlagsMarked (Upto (Lacks P triples s mask) maxPredicates) before after
 
 abbrev pub SeedsShown : List (List ℕ) → List ℕ → List ℕ → List ℕ → List ℕ → List ℕ → Type 0
 SeedsShown table nodes triples masks before after =
     (P : Pack) → Tabled (P .setting) table
-    → Marked (Upto (λ s. Upto (Lacks P triples s (getD masks s 0)) maxPredicates) (length nodes)) before after
+    → FlagsMarked (Upto (λ s. Upto (Lacks P triples s (getD masks s 0)) maxPredicates) (length nodes)) before after
 
 -- A flag is set exactly if the invented node of its set is built.
 pub record InventedSets (P : Pack) (flags : List ℕ) : Type 0 where

@@ -4,9 +4,9 @@ ghost use mathlib.Core.Bool.{true};
 ghost use mathlib.Core.Path.{_≡_};
 ghost use Prim.Native.Nat.{_+_, _*_, _<_, _≤_};
 ghost use Rattle.core.specs.Keys.{originAt};
-ghost use Rattle.core_lists.specs.Input.{Placed};
+ghost use Rattle.core_lists.specs.Input.{CoreFits};
 ghost use Rattle.core_lists.specs.Origin.{keysBefore};
-ghost use Rattle.invent.specs.Invent.{CloseShown, InventShown, MarksAll, MarksFollowing, MarksTargets, maskOf, numberOf, RoundShown, SeedNodeShown, SeedShown, SeedsShown, unset};
+ghost use Rattle.invent.specs.Invent.{CloseShown, InventShown, MarksAll, MarksFollowing, MarksTargets, maskOf, numberOf, InventRoundShown, SeedNodeShown, SeedShown, SeedsShown, unset};
 ghost use Rattle.meaning.specs.Limits.{maxCoreNodes, maxPredicates, memberSets};
 ghost use Rattle.meaning.specs.Ordered.{InOrder};
 ghost use Rattle.meaning.specs.Pack.{requires as Requires};
@@ -96,7 +96,7 @@ fn mark_following(shapes: &ShapeTable, j: usize, flags: &mut [u16]) -> bool
 // Marks what follows from each marked set; says whether anything is new.
 fn round(shapes: &ShapeTable, flags: &mut [u16]) -> bool
     requires { ⌜ (memberSets ≤ length (now flags)) × CodesFit (now shapes) ⌝ }
-    ensures { λ r. ⌜ Progress unset r (now (flags .entry)) (now (flags .exit)) × RoundShown (now (shapes .entry)) (now (flags .entry)) (now (flags .exit)) ⌝ }
+    ensures { λ r. ⌜ Progress unset r (now (flags .entry)) (now (flags .exit)) × InventRoundShown (now (shapes .entry)) (now (flags .entry)) (now (flags .exit)) ⌝ }
 {
     let mut changed = false;
     for j in 0..MEMBER_SETS {
@@ -178,7 +178,7 @@ fn seed_node(
 
 // The same for every core node.
 fn seed(shapes: &ShapeTable, nodes: &[u64], triples: &[u64], masks: &[u16], flags: &mut [u16])
-    requires { ⌜ Placed (now nodes) (now triples) (now masks) × (memberSets ≤ length (now flags)) × CodesFit (now shapes) ⌝ }
+    requires { ⌜ CoreFits (now nodes) (now triples) (now masks) × (memberSets ≤ length (now flags)) × CodesFit (now shapes) ⌝ }
     ensures { λ _. ⌜ SeedsShown (now (shapes .entry)) (now (nodes .entry)) (now (triples .entry)) (now (masks .entry)) (now (flags .entry)) (now (flags .exit)) ⌝ }
 {
     let mut at = 0;
@@ -189,7 +189,7 @@ fn seed(shapes: &ShapeTable, nodes: &[u64], triples: &[u64], masks: &[u16], flag
 
 // The sets of the invented nodes: what the core leads to, and what follows.
 pub fn invent(shapes: &ShapeTable, nodes: &[u64], triples: &[u64], masks: &[u16], flags: &mut [u16])
-    requires { ⌜ Placed (now nodes) (now triples) (now masks) × (memberSets ≤ length (now flags)) × CodesFit (now shapes) ⌝ }
+    requires { ⌜ CoreFits (now nodes) (now triples) (now masks) × (memberSets ≤ length (now flags)) × CodesFit (now shapes) ⌝ }
     ensures { λ _. ⌜ InventShown (now (shapes .entry)) (now (nodes .entry)) (now (triples .entry)) (now (masks .entry)) (now (flags .exit)) ⌝ }
 {
     clear_u16(flags);

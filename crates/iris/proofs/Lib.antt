@@ -1,5 +1,5 @@
 pub mod Loaded
-pub mod Parts
+pub mod Segments
 pub mod ArgumentsRead
 pub mod IriRead
-pub mod Answer
+pub mod SpelledIsRead

@@ -6,7 +6,7 @@ use mathlib.Core.Path.{_≡_, sym, ap, subst, _∙_}
 use native.Mathlib.Omega.{arith}
 use Prim.Native.Nat.{ℕ, _*_, _+_, _-_, _<_, _≤_}
 use Rattle.checks.specs.Checked.{SettingLoaded}
-use Rattle.records.specs.Held.{SettingHeld}
+use Rattle.records.specs.PackHeld.{SettingHeld}
 use Rattle.records.specs.Numbers.{TextAt}
 use Rattle.meaning.proofs.Lists.Members.{element}
 use Rattle.meaning.proofs.Lists.Places.{there-is}
@@ -14,7 +14,7 @@ use Rattle.meaning.specs.Limits.{constructorWidth, constructorsAt, maxArguments
 use Rattle.meaning.specs.Pack.{Constructor, Pack, Text}
 use Rattle.names.proofs.Counted.{constructors-few, count-at, held-at}
 use Rattle.meaning.proofs.Lists.Parts.{first-at, number-at, slice-by}
-use Rattle.names.specs.Given.{SettingGiven}
+use Rattle.names.specs.PackGiven.{SettingGiven}
 use Rattle.pack.proofs.Order.{one-pack}
 use Rattle.pack.proofs.Reading.{length-at}
 use Rattle.pack.specs.Checked.{OfPack}

@@ -1,6 +1,6 @@
 -- Laws of loaded numbers. Assumes nothing.
-pub mod Windows
+pub mod HeldRecords
 pub mod Loading
 pub mod Places
-pub mod Parts
+pub mod LoadedBody
 pub mod Packs

@@ -12,15 +12,15 @@ use Rattle.load.specs.Loaded.{BodyLoaded}
 use Rattle.pack.proofs.Bodies.{less, all-end, all-on, all-stop, readAll-on, shrinks-of}
 use Rattle.pack.specs.Kinds.{RecordOf, readerOf}
 use Rattle.pack.specs.Readers.{Read, Reader}
-use Rattle.pack.specs.Shown.{Not, Placed, left}
+use Rattle.pack.specs.Shown.{Not, CursorIn, left}
 use Rattle.pack.specs.Unpack.{also, atMost, body, readAll}
 use Rattle.pack.specs.declared.cursor.Cursor.{Cursor}
 use Rattle.pack.specs.declared.kinds.Kind.{Kind}
-use Rattle.records.specs.Held.{BodyHeld, width}
-use Rattle.records.specs.Kept.{Kept}
+use Rattle.records.specs.PackHeld.{BodyHeld, width}
+use Rattle.records.specs.Kept.{RecordKept}
 use Rattle.records.specs.Numbers.{NumbersOf}
 use Rattle.records.proofs.Putting.{put-long}
-use Rattle.load.proofs.Windows.{held-more, held-none}
+use Rattle.load.proofs.HeldRecords.{held-more, held-none}
 use Rattle.meaning.proofs.Lists.Blocks.{record-end}
 
 -- records before others, where these are whole
@@ -38,7 +38,7 @@ before-on {A} done a (some xs) = ap {B = Option (List A)} some (sym (append-asso
 
 -- the records of `done` are held, and with those from c on they are all
 pub record Loading (k : Kind) (s : List ℕ) (c₀ : Cursor) (limit : ℕ) (out₀ out : List ℕ) (n at : ℕ) (c : Cursor) : Type 0 where
-  pub placed : Placed s c
+  pub placed : CursorIn s c
   pub done : List (RecordOf k)
   pub many : n ≡ length done
   pub few : n ≤ limit
@@ -47,7 +47,7 @@ pub record Loading (k : Kind) (s : List ℕ) (c₀ : Cursor) (limit : ℕ) (out�
   pub held : BodyHeld k s done 0 out
   pub all : readAll (readerOf k) (left s c₀) ≡ before done (readAll (readerOf k) (left s c))
 
-pub loading-start : (k : Kind) {s : List ℕ} {c : Cursor} (limit : ℕ) (out : List ℕ) → Placed s c → Loading k s c limit out out 0 0 c
+pub loading-start : (k : Kind) {s : List ℕ} {c : Cursor} (limit : ℕ) (out : List ℕ) → CursorIn s c → Loading k s c limit out out 0 0 c
 loading-start k limit out p = record {
   placed = p;
   done = [];
@@ -73,7 +73,7 @@ module _ {k : Kind} {s : List ℕ} {c₀ : Cursor} {limit : ℕ} {out₀ out : L
   pub loading-room : limit * width k ≤ length out₀ → n < limit → at + width k ≤ length out
   loading-room h f = omega (arith, l .place, l .long, record-end n limit (width k) f)
 
-  pub loading-on : {size : ℕ} {out′ : List ℕ} {d : Cursor} → limit * width k ≤ length out₀ → n < limit → size ≡ width k → Kept k s c at out out′ d
+  pub loading-on : {size : ℕ} {out′ : List ℕ} {d : Cursor} → limit * width k ≤ length out₀ → n < limit → size ≡ width k → RecordKept k s c at out out′ d
       → Loading k s c₀ limit out₀ out′ (n + 1) (at + size) d
   loading-on {size} {out′} {d} h f e g =
       let room = loading-room h f in
@@ -89,7 +89,7 @@ module _ {k : Kind} {s : List ℕ} {c₀ : Cursor} {limit : ℕ} {out₀ out : L
         all = l .all ∙ ap (before (l .done)) (all-on (readerOf k) (shrinks-of k) (l .placed) (g .got)) ∙ before-on (l .done) (g .it) (readAll (readerOf k) (left s d));
       }
 
-  pub loading-less : {out′ : List ℕ} {d : Cursor} → Kept k s c at out out′ d → d .end - d .at < c .end - c .at
+  pub loading-less : {out′ : List ℕ} {d : Cursor} → RecordKept k s c at out out′ d → d .end - d .at < c .end - c .at
   loading-less g = less (readerOf k) (shrinks-of k) (l .placed) (g .got)
 
   pub loading-stuck : c .at < c .end → Not (readerOf k) s c → body (readerOf k) limit (left s c₀) ≡ none

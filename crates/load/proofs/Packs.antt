@@ -8,7 +8,7 @@ use native.Mathlib.Decide.{decLt}
 use native.Mathlib.Nat.{mul-le-mul-right, suc-mul}
 use native.Mathlib.Omega.{arith}
 use Prim.Native.Nat.{ℕ, suc, _+_, _*_, _≤_, _<_, zero-le}
-use Rattle.load.specs.Bodies.{kindOf, limitOf, placeOf}
+use Rattle.load.specs.Bodies.{bodyKind, limitOf, placeOf}
 use Rattle.load.specs.Loaded.{NoPart, PackLoaded, PartIn, PartLoaded, PartShown}
 use Rattle.load.specs.declared.Count.{Count}
 use Rattle.load.specs.declared.Count.the-variants.{Records}
@@ -19,10 +19,10 @@ use Rattle.meaning.specs.Tables.{rowNumbers}
 use Rattle.pack.specs.Unpack.{_then_, unpack}
 use Rattle.pack.specs.declared.kinds.Kind.{Kind}
 use Rattle.pack.specs.declared.kinds.Kind.the-variants as K
-use Rattle.records.specs.Held.{BodyHeld, Held, SettingHeld, SettingNumbers, countsOf, width}
+use Rattle.records.specs.PackHeld.{BodyHeld, RecordsHeld, SettingHeld, SettingNumbers, countsOf, width}
 use Rattle.records.specs.Numbers.{NumbersOf}
 use Rattle.load.proofs.Places.{ends-before}
-use Rattle.load.proofs.Windows.{held-kept}
+use Rattle.load.proofs.HeldRecords.{held-kept}
 use Rattle.meaning.proofs.Lists.Below.{each-at}
 
 pub as-part : {i : ℕ} {s : List ℕ} {n : ℕ} {out out′ : List ℕ} {r : Count} → r ≡ Records n → PartShown i s out out′ r → PartLoaded i s n out out′
@@ -36,14 +36,14 @@ nil none = refl
 nil (some a) = refl
 
 pub no-pack : (s : List ℕ) (i : ℕ) → i < bodies → NoPart i s → unpack s ≡ none
-unfolding unpack kindOf limitOf
+unfolding unpack bodyKind limitOf
 no-pack s =
     each-at bodies (λ i. NoPart i s → unpack s ≡ none)
     (λ e. rw e, (λ e. simp (e, nil), (λ e. simp (e, nil), (λ e. simp (e, nil), (λ e. simp (e, nil), (λ e. simp (e, nil), (λ e. simp (e, nil), (λ e. simp (e, nil), (λ e. simp (e, nil), tt)))))))))
 
 -- ---- rows one after another are all their numbers
 
-held-tail : {A : Type 0} {N : A → List ℕ → Type 0} {w : ℕ} {x : A} {xs : List A} {at : ℕ} {out : List ℕ} → Held N w (x ∷ xs) at out → Held N w xs (at + w) out
+held-tail : {A : Type 0} {N : A → List ℕ → Type 0} {w : ℕ} {x : A} {xs : List A} {at : ℕ} {out : List ℕ} → RecordsHeld N w (x ∷ xs) at out → RecordsHeld N w xs (at + w) out
 held-tail {N = N} {w = w} {at = at} {out = out} h = record {
   each = λ i y e.
       let k : at + suc i * w ≡ at + w + i * w = omega (arith, suc-mul i w) in
@@ -77,7 +77,7 @@ part-kept {i} {k} {limit} {at} {end} {s} p l e =
 
 -- body i is in the numbers, at its place
 abbrev pub Part : ℕ → List ℕ → ℕ → List ℕ → Type 0
-Part i = PartIn i (kindOf i) (limitOf i) (placeOf i)
+Part i = PartIn i (bodyKind i) (limitOf i) (placeOf i)
 
 -- the bodies before i are
 pub record Before (i : ℕ) (s counts numbers₀ numbers : List ℕ) : Type 0 where
@@ -110,7 +110,7 @@ before-on {i} {n} {s} {counts} {numbers₀} {numbers} {numbers′} b h l p = rec
 -- ---- the whole pack
 
 held-map : {A : Type 0} {N M : A → List ℕ → Type 0} {w : ℕ} {xs : List A} {at : ℕ} {out : List ℕ}
-    → ((x : A) (numbers : List ℕ) → N x numbers → M x numbers) → Held N w xs at out → Held M w xs at out
+    → ((x : A) (numbers : List ℕ) → N x numbers → M x numbers) → RecordsHeld N w xs at out → RecordsHeld M w xs at out
 held-map f h = record { each = λ i x e. f x _ (h .each i x e) }
 
 module _ {s : List ℕ} (counts : List ℕ) {numbers rows : List ℕ} {n : ℕ} (nine : length counts ≡ bodies)
@@ -176,7 +176,7 @@ module _ {s : List ℕ} (counts : List ℕ) {numbers rows : List ℕ} {n : ℕ} 
 
 pub before-done : {i n : ℕ} {s counts numbers₀ numbers rows₀ rows : List ℕ} → Before i s counts numbers₀ numbers → rowsBody ≤ i → PartLoaded rowsBody s n rows₀ rows
     → PackLoaded s (set counts rowsBody n) numbers rows
-unfolding kindOf limitOf placeOf
+unfolding bodyKind limitOf placeOf
 before-done {counts = counts} b h p =
     pack-loaded counts (b .nine) (b .each 0 (omega arith)) (b .each 1 (omega arith)) (b .each 2 (omega arith)) (b .each 3 (omega arith))
     (b .each 4 (omega arith)) (b .each 5 (omega arith)) (b .each 6 (omega arith)) (b .each 7 (omega arith)) (p .part)

@@ -5,18 +5,18 @@ use mathlib.Core.Path.{_≡_, refl, sym}
 use native.Mathlib.Decide.{decLt}
 use native.Mathlib.Omega.{arith}
 use Prim.Native.Nat.{ℕ, zero, suc, _+_, _*_, _-_, _≤_, _<_}
-use Rattle.load.specs.Bodies.{kindOf, kinds, limitOf, limits, placeOf, places}
-use Rattle.load.specs.Loaded.{Room}
+use Rattle.load.specs.Bodies.{bodyKind, kinds, limitOf, limits, placeOf, places}
+use Rattle.load.specs.Loaded.{BodyRoom}
 use Rattle.meaning.specs.Limits.{maxRows, rowsLength, settingLength, rowsBody}
 use Rattle.pack.specs.declared.kinds.Kind.the-variants as K
-use Rattle.records.specs.Held.{width}
+use Rattle.records.specs.PackHeld.{width}
 use Rattle.meaning.proofs.Lists.Below.{NoneOf, each-at, past}
 
 -- ---- the rows come last
 
 module _ (i : ℕ) (t : NoneOf rowsBody i) where
-  pub last-kind : K.Row ≡ kindOf i
-  unfolding kindOf
+  pub last-kind : K.Row ≡ bodyKind i
+  unfolding bodyKind
   last-kind = sym (List·getD-eq-default kinds K.Row (past rowsBody i t))
 
   pub last-limit : maxRows ≡ limitOf i
@@ -34,15 +34,15 @@ abbrev rulesBody : ℕ
 rulesBody = rowsBody - 1
 
 abbrev pub endOf : ℕ → ℕ
-endOf i = placeOf i + limitOf i * width (kindOf i)
+endOf i = placeOf i + limitOf i * width (bodyKind i)
 
 -- the next begins there
 next-place : (i : ℕ) → i < rulesBody → endOf i ≡ placeOf (suc i)
-unfolding kindOf limitOf placeOf
+unfolding bodyKind limitOf placeOf
 next-place = each-at rulesBody (λ i. endOf i ≡ placeOf (suc i)) (refl, (refl, (refl, (refl, (refl, (refl, (refl, tt)))))))
 
 last-end : endOf rulesBody ≡ settingLength
-unfolding kindOf limitOf placeOf
+unfolding bodyKind limitOf placeOf
 last-end = refl
 
 pub ends-before : (i j : ℕ) → j < i → i < rowsBody → endOf j ≤ placeOf i
@@ -53,13 +53,13 @@ ends-before (suc i) j h k = go (λ l. ends-before i j l (omega arith)) (decLt j 
     go f (yes l) = omega (arith, f l, next-place i (omega arith))
     go f (no n) = let e : j ≡ i = omega arith in rw e (omega (arith, next-place i (omega arith)))
 
-pub setting-room : (i : ℕ) (numbers : List ℕ) → i < rowsBody → settingLength ≤ length numbers → Room i numbers
+pub setting-room : (i : ℕ) (numbers : List ℕ) → i < rowsBody → settingLength ≤ length numbers → BodyRoom i numbers
 setting-room i numbers h l = go (decLt i rulesBody)
   where
-    go : Dec (i < rulesBody) → Room i numbers
+    go : Dec (i < rulesBody) → BodyRoom i numbers
     go (yes k) = omega (arith, ends-before rulesBody i k (omega arith), last-end)
     go (no n) = let e : i ≡ rulesBody = omega arith in rw e (omega (arith, last-end))
 
-pub rows-room : (rows : List ℕ) → rowsLength ≤ length rows → Room rowsBody rows
-unfolding kindOf limitOf placeOf
+pub rows-room : (rows : List ℕ) → rowsLength ≤ length rows → BodyRoom rowsBody rows
+unfolding bodyKind limitOf placeOf
 rows-room rows h = h

@@ -12,8 +12,8 @@ use Rattle.pack.specs.declared.kinds.Kind.the-variants as K
 abbrev pub kinds : List Kind
 kinds = K.Value ∷ K.Relation ∷ K.Dependency ∷ K.Name ∷ K.Name ∷ K.Shape ∷ K.Constructor ∷ K.Rule ∷ []
 
-unfoldable pub kindOf : ℕ → Kind
-kindOf i = getD kinds i K.Row
+unfoldable pub bodyKind : ℕ → Kind
+bodyKind i = getD kinds i K.Row
 
 -- how many records it may have
 abbrev pub limits : List ℕ

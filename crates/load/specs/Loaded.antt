@@ -12,8 +12,8 @@ use Rattle.pack.specs.Shown.{left}
 use Rattle.pack.specs.Unpack.{body, readAll, unpack}
 use Rattle.pack.specs.declared.cursor.Cursor.{Cursor}
 use Rattle.pack.specs.declared.kinds.Kind.{Kind}
-use Rattle.records.specs.Held.{BodyHeld, PackHeld, width}
-use Rattle.load.specs.Bodies.{kindOf, limitOf, placeOf}
+use Rattle.records.specs.PackHeld.{BodyHeld, PackHeld, width}
+use Rattle.load.specs.Bodies.{bodyKind, limitOf, placeOf}
 use Rattle.load.specs.declared.Count.{Count}
 use Rattle.load.specs.declared.Count.the-variants.{Records, Bad as NoCount}
 
@@ -30,8 +30,8 @@ BodyShown k s c limit out (Records n) = BodyLoaded k s c limit n out
 BodyShown k s c limit out NoCount = body (readerOf k) limit (left s c) ≡ none
 
 -- There is room for body i at its place.
-abbrev pub Room : ℕ → List ℕ → Type 0
-Room i out = placeOf i + limitOf i * width (kindOf i) ≤ length out
+abbrev pub BodyRoom : ℕ → List ℕ → Type 0
+BodyRoom i out = placeOf i + limitOf i * width (bodyKind i) ≤ length out
 
 -- Body i is n records, no more than the limit, and the numbers hold them from a place on.
 pub record PartIn (i : ℕ) (k : Kind) (limit at : ℕ) (s : List ℕ) (n : ℕ) (out : List ℕ) : Type 0 where
@@ -43,12 +43,12 @@ pub record PartIn (i : ℕ) (k : Kind) (limit at : ℕ) (s : List ℕ) (n : ℕ)
 
 -- Body i is in the numbers, at its place; those before it are as they were.
 pub record PartLoaded (i : ℕ) (s : List ℕ) (n : ℕ) (out out′ : List ℕ) : Type 0 where
-  pub part : PartIn i (kindOf i) (limitOf i) (placeOf i) s n out′
+  pub part : PartIn i (bodyKind i) (limitOf i) (placeOf i) s n out′
   pub kept : take (placeOf i) out′ ≡ take (placeOf i) out
 
 -- Body i is not whole records, or more than its limit.
 abbrev pub NoPart : ℕ → List ℕ → Type 0
-NoPart i s = body (readerOf (kindOf i)) (limitOf i) (bodyOf s i) ≡ none
+NoPart i s = body (readerOf (bodyKind i)) (limitOf i) (bodyOf s i) ≡ none
 
 abbrev pub PartShown : ℕ → List ℕ → List ℕ → List ℕ → Count → Type 0
 PartShown i s out out′ (Records n) = PartLoaded i s n out out′

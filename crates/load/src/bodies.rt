@@ -1,7 +1,7 @@
 // The bodies of a pack by their numbers: the kind of their records, how many there may be, where they stand.
 ghost use mathlib.Core.Path.{_≡_};
-ghost use Rattle.load.specs.Bodies.{kindOf, limitOf, placeOf};
-ghost use Rattle.records.specs.Held.{width};
+ghost use Rattle.load.specs.Bodies.{bodyKind, limitOf, placeOf};
+ghost use Rattle.records.specs.PackHeld.{width};
 use meaning::CONSTRUCTOR_WIDTH;
 use meaning::CONSTRUCTORS_AT;
 use meaning::DEPENDENCIES_AT;
@@ -46,7 +46,7 @@ pub fn width(kind: Kind) -> usize
 
 // Which kind of record body i has.
 pub fn kind_of(i: usize) -> Kind
-    ensures { λ r. ⌜ r ≡ kindOf i ⌝ }
+    ensures { λ r. ⌜ r ≡ bodyKind i ⌝ }
 {
     match i {
         0 => Kind::Value,

@@ -3,11 +3,11 @@ ghost use lib.ListN.{length};
 ghost use mathlib.Core.Bool.{false};
 ghost use mathlib.Core.Path.{_≡_};
 ghost use Prim.Native.Nat.{_*_, _≤_, _<_};
-ghost use Rattle.load.specs.Loaded.{BodyShown, PackShown, PartShown, Room};
+ghost use Rattle.load.specs.Loaded.{BodyShown, PackShown, PartShown, BodyRoom};
 ghost use Rattle.meaning.specs.Limits.{bodies, maxPackBytes, rowsLength, settingLength};
 ghost use Rattle.pack.specs.Contents.{badSize};
-ghost use Rattle.pack.specs.Shown.{Placed};
-ghost use Rattle.records.specs.Held.{width};
+ghost use Rattle.pack.specs.Shown.{CursorIn};
+ghost use Rattle.records.specs.PackHeld.{width};
 
 pub mod bodies;
 
@@ -37,7 +37,7 @@ pub enum Count {
 
 // Writes the numbers of a body's records, one after another, and returns how many records there are.
 pub fn load_body(body: Cursor, s: &[u8], kind: Kind, limit: usize, out: &mut [u16]) -> Count
-    requires { ⌜ Placed (now s) body × (length (now s) ≤ maxPackBytes) × (limit * width kind ≤ length (now out)) ⌝ }
+    requires { ⌜ CursorIn (now s) body × (length (now s) ≤ maxPackBytes) × (limit * width kind ≤ length (now out)) ⌝ }
     ensures { λ r. ⌜ BodyShown kind (now (s .entry)) body limit (now (out .exit)) r ⌝ }
 {
     let size = width(kind);
@@ -64,7 +64,7 @@ pub fn load_body(body: Cursor, s: &[u8], kind: Kind, limit: usize, out: &mut [u1
 
 // Loads body i, from its place on.
 fn load_part(s: &[u8], i: usize, out: &mut [u16]) -> Count
-    requires { ⌜ (badSize (now s) ≡ false) × (i < bodies) × Room i (now out) ⌝ }
+    requires { ⌜ (badSize (now s) ≡ false) × (i < bodies) × BodyRoom i (now out) ⌝ }
     ensures { λ r. ⌜ PartShown i (now (s .entry)) (now (out .entry)) (now (out .exit)) r ⌝ }
 {
     let from = body(s, i);

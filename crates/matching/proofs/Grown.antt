@@ -11,7 +11,7 @@ use Rattle.sets.proofs.Insertion.{added-list, present-list}
 use Rattle.sets.specs.Ordered.{WasAdded, WasPresent, WasFull}
 use Rattle.matching.specs.declared.Heads.{Heads}
 use Rattle.matching.specs.declared.Heads.the-variants.{Listed, Over}
-use Rattle.matching.specs.Plan.{GrownTo, GrownOver, Grown}
+use Rattle.matching.specs.Plan.{GrownTo, GrownOver, KeysGrown}
 use Rattle.meaning.proofs.Lists.SetLists.{list-as, own-list}
 use Rattle.meaning.proofs.Lists.Counting.{over-sub}
 use Rattle.meaning.proofs.Lists.Ordered.{<-strict, all-different}
@@ -73,6 +73,6 @@ module _ (x n : ℕ) (keys keys′ : List ℕ) (a : InOrder _<_ (take n keys)) w
 
 -- ---- by cases on the answer
 
-pub grown-by : (r : Heads) (keys : List ℕ) (n : ℕ) (keys′ : List ℕ) {P Q : ℕ → Type 0} → ((k : ℕ) → P k ↔ Q k) → Grown r keys n P keys′ → Grown r keys n Q keys′
+pub grown-by : (r : Heads) (keys : List ℕ) (n : ℕ) (keys′ : List ℕ) {P Q : ℕ → Type 0} → ((k : ℕ) → P k ↔ Q k) → KeysGrown r keys n P keys′ → KeysGrown r keys n Q keys′
 grown-by (Listed m) keys n keys′ f g = grown-iff f g
 grown-by Over keys n keys′ f g = over-iff (λ k. f k .0) g

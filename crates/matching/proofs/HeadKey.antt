@@ -9,7 +9,7 @@ use Prim.Native.Nat.{ℕ, _+_, _*_, _^_, _≤_, _<_, zero-le}
 use Rattle.meaning.specs.Limits.{keyRoom, maxValues, unused}
 use Rattle.meaning.specs.Member.{_∈_}
 use Rattle.meaning.specs.Tables.{packed}
-use Rattle.matching.specs.Plan.{Bound, AllBound, Bindings, bindingOf, KeyVariables, KeyOf}
+use Rattle.matching.specs.Plan.{Bound, AllBound, Bindings, bindingOf, KeyVariables, BoundKey}
 use Rattle.matching.specs.declared.keys.Head.the-variants.{Key, Open}
 use Rattle.matching.proofs.Bytes.{pow-next, below-room}
 use Rattle.meaning.proofs.Lists.Places.{∈-at, ∈-index}
@@ -41,15 +41,15 @@ module _ {vars env : List ℕ} {i key : ℕ} (m : Making vars env i key) (h : i 
     is = rw add-one (rw (drop-cons vars i 0 h) at (m .is));
   }
 
-  pub making-open : getD env (getD vars i 0) 0 ≡ unused → KeyOf Open vars env
+  pub making-open : getD env (getD vars i 0) 0 ≡ unused → BoundKey Open vars env
   making-open e = (getD vars i 0, ∈-at vars i h, e)
 
-pub making-done : {vars env : List ℕ} {i key : ℕ} → Making vars env i key → length vars ≤ i → KeyOf (Key key) vars env
+pub making-done : {vars env : List ℕ} {i key : ℕ} → Making vars env i key → length vars ≤ i → BoundKey (Key key) vars env
 making-done {vars} {env} {i} {key} m h = (bound, rw drop-of-length-le at (m .is))
   where
     bound : (v : ℕ) → v ∈ vars → Bound env v
     bound v k = let p = ∈-index k in subst (Bound env) (p .2) (m .bound (p .0) (omega (arith, p .1)))
 
-pub settled-at : (vars env set : List ℕ) (key i : ℕ) → KeyOf (Key key) vars env → (i < length set) × (getD set i 0 ≡ key)
+pub settled-at : (vars env set : List ℕ) (key i : ℕ) → BoundKey (Key key) vars env → (i < length set) × (getD set i 0 ≡ key)
     → AllBound vars env × (packed (map (bindingOf env) vars) ∈ set)
 settled-at vars env set key i k f = (k .0, subst (λ x. x ∈ set) (f .1 ∙ k .1) (∈-at set i (f .0)))

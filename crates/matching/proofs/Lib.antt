@@ -11,7 +11,7 @@ pub mod Marked
 pub mod Collect
 pub mod Prepare
 pub mod Order
-pub mod Held
+pub mod HeldNumbers
 pub mod Occurrences
 pub mod Matched
-pub mod Answer
+pub mod RuleAnswers

@@ -22,7 +22,7 @@ use Rattle.meaning.proofs.Cases.{case-on}
 use Rattle.matching.specs.Plan.{stacked, masked, variablesAt, variablesFrom, candidatesAt, marked, Bound, Bindings, SameVariables, Prepared, Solution}
 use Rattle.matching.specs.Rule.{RuleHeld, HeadKey}
 use Rattle.matching.proofs.Bytes.{stacked-same}
-use Rattle.matching.proofs.Held.{atom-wide, row-wide, atom-relation, atom-variables, row-relation, row-cell, row-within, map-at, map-long}
+use Rattle.matching.proofs.HeldNumbers.{atom-wide, row-wide, atom-relation, atom-variables, row-relation, row-cell, row-within, map-at, map-long}
 use Rattle.matching.proofs.Marked.{times, marks-once, marks-small, marks-long}
 use Rattle.matching.proofs.Occurrences.{times-append, times-in, from-in, from-twice}
 use Rattle.meaning.proofs.Lists.Blocks.{BlockAt, block-at, block-of, length-flat, whole}

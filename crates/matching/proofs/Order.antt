@@ -12,7 +12,7 @@ use Prim.Native.Nat.{ℕ, _+_, _*_, _-_, _%_, _≤_, _<_, zero-le}
 use Rattle.meaning.specs.Member.{_∈_}
 use Rattle.meaning.specs.Ordered.{ListOf, empty}
 use Rattle.meaning.proofs.Cases.{case-on}
-use Rattle.matching.specs.Plan.{rankBy, Ranked, Written, KeyVariables, AtomsBelow, SameVariables, variablesAt}
+use Rattle.matching.specs.Plan.{rankBy, Ranked, OrderWritten, KeyVariables, AtomsBelow, SameVariables, variablesAt}
 use Rattle.meaning.specs.Limits.{atomsLength, atomWidth, maxAtoms, maxColumns, maxVariables}
 use Rattle.meaning.proofs.Lists.SetLists.{list-as}
 use Rattle.meaning.proofs.Lists.Places.{∈-at, ∈-index}
@@ -116,7 +116,7 @@ writing-again {j} {ranks} {next₀} {i} {next} w h t s l = record {
     go k m (no n) = getD-set-other next (j * atomWidth + 2 + i) (j * atomWidth + 2 + k) x 0 (λ q. n (omega (arith, q))) ∙ w .variables k (omega (arith, m, n))
 
 pub writing-done : {orders : List ℕ} {j : ℕ} {ranks : List ℕ} {i : ℕ} {next : List ℕ} → Writing j ranks (set orders (j * atomWidth + 1) (length ranks)) i next → length ranks ≤ i
-    → j < maxAtoms → length orders ≡ atomsLength → Written orders j ranks next
+    → j < maxAtoms → length orders ≡ atomsLength → OrderWritten orders j ranks next
 writing-done {orders} {j} {ranks} w h t l = record {
   count = w .earlier (j * atomWidth + 1) (omega arith) ∙ getD-set-same orders (j * atomWidth + 1) (length ranks) 0 (omega (arith, t, l));
   variables = λ k m. w .variables k (omega (arith, m, h));
@@ -150,7 +150,7 @@ ordering-start atoms count orders e = record {
 
 module _ {atoms : List ℕ} {count j : ℕ} {orders : List ℕ} (o : Ordering atoms count j orders) (h : j < count) (below : AtomsBelow atoms count)
     {own seen ranks next : List ℕ} (q : own ≡ variablesAt atoms j) (few : length ranks ≤ length own) (g : ListOf _<_ (Ranked own seen) ranks)
-    (w : Written orders j ranks next) (l : length next ≡ atomsLength) where
+    (w : OrderWritten orders j ranks next) (l : length next ≡ atomsLength) where
   few-ranks : length ranks ≤ maxColumns
   few-ranks = omega (arith, few, ap length q, below .arity j h, length-take (getD atoms (j * atomWidth + 1) 0) (drop (j * atomWidth + 2) atoms))
 
@@ -211,7 +211,7 @@ module _ {atoms : List ℕ} {count j : ℕ} {orders : List ℕ} (o : Ordering at
 pub ordering-again : {atoms : List ℕ} {count j : ℕ} {orders : List ℕ} → Ordering atoms count j orders → j < count → AtomsBelow atoms count
     → (a k : ℕ) → a ≡ j * atomWidth + 2 → k ≡ getD atoms (j * atomWidth + 1) 0 → {seen : List ℕ} (n : ℕ) (out : List ℕ) {next : List ℕ}
     → (n ≤ length (take (a + k - a) (drop a atoms))) × ListOf _<_ (Ranked (take (a + k - a) (drop a atoms)) seen) (take n out)
-    → Written orders j (take n out) next → length next ≡ atomsLength → Ordering atoms count (j + 1) next
+    → OrderWritten orders j (take n out) next → length next ≡ atomsLength → Ordering atoms count (j + 1) next
 ordering-again {atoms} {count} {j} o h below a k e f {seen} n out g w l =
     let c : a + k - a ≡ k = omega arith in
     ordered o h below {seen = seen} (rw (c, e, f)) (omega (arith, g .0, length-take n out)) (g .1) w l

@@ -83,7 +83,7 @@ pub record Ranked (own seen : List ℕ) (k : ℕ) : Type 0 where
   pub is : k ≡ rankBy (getD seen variable 0) variable
 
 -- the variables of these ranks are written for atom j, and those of earlier atoms stay
-pub record Written (orders : List ℕ) (j : ℕ) (ranks orders′ : List ℕ) : Type 0 where
+pub record OrderWritten (orders : List ℕ) (j : ℕ) (ranks orders′ : List ℕ) : Type 0 where
   pub count : getD orders′ (j * atomWidth + 1) 0 ≡ length ranks
   pub variables : (i : ℕ) → i < length ranks → getD orders′ (j * atomWidth + 2 + i) 0 ≡ getD ranks i 0 % maxVariables
   pub earlier : (i : ℕ) → i < j * atomWidth → getD orders′ i 0 ≡ getD orders i 0
@@ -198,16 +198,16 @@ pub record GrownTo (m : ℕ) (keys : List ℕ) (n : ℕ) (Q : ℕ → Type 0) (k
 pub record GrownOver (keys : List ℕ) (n : ℕ) (Q : ℕ → Type 0) : Type 0 where
   pub over : OverSet (length keys) (λ k. (k ∈ take n keys) ⊎ Q k)
 
-abbrev pub Grown : Heads → List ℕ → ℕ → (ℕ → Type 0) → List ℕ → Type 0
-Grown (Listed m) keys n Q keys′ = GrownTo m keys n Q keys′
-Grown Over keys n Q keys′ = GrownOver keys n Q
+abbrev pub KeysGrown : Heads → List ℕ → ℕ → (ℕ → Type 0) → List ℕ → Type 0
+KeysGrown (Listed m) keys n Q keys′ = GrownTo m keys n Q keys′
+KeysGrown Over keys n Q keys′ = GrownOver keys n Q
 
 -- ---- a head's key under bindings
 
 -- all head variables are bound, and the key is that of their values; or one is not
-abbrev pub KeyOf : Head → List ℕ → List ℕ → Type 0
-KeyOf (Key k) vars env = AllBound vars env × (k ≡ packed (map (bindingOf env) vars))
-KeyOf Open vars env = (v : ℕ) × (v ∈ vars) × (getD env v 0 ≡ unused)
+abbrev pub BoundKey : Head → List ℕ → List ℕ → Type 0
+BoundKey (Key k) vars env = AllBound vars env × (k ≡ packed (map (bindingOf env) vars))
+BoundKey Open vars env = (v : ℕ) × (v ∈ vars) × (getD env v 0 ≡ unused)
 
 -- the key is known, and in the set; else nothing is said
 abbrev pub Settled : Bool → List ℕ → List ℕ → List ℕ → Type 0

@@ -49,11 +49,11 @@ pub record RuleGiven (rowNumbers atomNumbers : List ℕ) (atomCount : ℕ) (varN
   pub held : RuleHeld rows atoms vars rowNumbers atomNumbers atomCount varNumbers varCount
 
 -- What is answered of a set of keys: its list stands at the front of the slice, or more keys than the slice holds are in it.
-abbrev pub Answers : Heads → List ℕ → (ℕ → Type 0) → Type 0
-Answers (Listed n) keys Q = (n ≤ length keys) × ListOf _<_ Q (take n keys)
-Answers Over keys Q = OverSet (length keys) Q
+abbrev pub ListedOrOver : Heads → List ℕ → (ℕ → Type 0) → Type 0
+ListedOrOver (Listed n) keys Q = (n ≤ length keys) × ListOf _<_ Q (take n keys)
+ListedOrOver Over keys Q = OverSet (length keys) Q
 
 -- The answer about a rule, whatever rows, atoms and head variables the numbers hold.
 abbrev pub RuleHeads : Heads → List ℕ → List ℕ → ℕ → List ℕ → ℕ → List ℕ → Type 0
 RuleHeads r rowNumbers atomNumbers atomCount varNumbers varCount keys =
-    (rows : List Row) (atoms : List Atom) (vars : List ℕ) → RuleHeld rows atoms vars rowNumbers atomNumbers atomCount varNumbers varCount → Answers r keys (HeadKey rows atoms vars)
+    (rows : List Row) (atoms : List Atom) (vars : List ℕ) → RuleHeld rows atoms vars rowNumbers atomNumbers atomCount varNumbers varCount → ListedOrOver r keys (HeadKey rows atoms vars)

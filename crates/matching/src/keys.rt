@@ -12,7 +12,7 @@ ghost use mathlib.Core.Path.{_≡_};
 ghost use Prim.Native.Nat.{_≤_, _<_};
 ghost use Rattle.meaning.specs.Ordered.{InOrder};
 ghost use Rattle.meaning.specs.Tables.{packed};
-ghost use Rattle.matching.specs.Plan.{Bindings, bindingOf, Grown, KeyVariables, KeyOf, AllBound, Settled};
+ghost use Rattle.matching.specs.Plan.{Bindings, bindingOf, KeysGrown, KeyVariables, BoundKey, AllBound, Settled};
 
 // What is known of a head.
 pub enum Head {
@@ -23,7 +23,7 @@ pub enum Head {
 // The head's key, if all its variables are bound.
 fn head_key(vars: &[u8], env: [u16; MAX_VARIABLES]) -> Head
     requires { ⌜ KeyVariables (now vars) × Bindings env ⌝ }
-    ensures { λ r. ⌜ KeyOf r (now (vars .entry)) env ⌝ }
+    ensures { λ r. ⌜ BoundKey r (now (vars .entry)) env ⌝ }
 {
     let mut key: u64 = 0;
     for i in 0..vars.len() {
@@ -39,7 +39,7 @@ fn head_key(vars: &[u8], env: [u16; MAX_VARIABLES]) -> Head
 // Adds one key to the set in the first n keys.
 fn add_key(keys: &mut [u64], n: usize, x: u64) -> Heads
     requires { ⌜ (n ≤ length (now keys)) × InOrder _<_ (take n (now keys)) ⌝ }
-    ensures { λ r. ⌜ Grown r (now (keys .entry)) n (λ k. k ≡ x) (now (keys .exit)) ⌝ }
+    ensures { λ r. ⌜ KeysGrown r (now (keys .entry)) n (λ k. k ≡ x) (now (keys .exit)) ⌝ }
 {
     match ordered::insert(keys, n, x) {
         Inserted::Added => Heads::Listed(n + 1),
@@ -51,7 +51,7 @@ fn add_key(keys: &mut [u64], n: usize, x: u64) -> Heads
 // Adds the head's key, whose variables are all bound.
 pub fn add_head(vars: &[u8], env: [u16; MAX_VARIABLES], keys: &mut [u64], n: usize) -> Heads
     requires { ⌜ KeyVariables (now vars) × Bindings env × AllBound (now vars) env × (n ≤ length (now keys)) × InOrder _<_ (take n (now keys)) ⌝ }
-    ensures { λ r. ⌜ Grown r (now (keys .entry)) n (λ k. k ≡ packed (map (bindingOf env) (now (vars .entry)))) (now (keys .exit)) ⌝ }
+    ensures { λ r. ⌜ KeysGrown r (now (keys .entry)) n (λ k. k ≡ packed (map (bindingOf env) (now (vars .entry)))) (now (keys .exit)) ⌝ }
 {
     match head_key(vars, env) {
         Head::Key(key) => add_key(keys, n, key),

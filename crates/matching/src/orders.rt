@@ -10,7 +10,7 @@ ghost use lib.ListN.{length, take};
 ghost use mathlib.Core.Path.{_≡_};
 ghost use Prim.Native.Nat.{_≤_, _<_};
 ghost use Rattle.meaning.specs.Ordered.{ListOf};
-ghost use Rattle.matching.specs.Plan.{rankBy, Ranked, KeyVariables, Written, AtomsBelow, SameVariables};
+ghost use Rattle.matching.specs.Plan.{rankBy, Ranked, KeyVariables, OrderWritten, AtomsBelow, SameVariables};
 ghost use Rattle.meaning.specs.Limits.{keyWidth, maxAtoms, maxColumns};
 
 const VARIABLE_ROOM: u64 = MAX_VARIABLES as u64;
@@ -42,7 +42,7 @@ fn ranks(own: &[u8], seen: [u16; MAX_VARIABLES], out: &mut [u64]) -> usize
 // Writes the variables of these ranks for atom j.
 fn written(orders: [u8; ATOMS_LENGTH], j: usize, set: &[u64]) -> [u8; ATOMS_LENGTH]
     requires { ⌜ (j < maxAtoms) × (length (now set) ≤ maxColumns) ⌝ }
-    ensures { λ r. ⌜ Written orders j (now (set .entry)) r ⌝ }
+    ensures { λ r. ⌜ OrderWritten orders j (now (set .entry)) r ⌝ }
 {
     let mut next = orders;
     next[j * ATOM_WIDTH + 1] = set.len() as u8;

@@ -11,7 +11,7 @@ use meaning::MAX_VARIABLES;
 ghost use lib.ListN.{length, take};
 ghost use Prim.Native.Nat.{_≤_, _<_};
 ghost use Rattle.meaning.specs.Ordered.{InOrder};
-ghost use Rattle.matching.specs.Plan.{Bindings, Plan, Reaches, Solution, Grown};
+ghost use Rattle.matching.specs.Plan.{Bindings, Plan, Reaches, Solution, KeysGrown};
 
 // Adds the head's key for each way to match the atoms from `at` on that keeps the bindings.
 pub fn add_heads(
@@ -26,7 +26,7 @@ pub fn add_heads(
     n: usize,
 ) -> Heads
     requires { ⌜ Plan (now atoms) «atom_count» (now vars) (now cands) counts × (at ≤ «atom_count») × Bindings env × Reaches (now atoms) «atom_count» (now vars) (now cands) counts at env × (n ≤ length (now keys)) × InOrder _<_ (take n (now keys)) ⌝ }
-    ensures { λ r. ⌜ Grown r (now (keys .entry)) n (Solution (now (atoms .entry)) «atom_count» (now (vars .entry)) (now (cands .entry)) counts at env) (now (keys .exit)) ⌝ }
+    ensures { λ r. ⌜ KeysGrown r (now (keys .entry)) n (Solution (now (atoms .entry)) «atom_count» (now (vars .entry)) (now (cands .entry)) counts at env) (now (keys .exit)) ⌝ }
 {
     if at == atom_count {
         return add_head(vars, env, keys, n);

@@ -1,4 +1,4 @@
-pub mod Answers
+pub mod CertainAnswers
 pub mod Invented
 pub mod MoreRows
 pub mod Obeying

@@ -18,7 +18,7 @@ use Rattle.mixed.specs.Mixed.{MixedCore, MixedFlags, Somewhere, mixedNod
 use Rattle.invent.proofs.Invented.{lifted, number-back, setNumber, small-set}
 use Rattle.core_lists.proofs.Keys.{iri-key-lt}
 use Rattle.core_lists.proofs.Places.{NodeAt, masked, node-at, place-of, typed-node, well}
-use Rattle.core_lists.proofs.Proper.{Proper, proper}
+use Rattle.core_lists.proofs.ResolvedNodes.{Proper, proper}
 use Rattle.meaning.proofs.Lists.Bits.{bit-bound, zero-bits}
 use Rattle.meaning.proofs.Lists.Places.{entry-is, inside}
 use Rattle.meaning.specs.Built.{IsBuilt, invented}

@@ -17,7 +17,7 @@ use Rattle.meaning.specs.Tests.{every}
 use Rattle.meaning.specs.WellFormed.{goodRow}
 use Rattle.meaning.proofs.Lists.Members.{element}
 use Rattle.meaning.proofs.Lists.Places.{inside}
-use Rattle.names.specs.Given.{PackGiven, RowAt, SettingGiven}
+use Rattle.names.specs.PackGiven.{PackGiven, RowAt, SettingGiven}
 use Rattle.names.proofs.Counted.{arity-none, arity-small, arity-there, count-at}
 use Rattle.meaning.proofs.Lists.Parts.{first-at, part-of, slice-at}
 use Rattle.meaning.proofs.Lists.Blocks.{flat-at, length-flat}

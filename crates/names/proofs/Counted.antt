@@ -6,17 +6,17 @@ use mathlib.Core.Option.{none, some}
 use mathlib.Core.Path.{_≡_, refl, sym, ap, subst, _∙_}
 use native.Mathlib.Omega.{arith}
 use Prim.Native.Nat.{ℕ, _+_, _*_, _≤_, _<_}
-use Rattle.records.specs.Held.{Held, countsOf}
+use Rattle.records.specs.PackHeld.{RecordsHeld, countsOf}
 use Rattle.meaning.specs.Limits.{constructorWidth, constructorsAt, maxColumns, maxConstructors, maxRelations, relationWidth, relationsAt}
 use Rattle.meaning.specs.Pack.{Constructor, Pack}
 use Rattle.meaning.specs.WellFormed.{constructorArities}
 use Rattle.meaning.proofs.Lists.Members.{element}
 use Rattle.meaning.proofs.Lists.Places.{entry-map, entry-none, there-is}
-use Rattle.names.specs.Given.{SettingGiven}
+use Rattle.names.specs.PackGiven.{SettingGiven}
 use Rattle.meaning.proofs.Lists.Parts.{first-at}
 
 -- a record's numbers by their place
-pub held-at : {A : Type 0} {N : A → List ℕ → Type 0} {w : ℕ} {xs : List A} {at : ℕ} {numbers : List ℕ} → Held N w xs at numbers
+pub held-at : {A : Type 0} {N : A → List ℕ → Type 0} {w : ℕ} {xs : List A} {at : ℕ} {numbers : List ℕ} → RecordsHeld N w xs at numbers
     → (i : ℕ) (x : A) → getElem? xs i ≡ some x → N x (take w (drop (at + i * w) numbers))
 held-at {A} {N} {w} {xs} {at} {numbers} h i x e = subst (λ (l : List ℕ). N x (take w l)) (drop-drop (i * w) at numbers) (h .each i x e)
 

@@ -11,7 +11,7 @@ use Prim.Native.Nat.{ℕ, _+_, _*_, _%_, _^_, _≤_, _<_}
 use Rattle.meaning.specs.Limits.{dependenciesAt, dependencyWidth, maxColumns, maxDependencies, relationsAt}
 use Rattle.meaning.specs.Pack.{Dependency, Pack}
 use Rattle.meaning.specs.WellFormed.{goodDependency}
-use Rattle.names.specs.Given.{DependencyAt, SettingGiven}
+use Rattle.names.specs.PackGiven.{DependencyAt, SettingGiven}
 use Rattle.names.proofs.Counted.{arity-none, arity-there, count-at, held-at}
 use Rattle.meaning.proofs.Lists.Parts.{first-at, number-at}
 

@@ -10,7 +10,7 @@ use Rattle.meaning.specs.Limits.{headWidth}
 use Rattle.meaning.specs.Pack.{Atom, Head, Pack, hasType, linksTo, linksToValue}
 use Rattle.meaning.specs.Tables.{headArguments, headNumbers}
 use Rattle.meaning.specs.WellFormed.{constructorArities, goodHead, goodPredicate, goodType, hasArity, inAtoms}
-use Rattle.names.specs.Given.{SettingGiven}
+use Rattle.names.specs.PackGiven.{SettingGiven}
 use Rattle.names.specs.Rule.{HeadAt, headNamed, termNamed}
 use Rattle.names.proofs.Counted.{count-at}
 use Rattle.meaning.proofs.Lists.Parts.{first-at, number-at}

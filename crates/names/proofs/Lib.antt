@@ -4,7 +4,7 @@ pub mod Dependency
 pub mod Shape
 pub mod Atoms
 pub mod Heads
-pub mod Parts
+pub mod RuleNumbers
 pub mod Rule
-pub mod Read
+pub mod ReadWithinBounds
 pub mod Good

@@ -13,11 +13,11 @@ use Rattle.meaning.specs.Tests.{every}
 use Rattle.meaning.specs.WellFormed.{goodAtom, goodRule, inAtoms}
 use Rattle.meaning.proofs.Lists.Members.{element}
 use Rattle.meaning.proofs.Lists.Places.{inside, there-is}
-use Rattle.names.specs.Given.{SettingGiven}
+use Rattle.names.specs.PackGiven.{SettingGiven}
 use Rattle.names.specs.Rule.{IsRule, RuleAt, headNamed}
 use Rattle.names.proofs.Counted.{count-at, held-at}
 use Rattle.names.proofs.Heads.{head-good}
-use Rattle.names.proofs.Parts.{countAt, variables-are, variablesAt}
+use Rattle.names.proofs.RuleNumbers.{countAt, variables-are, variablesAt}
 
 module _ (P : Pack) (r : Rule) where
   pub atoms-bad : every (goodAtom P) (r .atoms) ≡ false → false ≡ goodRule P r

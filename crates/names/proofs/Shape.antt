@@ -14,7 +14,7 @@ use Rattle.meaning.proofs.Lists.Members.{element}
 use Rattle.meaning.specs.Limits.{literalTarget, maxShapes, shapesAt, shapeWidth}
 use Rattle.meaning.specs.Pack.{Literal, Pack, ShapeRecord, Target, multiplicityNumber, type}
 use Rattle.meaning.specs.WellFormed.{goodShape, goodTarget}
-use Rattle.names.specs.Given.{SettingGiven, ShapeAt}
+use Rattle.names.specs.PackGiven.{SettingGiven, ShapeAt}
 use Rattle.names.proofs.Counted.{count-at, held-at}
 use Rattle.meaning.proofs.Lists.Parts.{first-at, number-at}
 

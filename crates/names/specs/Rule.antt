@@ -4,13 +4,13 @@ use mathlib.Core.Bool.{Bool, _&&_}
 use mathlib.Core.List.{List}
 use mathlib.Core.Path.{_≡_}
 use Prim.Native.Nat.{ℕ, _*_, _+_, _≤_}
-use Rattle.records.specs.Held.{Held}
+use Rattle.records.specs.PackHeld.{RecordsHeld}
 use Rattle.meaning.specs.Limits.{atomWidth, headWidth, maxColumns, ruleWidth}
 use Rattle.meaning.specs.Member.{_∈_}
 use Rattle.meaning.specs.Pack.{Atom, Head, Pack, Rule, Term, hasType, linksTo, linksToValue}
 use Rattle.meaning.specs.Tables.{atomNumbers, headNumbers, ruleNumbers}
 use Rattle.meaning.specs.WellFormed.{constructorArities, goodPredicate, goodType, hasArity}
-use Rattle.names.specs.Given.{RuleBounds}
+use Rattle.names.specs.PackGiven.{RuleBounds}
 
 -- ---- atoms, one after another: n of them from a place on
 
@@ -19,7 +19,7 @@ AtomNumbers a numbers = numbers ≡ atomNumbers a
 
 pub record AtomsAt (as′ : List Atom) (numbers : List ℕ) (first n : ℕ) : Type 0 where
   pub many : n ≡ length as′
-  pub held : Held AtomNumbers atomWidth as′ first numbers
+  pub held : RecordsHeld AtomNumbers atomWidth as′ first numbers
   pub short : (a : Atom) → a ∈ as′ → length (a .variables) ≤ maxColumns
   pub room : first + n * atomWidth ≤ length numbers
 

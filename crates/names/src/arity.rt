@@ -1,7 +1,7 @@
 // Whether a relation or a constructor is there and has so many columns or arguments.
 ghost use mathlib.Core.Path.{_≡_};
 ghost use Rattle.meaning.specs.WellFormed.{constructorArities, hasArity};
-ghost use Rattle.names.specs.Given.{ForSetting, IsSetting};
+ghost use Rattle.names.specs.PackGiven.{ForSetting, IsSetting};
 use meaning::BODIES;
 use meaning::CONSTRUCTOR_WIDTH;
 use meaning::CONSTRUCTORS_AT;

@@ -6,7 +6,7 @@ ghost use lib.ListN.{length};
 ghost use Rattle.meaning.specs.Limits.{dependencyWidth, maxColumns};
 ghost use Rattle.meaning.specs.Tests.{every};
 ghost use Rattle.meaning.specs.WellFormed.{goodDependency};
-ghost use Rattle.names.specs.Given.{ForDependency, ForSetting, IsSetting};
+ghost use Rattle.names.specs.PackGiven.{ForDependency, ForSetting, IsSetting};
 use meaning::BODIES;
 use meaning::DEPENDENCIES_AT;
 use meaning::DEPENDENCIES_BODY;

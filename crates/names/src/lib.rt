@@ -2,7 +2,7 @@
 // atom.
 ghost use mathlib.Core.Path.{_≡_};
 ghost use Rattle.meaning.specs.WellFormed.{dangling};
-ghost use Rattle.names.specs.Given.{ForPack, IsPack};
+ghost use Rattle.names.specs.PackGiven.{ForPack, IsPack};
 
 pub mod arity;
 pub mod dependencies;

@@ -7,7 +7,7 @@ ghost use lib.Seq.{slice};
 ghost use Rattle.meaning.specs.Limits.{rowWidth, unused};
 ghost use Rattle.meaning.specs.Tests.{every};
 ghost use Rattle.meaning.specs.WellFormed.{goodRow};
-ghost use Rattle.names.specs.Given.{ForPack, ForRow, ForSetting, IsPack, IsSetting};
+ghost use Rattle.names.specs.PackGiven.{ForPack, ForRow, ForSetting, IsPack, IsSetting};
 use meaning::BODIES;
 use meaning::RELATIONS_AT;
 use meaning::RELATIONS_BODY;

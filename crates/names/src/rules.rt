@@ -7,7 +7,7 @@ ghost use lib.Seq.{slice};
 ghost use Rattle.meaning.specs.Limits.{headWidth};
 ghost use Rattle.meaning.specs.Tests.{any, elem, every};
 ghost use Rattle.meaning.specs.WellFormed.{goodAtom, goodRule, inAtoms};
-ghost use Rattle.names.specs.Given.{ForSetting, IsSetting};
+ghost use Rattle.names.specs.PackGiven.{ForSetting, IsSetting};
 ghost use Rattle.names.specs.Rule.{ForAtoms, ForHead, ForRule, IsAtoms, IsRule, headNamed};
 use crate::arity::has_arguments;
 use crate::arity::has_columns;

@@ -5,7 +5,7 @@ ghost use lib.ListN.{length};
 ghost use Rattle.meaning.specs.Limits.{shapeWidth};
 ghost use Rattle.meaning.specs.Tests.{every};
 ghost use Rattle.meaning.specs.WellFormed.{goodShape};
-ghost use Rattle.names.specs.Given.{ForSetting, ForShape, IsSetting};
+ghost use Rattle.names.specs.PackGiven.{ForSetting, ForShape, IsSetting};
 use meaning::BODIES;
 use meaning::LITERAL_TARGET;
 use meaning::PREDICATES_BODY;

@@ -10,7 +10,7 @@ use mathlib.Core.Path.{_≡_, refl, sym, ap, subst, subst₂, _∙_}
 use native.Mathlib.Decide.{ℕ-discrete}
 use native.Mathlib.Omega.{arith}
 use Prim.Native.Nat.{ℕ, zero, suc, _+_, _%_, _<_, _≤_}
-use Rattle.core.specs.Held.{NodeKey}
+use Rattle.core.specs.CoreHeld.{NodeKey}
 use Rattle.core.specs.Keys.{keyOf}
 use Rattle.core_lists.specs.Input.{Input}
 use Rattle.invent.specs.Invent.{InventedSets, setAt}
@@ -18,7 +18,7 @@ use Rattle.node_list.specs.Records.{Arities, coreRecords, setList, setNu
 use Rattle.invent.proofs.Invented.{lifted, number-back, setNumber, small-set}
 use Rattle.core_lists.proofs.Keys.{key-one, less-key}
 use Rattle.core_lists.proofs.Places.{Masked, masked, well}
-use Rattle.core_lists.proofs.Proper.{proper}
+use Rattle.core_lists.proofs.ResolvedNodes.{proper}
 use Rattle.node_list.proofs.Records.{core-record}
 use Rattle.node_list.proofs.SetList.{slot-first, slot-later}
 use Rattle.meaning.proofs.Lists.Members.{element, ∈-append, ∈-map⁻¹}

@@ -11,7 +11,7 @@ use Rattle.core.specs.Keys.{keyOf}
 use Rattle.node_list.specs.Records.{Arities, argumentAt, coreNumbers, iriNumbers, literalNumbers}
 use Rattle.core_lists.proofs.Keys.{Small, all-small, four, iri-key-lt, packed-lt}
 use Rattle.core_lists.proofs.Places.{Masked}
-use Rattle.core_lists.proofs.Proper.{Proper}
+use Rattle.core_lists.proofs.ResolvedNodes.{Proper}
 use Rattle.node_list.proofs.Written.{literal-numbers}
 use Rattle.meaning.proofs.Lists.Members.{element}
 use Rattle.meaning.specs.Built.{core}

@@ -14,8 +14,8 @@ use Rattle.meaning.specs.Pack.{Pack}
 use mathlib.Core.Option.{some}
 
 -- Each invented node's set has the node's number.
-abbrev pub Numbered : List BuiltNode → List ℕ → Type 0
-Numbered inOrder places = (i j : ℕ) → j < memberSets → getElem? inOrder i ≡ some (invented (setAt j)) → getD places j 0 ≡ i
+abbrev pub SetsNumbered : List BuiltNode → List ℕ → Type 0
+SetsNumbered inOrder places = (i j : ℕ) → j < memberSets → getElem? inOrder i ≡ some (invented (setAt j)) → getD places j 0 ≡ i
 
 -- The first count records of the slice are those of the built nodes in node order, and what follows is as it was; each
 -- invented node's set has the node's number.
@@ -27,7 +27,7 @@ pub record NodesListed (P : Pack) (places out out′ : List ℕ) (count : ℕ) :
   pub counted : count ≡ length records
   pub few : count ≤ maxNodes
   pub written : out′ ≡ flatten records ++ drop (count * nodeWidth) out
-  pub numbered : Numbered inOrder places
+  pub numbered : SetsNumbered inOrder places
 
 abbrev pub NodesShown : List ℕ → List ℕ → List ℕ → List ℕ → List ℕ → List ℕ → List ℕ → ℕ → Type 0
 NodesShown arities nodes masks flags places out out′ count =

@@ -13,7 +13,7 @@ use Rattle.meaning.specs.Tests.{within}
 use Rattle.pack.specs.Kinds.{readerOf}
 use Rattle.pack.specs.Readers.{Read, Reader, give, only, _>>=_, byte, byteIn, bytes, sized}
 use Rattle.pack.specs.Records.{value, relation, dependency, name, shape, constructor, tuple, atom, atoms, term, headOf, rule, row, variable}
-use Rattle.pack.specs.Shown.{left, Placed, Got, Not}
+use Rattle.pack.specs.Shown.{left, CursorIn, Got, Not}
 use Rattle.pack.specs.Unpack.{also, records, readAll}
 use Rattle.pack.specs.declared.cursor.Cursor.{Cursor}
 use Rattle.pack.specs.declared.kinds.Kind.{Kind}
@@ -145,7 +145,7 @@ module _ {A : Type 0} (reader : Reader A) (shrinks : Shrinks reader) where
       rw (h, records) (ap (also (r .got)) (enough (suc (length s)) (suc (length (r .rest))) (r .rest) (omega (arith, shrinks (b ∷ s) r h)) (omega arith)))
 
   -- the same at a cursor
-  module _ {s : List ℕ} {c : Cursor} (p : Placed s c) where
+  module _ {s : List ℕ} {c : Cursor} (p : CursorIn s c) where
     pub all-end : c .end ≤ c .at → readAll reader (left s c) ≡ some []
     all-end h = let e : c .at ≡ c .end = omega (arith, p .before) in rw (e, slice-empty) readAll-nil
 

@@ -15,7 +15,7 @@ use Prim.Native.Nat.{ℕ, zero, suc, _+_, _-_, _≤_, _<_}
 use Rattle.meaning.specs.Tests.{within, every}
 use Rattle.pack.specs.Readers.{Read, Reader, give, only, next, _>>=_, byte, byteIn, bytes, sized}
 use Rattle.pack.specs.Records.{tuple, shape}
-use Rattle.pack.specs.Shown.{left, Placed, Got, Not, textAt, ByteShown, TextGot, TextShown, TupleGot, TupleShown, ShapeGot, Pair, pair}
+use Rattle.pack.specs.Shown.{left, CursorIn, Got, Not, textAt, ByteShown, TextGot, TextShown, TupleGot, TupleShown, ShapeGot, Pair, pair}
 use Rattle.pack.specs.declared.cursor.Cursor.{Cursor}
 use Rattle.pack.specs.declared.cursor.Tuple.{Tuple}
 use Rattle.pack.specs.declared.cursor.ByteRead.{ByteRead}
@@ -30,7 +30,7 @@ length-at s start len h = omega (arith, length-slice start (start + len) s h)
 
 -- ---- one byte
 
-module _ (s : List ℕ) (c : Cursor) (p : Placed s c) where
+module _ (s : List ℕ) (c : Cursor) (p : CursorIn s c) where
   pub byte-got : c .at < c .end → Got byte s c (getD s (c .at) 0) (record { at = c .at + 1; end = c .end })
   unfolding byte
   byte-got h = record {
@@ -49,7 +49,7 @@ pub record ByteIs (s : List ℕ) (c : Cursor) (b : ℕ) (d : Cursor) : Type 0 wh
   pub is : b ≡ getD s (c .at) 0
   pub next : d .at ≡ c .at + 1
 
-pub byte-is : {s : List ℕ} {c d : Cursor} {b : ℕ} → Placed s c → Got byte s c b d → ByteIs s c b d
+pub byte-is : {s : List ℕ} {c d : Cursor} {b : ℕ} → CursorIn s c → Got byte s c b d → ByteIs s c b d
 unfolding byte
 byte-is {s} {c} {d} {b} p g = case-on (ltb (c .at) (c .end)) (λ e. here (ltb-true _ _ e)) (λ e. absurd (there (ltb-false _ _ e)))
   where
@@ -82,10 +82,10 @@ module _ {A B : Type 0} {m : Reader A} {s : List ℕ} {c : Cursor} (f : A → Re
   then-bad g n = record { reads = rw (g .reads) (n .reads) }
 
 module _ {A : Type 0} {a : A} {s : List ℕ} {c : Cursor} where
-  pub give-got : Placed s c → Got (give a) s c a c
+  pub give-got : CursorIn s c → Got (give a) s c a c
   give-got p = record { reads = refl; same = refl; placed = p }
 
-  pub only-got : {b : Bool} → b ≡ true → Placed s c → Got (only b a) s c a c
+  pub only-got : {b : Bool} → b ≡ true → CursorIn s c → Got (only b a) s c a c
   only-got e p = rw e (record { reads = refl; same = refl; placed = p })
 
 pub only-not : {A : Type 0} (a : A) {b : Bool} {s : List ℕ} {c : Cursor} → b ≡ false → Not (only b a) s c
@@ -265,7 +265,7 @@ module _ {A : Type 0} (make : ℕ → List ℕ → A) (ok : ℕ → Bool) (most 
 
 -- ---- a shape, by its four bytes
 
-pub shape-got : {s : List ℕ} {c c1 c2 c3 d : Cursor} {t p x m : ℕ} → Placed s c
+pub shape-got : {s : List ℕ} {c c1 c2 c3 d : Cursor} {t p x m : ℕ} → CursorIn s c
     → Got byte s c t c1 → Got byte s c1 p c2 → Got byte s c2 x c3 → Got (byteIn 1 4) s c3 m d → ShapeGot s c t p x m d
 unfolding shape
 shape-got {s} {c} {c1} {t} {p} w a b e f =

@@ -10,7 +10,7 @@ use Rattle.meaning.specs.Pack.{Atom, Term}
 use Rattle.meaning.specs.Tests.{within}
 use Rattle.pack.specs.Readers.{Reader, _>>=_, byte, byteIn}
 use Rattle.pack.specs.Records.{atom, atomOf, atoms, term, termOf, headOf, rule}
-use Rattle.pack.specs.Shown.{Placed, Got, Not, TupleGot, TupleShown, Skipped, MovedShown, ObjectGot, ObjectShown, objectOf, HeadGot, HeadShown, RuleGot, made}
+use Rattle.pack.specs.Shown.{CursorIn, Got, Not, TupleGot, TupleShown, Skipped, MovedShown, ObjectGot, ObjectShown, objectOf, HeadGot, HeadShown, RuleGot, made}
 use Rattle.pack.specs.declared.cursor.Cursor.{Cursor}
 use Rattle.pack.specs.declared.cursor.Tuple.{Tuple}
 use Rattle.pack.specs.declared.cursor.TupleRead.{TupleRead}
@@ -31,11 +31,11 @@ not-moved {reader} {s} {c} e h = subst (λ (q : Moved). MovedShown reader s c q)
 
 pub record Atoms (s : List ℕ) (c₀ : Cursor) (n i : ℕ) (c : Cursor) : Type 0 where
   pub within : i ≤ n
-  pub placed : Placed s c
+  pub placed : CursorIn s c
   pub whole : (as′ : List Atom) (d : Cursor) → Got (atoms (n - i)) s c as′ d → Skipped (atoms n) s c₀ d
   pub broken : Not (atoms (n - i)) s c → Not (atoms n) s c₀
 
-pub atoms-start : {s : List ℕ} {c : Cursor} (n : ℕ) → Placed s c → Atoms s c n 0 c
+pub atoms-start : {s : List ℕ} {c : Cursor} (n : ℕ) → CursorIn s c → Atoms s c n 0 c
 atoms-start n p = record { within = zero-le; placed = p; whole = λ as′ d g. record { it = as′; got = rw sub-zero at g }; broken = λ b. rw sub-zero at b }
 
 module _ {s : List ℕ} {c₀ c : Cursor} {n i : ℕ} (p : Atoms s c₀ n i c) (h : i < n) where
@@ -68,7 +68,7 @@ two-or-more Q (suc zero) x y q = absurd (y refl)
 two-or-more Q (suc (suc k)) x y q = q k
 
 module _ (s : List ℕ) (c : Cursor) (kind : ℕ) where
-  pub object-none : kind ≡ 0 → Placed s c → ObjectGot kind s c (record { number = 0; start = 0; len = 0 }) c
+  pub object-none : kind ≡ 0 → CursorIn s c → ObjectGot kind s c (record { number = 0; start = 0; len = 0 }) c
   unfolding objectOf
   object-none k p = rw k (record { got = λ t l. give-got p; inside = zero-le })
 

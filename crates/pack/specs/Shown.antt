@@ -36,21 +36,21 @@ abbrev pub left : List ℕ → Cursor → List ℕ
 left s c = slice (c .at) (c .end) s
 
 -- the cursor stands in the bytes, at the body's end at most
-pub record Placed (s : List ℕ) (c : Cursor) : Type 0 where
+pub record CursorIn (s : List ℕ) (c : Cursor) : Type 0 where
   pub before : c .at ≤ c .end
   pub inside : c .end ≤ length s
 
 -- the cursor is at the start of body k
 pub record BodyAt (s : List ℕ) (k : ℕ) (c : Cursor) : Type 0 where
   pub start : c .at ≡ startOf s k
-  pub placed : Placed s c
+  pub placed : CursorIn s c
   pub is : left s c ≡ bodyOf s k
 
 -- at c the reader gives a, and moves to d
 pub record Got {A : Type 0} (reader : Reader A) (s : List ℕ) (c : Cursor) (a : A) (d : Cursor) : Type 0 where
   pub reads : reader (left s c) ≡ some (record { got = a; rest = left s d })
   pub same : d .end ≡ c .end
-  pub placed : Placed s d
+  pub placed : CursorIn s d
 
 -- at c the reader gives nothing
 pub record Not {A : Type 0} (reader : Reader A) (s : List ℕ) (c : Cursor) : Type 0 where
@@ -166,7 +166,7 @@ pub record RuleGot (s : List ℕ) (c : Cursor) (count : ℕ) (first : Cursor) (k
   pub got : Got rule s c (record { atoms = list; head = headAt kind s t l u }) d
   pub subject-inside : t .start + t .len ≤ length s
   pub object-inside : u .start + u .len ≤ length s
-  pub first-placed : Placed s first
+  pub first-placed : CursorIn s first
   pub few : count ≤ maxAtoms
   pub kinds : kind ≤ 2
 

@@ -2,7 +2,7 @@
 ghost use Rattle.pack.specs.Readers.{byte, byteIn, sized};
 ghost use Rattle.pack.specs.Records.{value, relation, dependency, name, shape, constructor, tuple, atom, atomOf, term, termOf, row, rowOf, atoms, rule};
 ghost use Rattle.pack.specs.Classes.{inClass};
-ghost use Rattle.pack.specs.Shown.{Placed, pair, ByteShown, TextShown, DependencyShown, ShapeShown, ConstructorShown, TupleShown, MovedShown, ObjectShown, HeadShown, RuleShown};
+ghost use Rattle.pack.specs.Shown.{CursorIn, pair, ByteShown, TextShown, DependencyShown, ShapeShown, ConstructorShown, TupleShown, MovedShown, ObjectShown, HeadShown, RuleShown};
 use crate::bytes::Class;
 use crate::bytes::all_pass;
 use crate::bytes::in_range;
@@ -110,7 +110,7 @@ pub enum RuleRead {
 
 impl Cursor {
     pub fn byte(self, s: &[u8]) -> ByteRead
-        requires { ⌜ Placed (now s) self ⌝ }
+        requires { ⌜ CursorIn (now s) self ⌝ }
         ensures { λ r. ⌜ ByteShown byte (now (s .entry)) self r ⌝ }
     {
         let at = self.at;
@@ -127,7 +127,7 @@ impl Cursor {
 
     // A byte in bounds.
     pub fn byte_in(self, s: &[u8], lo: u8, hi: u8) -> ByteRead
-        requires { ⌜ Placed (now s) self ⌝ }
+        requires { ⌜ CursorIn (now s) self ⌝ }
         ensures { λ r. ⌜ ByteShown (byteIn lo hi) (now (s .entry)) self r ⌝ }
     {
         let ByteRead::Byte { value, next } = self.byte(s) else {
@@ -141,7 +141,7 @@ impl Cursor {
 
     // A length or count in bounds, and that many bytes of the class.
     pub fn sized(self, s: &[u8], class: Class, lo: u8, hi: u8) -> TextRead
-        requires { ⌜ Placed (now s) self ⌝ }
+        requires { ⌜ CursorIn (now s) self ⌝ }
         ensures { λ r. ⌜ TextShown (sized (inClass class) lo hi) (now (s .entry)) self r ⌝ }
     {
         let ByteRead::Byte { value, next } = self.byte_in(s, lo, hi) else {
@@ -167,21 +167,21 @@ impl Cursor {
     }
 
     pub fn value(self, s: &[u8]) -> TextRead
-        requires { ⌜ Placed (now s) self ⌝ }
+        requires { ⌜ CursorIn (now s) self ⌝ }
         ensures { λ r. ⌜ TextShown value (now (s .entry)) self r ⌝ }
     {
         self.sized(s, Class::Any, 0, MAX_VALUE_BYTES as u8)
     }
 
     pub fn relation(self, s: &[u8]) -> ByteRead
-        requires { ⌜ Placed (now s) self ⌝ }
+        requires { ⌜ CursorIn (now s) self ⌝ }
         ensures { λ r. ⌜ ByteShown relation (now (s .entry)) self r ⌝ }
     {
         self.byte_in(s, 1, MAX_COLUMNS as u8)
     }
 
     pub fn dependency(self, s: &[u8]) -> DependencyRead
-        requires { ⌜ Placed (now s) self ⌝ }
+        requires { ⌜ CursorIn (now s) self ⌝ }
         ensures { λ r. ⌜ DependencyShown (now (s .entry)) self r ⌝ }
     {
         let ByteRead::Byte {
@@ -211,14 +211,14 @@ impl Cursor {
 
     // A type's or a predicate's name.
     pub fn name(self, s: &[u8]) -> TextRead
-        requires { ⌜ Placed (now s) self ⌝ }
+        requires { ⌜ CursorIn (now s) self ⌝ }
         ensures { λ r. ⌜ TextShown name (now (s .entry)) self r ⌝ }
     {
         self.sized(s, Class::Letter, 1, MAX_NAME_BYTES as u8)
     }
 
     pub fn shape(self, s: &[u8]) -> ShapeRead
-        requires { ⌜ Placed (now s) self ⌝ }
+        requires { ⌜ CursorIn (now s) self ⌝ }
         ensures { λ r. ⌜ ShapeShown (now (s .entry)) self r ⌝ }
     {
         let ByteRead::Byte {
@@ -259,7 +259,7 @@ impl Cursor {
     }
 
     pub fn constructor(self, s: &[u8]) -> ConstructorRead
-        requires { ⌜ Placed (now s) self ⌝ }
+        requires { ⌜ CursorIn (now s) self ⌝ }
         ensures { λ r. ⌜ ConstructorShown (now (s .entry)) self r ⌝ }
     {
         let ByteRead::Byte {
@@ -287,7 +287,7 @@ impl Cursor {
 
     // A number, a count from 1 to the bound, and that many bytes of the class.
     pub fn tuple(self, s: &[u8], class: Class, most: u8) -> TupleRead
-        requires { ⌜ Placed (now s) self ⌝ }
+        requires { ⌜ CursorIn (now s) self ⌝ }
         ensures { λ r. ⌜ TupleShown pair (tuple pair (inClass class) most) (now (s .entry)) self r ⌝ }
     {
         let ByteRead::Byte {
@@ -307,21 +307,21 @@ impl Cursor {
     }
 
     pub fn atom(self, s: &[u8]) -> TupleRead
-        requires { ⌜ Placed (now s) self ⌝ }
+        requires { ⌜ CursorIn (now s) self ⌝ }
         ensures { λ r. ⌜ TupleShown atomOf atom (now (s .entry)) self r ⌝ }
     {
         self.tuple(s, Class::Variable, MAX_COLUMNS as u8)
     }
 
     pub fn term(self, s: &[u8]) -> TupleRead
-        requires { ⌜ Placed (now s) self ⌝ }
+        requires { ⌜ CursorIn (now s) self ⌝ }
         ensures { λ r. ⌜ TupleShown termOf term (now (s .entry)) self r ⌝ }
     {
         self.tuple(s, Class::Variable, MAX_ARGUMENTS as u8)
     }
 
     pub fn row(self, s: &[u8]) -> TupleRead
-        requires { ⌜ Placed (now s) self ⌝ }
+        requires { ⌜ CursorIn (now s) self ⌝ }
         ensures { λ r. ⌜ TupleShown rowOf row (now (s .entry)) self r ⌝ }
     {
         self.tuple(s, Class::Any, MAX_COLUMNS as u8)
@@ -329,7 +329,7 @@ impl Cursor {
 
     // Past n atoms.
     pub fn atoms(self, s: &[u8], n: u8) -> Moved
-        requires { ⌜ Placed (now s) self ⌝ }
+        requires { ⌜ CursorIn (now s) self ⌝ }
         ensures { λ r. ⌜ MovedShown (atoms n) (now (s .entry)) self r ⌝ }
     {
         let mut c = self;
@@ -350,7 +350,7 @@ impl Cursor {
 
     // What a head of a kind has after its term and its type or predicate: nothing, a term, or a variable as the number.
     pub fn object(self, s: &[u8], kind: u8) -> TupleRead
-        requires { ⌜ Placed (now s) self ⌝ }
+        requires { ⌜ CursorIn (now s) self ⌝ }
         ensures { λ r. ⌜ ObjectShown kind (now (s .entry)) self r ⌝ }
     {
         if kind == 0 {
@@ -387,7 +387,7 @@ impl Cursor {
     }
 
     pub fn head(self, s: &[u8], kind: u8) -> HeadRead
-        requires { ⌜ Placed (now s) self ⌝ }
+        requires { ⌜ CursorIn (now s) self ⌝ }
         ensures { λ r. ⌜ HeadShown kind (now (s .entry)) self r ⌝ }
     {
         let TupleRead::Tuple {
@@ -420,7 +420,7 @@ impl Cursor {
     }
 
     pub fn rule(self, s: &[u8]) -> RuleRead
-        requires { ⌜ Placed (now s) self ⌝ }
+        requires { ⌜ CursorIn (now s) self ⌝ }
         ensures { λ r. ⌜ RuleShown (now (s .entry)) self r ⌝ }
     {
         let ByteRead::Byte {

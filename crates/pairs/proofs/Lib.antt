@@ -1,3 +1,3 @@
 pub mod EveryName
+pub mod FromPrepared
 pub mod Once
-pub mod Shell

@@ -18,7 +18,7 @@ use Rattle.meaning.specs.Listing.{NodesInOrder, nodeKey}
 use Rattle.meaning.specs.Member.{_∈_, here, there}
 use Rattle.meaning.specs.Pack.{Pack, Text}
 use Rattle.meaning.specs.Query.{Expr}
-use Rattle.pairs.specs.Answer.{Answers, Gives, Refuses, before-12, buffers, lists, too-many}
+use Rattle.pairs.specs.Answer.{PairsAnswers, Gives, Refuses, before-12, buffers, lists, too-many}
 use Rattle.pairs.specs.declared.PairAnswer.{PairAnswer}
 use Rattle.prepare.proofs.Once as prepared
 use Rattle.prepare.proofs.Once.{not-asked}
@@ -71,6 +71,6 @@ fixed pack query = record { one-refusal = one-refusal; not-both = not-both; one-
 
 pub answers-once : (pack query : Text) (r s : PairAnswer) (nodes nodes₂ triples triples₂ pairs pairs₂ rows rows₂ heads heads₂ alive alive₂ queue queue₂ seen seen₂ : Contents)
     → SameLengths (lists nodes triples pairs) (lists nodes₂ triples₂ pairs₂) → SameLengths (buffers rows heads alive queue seen) (buffers rows₂ heads₂ alive₂ queue₂ seen₂)
-    → Answers pack query r nodes triples pairs rows heads alive queue seen → Answers pack query s nodes₂ triples₂ pairs₂ rows₂ heads₂ alive₂ queue₂ seen₂
+    → PairsAnswers pack query r nodes triples pairs rows heads alive queue seen → PairsAnswers pack query s nodes₂ triples₂ pairs₂ rows₂ heads₂ alive₂ queue₂ seen₂
     → Same (Refuses pack query) (Gives pack query) r s (lists nodes triples pairs) (lists nodes₂ triples₂ pairs₂) (buffers rows heads alive queue seen) (buffers rows₂ heads₂ alive₂ queue₂ seen₂)
 answers-once pack query r s nodes nodes₂ triples triples₂ pairs pairs₂ rows rows₂ heads heads₂ alive alive₂ queue queue₂ seen seen₂ = call-once (fixed pack query)

@@ -44,6 +44,6 @@ buffers rows heads alive queue seen =
     rows at-least rowsLength ∷ heads at-least headsLength ∷ alive at-least maxStates ∷ queue at-least maxStates ∷ seen at-least maxStates ∷ []
 
 -- 1 to 12, or the graph and the pairs
-abbrev pub Answers : Text → Text → PairAnswer → Contents → Contents → Contents → Contents → Contents → Contents → Contents → Contents → Type 0
-Answers pack query r nodes triples pairs rows heads alive queue seen =
+abbrev pub PairsAnswers : Text → Text → PairAnswer → Contents → Contents → Contents → Contents → Contents → Contents → Contents → Contents → Type 0
+PairsAnswers pack query r nodes triples pairs rows heads alive queue seen =
     Call (record { graph = refusedAs 1; pairs = 0 }) (Refuses pack query) (Gives pack query) r (lists nodes triples pairs) (buffers rows heads alive queue seen)

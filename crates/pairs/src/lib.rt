@@ -1,7 +1,7 @@
 // Pairs, an open call: the pairs of named nodes that a query joins in every finite graph that obeys a pack.
 ghost use Rattle.calls.specs.Call.{lent};
 ghost use Rattle.pair_list.specs.Written.{TableRoom};
-ghost use Rattle.pairs.specs.Answer.{Answers};
+ghost use Rattle.pairs.specs.Answer.{PairsAnswers};
 ghost use Rattle.pairs.specs.Inner.{Comes, CountedGraph, ForCounted, ListRoom, Room};
 use answers::pairs::Pairs;
 use calls::long_enough;
@@ -153,7 +153,7 @@ pub fn pairs(
     queue: &mut [u32],
     seen: &mut [u16],
 ) -> PairAnswer
-    ensures { λ r. ⌜ Answers (now (pack .entry)) (now (query .entry)) r (lent nodes) (lent triples) (lent pairs) (lent rows) (lent heads) (lent alive) (lent queue) (lent seen) ⌝ }
+    ensures { λ r. ⌜ PairsAnswers (now (pack .entry)) (now (query .entry)) r (lent nodes) (lent triples) (lent pairs) (lent rows) (lent heads) (lent alive) (lent queue) (lent seen) ⌝ }
 {
     let asked = LEAST_LENGTHS;
     let lengths = [

@@ -1,2 +1,2 @@
-pub mod Decide
 pub mod Once
+pub mod RefusedOrGraph

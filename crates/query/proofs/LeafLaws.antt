@@ -16,8 +16,8 @@ use Rattle.grammar.specs.Parse.{bad, first, label, leaf, name, noByte, ok, Out,
 use Rattle.meaning.specs.Limits.{maxNameBytes, partRoom}
 use Rattle.meaning.specs.Pack.{Text}
 use Rattle.meaning.specs.Query.{Expr, step, anyStep, atIri, atLiteral}
-use Rattle.query.specs.Reading.{class, labelled, Ready, Put, Tells, Reading}
-use Rattle.query.specs.Tree.{part, At, Holds, h-step, h-iri, h-literal}
+use Rattle.query.specs.Reading.{class, labelled, CanRead, StarsPut, Tells, Reading}
+use Rattle.query.specs.Tree.{part, QueryTextAt, Holds, h-step, h-iri, h-literal}
 
 -- A refusal that kept the parts below n.
 pub refuse : (q t t′ : List ℕ) (i n : ℕ) (o : Out) → ((x : ℕ) → x < n → getD t′ x 0 ≡ getD t x 0) → o ≡ bad → Reading q t t′ i n false 0 0 o
@@ -41,7 +41,7 @@ run-size p q i j le e =
     (omega arith, k, simp (length-take, length-drop) (omega arith))
 
 -- What stands from i up to j.
-run-at : (q : Text) (i j : ℕ) → i < partRoom → j - i < partRoom → length (take (j - i) (drop i q)) ≡ j - i → At q i (take (j - i) (drop i q))
+run-at : (q : Text) (i j : ℕ) → i < partRoom → j - i < partRoom → length (take (j - i) (drop i q)) ≡ j - i → QueryTextAt q i (take (j - i) (drop i q))
 run-at q i j a b e = record { begins = a; short = omega arith; bytes = ap (λ (x : ℕ). take x (drop i q)) e }
 
 -- ---- labels
@@ -74,8 +74,8 @@ module _ (q t : List ℕ) (i n kind mark j : ℕ) (is : j ≡ i + run (class kin
       (ap (λ (x : ℕ). labelled x (drop i q)) p ∙ label-no quote atLiteral q i j (is ∙ ap (λ (x : ℕ). i + run (class x) (drop i q)) p) (λ w. h (w ∙ sym r)))
 
   -- One law for both kinds.
-  module _ (v : ℕ) (rd : Ready q t i n) (h : getD q j noByte ≡ mark) (u : v ≡ part kind i (j - i)) (k m : ℕ) (lt : m < noByte)
-      (f : Text → Expr) (rule : (s : Text) → At q i s → getD (set t n v) n 0 ≡ part k i (length s) → Holds q (set t n v) n (f s) (n + 1))
+  module _ (v : ℕ) (rd : CanRead q t i n) (h : getD q j noByte ≡ mark) (u : v ≡ part kind i (j - i)) (k m : ℕ) (lt : m < noByte)
+      (f : Text → Expr) (rule : (s : Text) → QueryTextAt q i s → getD (set t n v) n 0 ≡ part k i (length s) → Holds q (set t n v) n (f s) (n + 1))
       (p : kind ≡ k) (r : mark ≡ m) (same : j ≡ i + run (other m) (drop i q)) (told : labelled kind (drop i q) ≡ label m f (drop i q)) where
     label-kept : Reading q t (set t n v) i n true (j + 1) (n + 1) (labelled kind (drop i q))
     label-kept =
@@ -85,7 +85,7 @@ module _ (q t : List ℕ) (i n kind mark j : ℕ) (is : j ≡ i + run (class kin
         (told ∙ label-yes m f q i j (rd .within) same (h ∙ r))
         (λ x. rule (take (j - i) (drop i q)) (run-at q i j (omega (arith, rd, z)) (omega (arith, rd, z)) (z .2)) (x ∙ u ∙ ap (λ (y : ℕ). part y i (j - i)) p ∙ ap (λ (y : ℕ). part k i y) (sym (z .2))))
 
-  pub label-stored : (v : ℕ) → Ready q t i n → Kind kind mark → getD q j noByte ≡ mark → v ≡ part kind i (j - i) → Reading q t (set t n v) i n true (j + 1) (n + 1) (labelled kind (drop i q))
+  pub label-stored : (v : ℕ) → CanRead q t i n → Kind kind mark → getD q j noByte ≡ mark → v ≡ part kind i (j - i) → Reading q t (set t n v) i n true (j + 1) (n + 1) (labelled kind (drop i q))
   unfolding labelled class
   label-stored v rd (_⊎_.inl (p, r)) h u = label-kept v rd h u 3 angleClose (lit< tt) atIri (λ s a x. h-iri a x) p r
       (is ∙ ap (λ (x : ℕ). i + run (class x) (drop i q)) p) (ap (λ (x : ℕ). labelled x (drop i q)) p)
@@ -103,7 +103,7 @@ module _ (q t : List ℕ) (i n j : ℕ) (is : j ≡ i + run (class 2) (drop i q)
   unfolding name class
   name-long le h = refuse q t t i n (name (drop i q)) (λ x l. refl) (rw (run-size letter q i j le is .0, lt-leb (j - i) maxNameBytes h, le-leb 1 (j - i) (omega arith)))
 
-  pub name-stored : (v : ℕ) → Ready q t i n → (j - i ≡ 0 → ⊥) → j - i ≤ maxNameBytes → v ≡ part 2 i (j - i) → Reading q t (set t n v) i n true j (n + 1) (name (drop i q))
+  pub name-stored : (v : ℕ) → CanRead q t i n → (j - i ≡ 0 → ⊥) → j - i ≤ maxNameBytes → v ≡ part 2 i (j - i) → Reading q t (set t n v) i n true j (n + 1) (name (drop i q))
   unfolding name class
   name-stored v rd lo hi u =
       let z = run-size letter q i j (rd .within) is in
@@ -142,10 +142,10 @@ module _ (q : Text) (i : ℕ) where
 
 -- ---- stars, one after another
 
-pub put-none : (t : List ℕ) (n : ℕ) → Put t t n 0
+pub put-none : (t : List ℕ) (n : ℕ) → StarsPut t t n 0
 put-none t n = record { kept = λ x h. refl; stars = λ x h l. absurd (omega arith) }
 
-pub put-more : (t t′ : List ℕ) (n i v : ℕ) → Put t t′ n i → n + i < length t′ → v ≡ part 6 0 0 → Put t (set t′ (n + i) v) n (i + 1)
+pub put-more : (t t′ : List ℕ) (n i v : ℕ) → StarsPut t t′ n i → n + i < length t′ → v ≡ part 6 0 0 → StarsPut t (set t′ (n + i) v) n (i + 1)
 put-more t t′ n i v p lt e = record {
   kept = λ x h. getD-set-other t′ (n + i) x v 0 (λ w. omega arith) ∙ p .kept x h;
   stars = λ x h l. go x h l (ℕ-discrete x (n + i));

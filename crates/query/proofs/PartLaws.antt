@@ -15,7 +15,7 @@ use Rattle.grammar.specs.Grammar.{aUnion, aSequence, aStep, anAtom, stars, bar,
 use Rattle.grammar.specs.Parse.{atomOf, bad, closed, leaf, noByte, ok, Out, parse, parts, run, sequenceBy, unionBy, withStars}
 use Rattle.meaning.specs.Pack.{Text}
 use Rattle.meaning.specs.Query.{Expr, stay, nested, sequence, star, union}
-use Rattle.query.specs.Reading.{class, Ready, Put, Stored, Tells, Reading}
+use Rattle.query.specs.Reading.{class, CanRead, StarsPut, Stored, Tells, Reading}
 use Rattle.query.specs.Tree.{part, Holds, h-stay, h-nested, h-star}
 use Rattle.query.proofs.LeafLaws.{refuse, store, reread}
 use Rattle.query.proofs.TreeLaws.{holds-lt, holds-kept}
@@ -142,7 +142,7 @@ module _ (d : ℕ) {q t t₁ : List ℕ} {i n : ℕ} {good : Bool} {j m : ℕ} (
   unfolding withStars
   step-refused e = refuse q t t₁ i n (parse aStep d (drop i q)) (r .kept) (step-stars d (drop i q) ∙ ap withStars (is-bad r e))
 
-  pub step-read : good ≡ true → (p : ℕ) → p ≡ j + run (class 6) (drop j q) → (t₂ : List ℕ) → Put t₁ t₂ m (p - j) → Reading q t t₂ i n true p (m + (p - j)) (parse aStep d (drop i q))
+  pub step-read : good ≡ true → (p : ℕ) → p ≡ j + run (class 6) (drop j q) → (t₂ : List ℕ) → StarsPut t₁ t₂ m (p - j) → Reading q t t₂ i n true p (m + (p - j)) (parse aStep d (drop i q))
   unfolding withStars class
   step-read e p w t₂ u =
       let s = is-stored r e in
@@ -207,7 +207,7 @@ module _ (d : ℕ) {q t : List ℕ} {i n : ℕ} where
   pub no-square : {c : ℕ} → c ≡ getD q i noByte → c ≡ squareOpen → d ≡ 0 → Reading q t t i n false 0 0 (parse anAtom d (drop i q))
   no-square e h z = refuse q t t i n (parse anAtom d (drop i q)) (λ x l. refl) (plain-atom q i d bad (λ o. square-none q i d o (sym e ∙ h) z))
 
-  pub stay-read : {v : ℕ} → Ready q t i n → getD q i noByte ≡ roundOpen → (d ≡ 0 → ⊥) → getD q (i + 1) noByte ≡ roundClose → v ≡ part 0 0 0 → Reading q t (set t n v) i n true (i + 2) (n + 1) (parse anAtom d (drop i q))
+  pub stay-read : {v : ℕ} → CanRead q t i n → getD q i noByte ≡ roundOpen → (d ≡ 0 → ⊥) → getD q (i + 1) noByte ≡ roundClose → v ≡ part 0 0 0 → Reading q t (set t n v) i n true (i + 2) (n + 1) (parse anAtom d (drop i q))
   stay-read {v} rd h z w u =
       let a = getD-within q (i + 1) roundClose w (lit< tt) in
       store q t i n (i + 2) v (parse anAtom d (drop i q)) stay (omega (arith, rd)) (omega arith) (omega arith) (plain-atom q i d (ok stay (drop (i + 2) q)) (λ o. atom-stay q i d o h z w)) (λ y. h-stay (y ∙ u))

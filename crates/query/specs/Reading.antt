@@ -21,7 +21,7 @@ unfoldable pub labelled : ℕ → Text → Out
 labelled kind s = cond (eqb kind 3) (label angleClose atIri s) (label quote atLiteral s)
 
 -- Where a reader may begin: no more parts than bytes so far, and room for a part for each byte.
-pub record Ready (q t : List ℕ) (i n : ℕ) : Type 0 where
+pub record CanRead (q t : List ℕ) (i n : ℕ) : Type 0 where
   pub within : i ≤ length q
   pub short : length q ≤ maxQueryBytes
   pub room : maxParts ≤ length t
@@ -46,6 +46,6 @@ pub record Reading (q t t′ : List ℕ) (i n : ℕ) (good : Bool) (j m : ℕ) (
   pub tells : Tells good q t′ i n j m o
 
 -- k stars from part n on.
-pub record Put (t t′ : List ℕ) (n k : ℕ) : Type 0 where
+pub record StarsPut (t t′ : List ℕ) (n k : ℕ) : Type 0 where
   pub kept : (x : ℕ) → x < n → getD t′ x 0 ≡ getD t x 0
   pub stars : (x : ℕ) → n ≤ x → x < n + k → getD t′ x 0 ≡ part 6 0 0

@@ -29,7 +29,7 @@ abbrev pub secondNumber : List ℕ → ℕ → ℕ
 secondNumber t i = getD t i 0 % partRoom
 
 -- The text is the query's bytes from a on.
-pub record At (q : Text) (a : ℕ) (s : Text) : Type 0 where
+pub record QueryTextAt (q : Text) (a : ℕ) (s : Text) : Type 0 where
   pub begins : a < partRoom
   pub short : length s < partRoom
   pub bytes : take (length s) (drop a q) ≡ s
@@ -38,9 +38,9 @@ pub record At (q : Text) (a : ℕ) (s : Text) : Type 0 where
 pub data Holds (q t : List ℕ) : ℕ → Expr → ℕ → Type 0 where
   h-stay : {n : ℕ} → getD t n 0 ≡ part 0 0 0 → Holds q t n stay (n + 1)
   h-any : {n : ℕ} → getD t n 0 ≡ part 1 0 0 → Holds q t n anyStep (n + 1)
-  h-step : {n a : ℕ} {s : Text} → At q a s → getD t n 0 ≡ part 2 a (length s) → Holds q t n (step s) (n + 1)
-  h-iri : {n a : ℕ} {s : Text} → At q a s → getD t n 0 ≡ part 3 a (length s) → Holds q t n (atIri s) (n + 1)
-  h-literal : {n a : ℕ} {s : Text} → At q a s → getD t n 0 ≡ part 4 a (length s) → Holds q t n (atLiteral s) (n + 1)
+  h-step : {n a : ℕ} {s : Text} → QueryTextAt q a s → getD t n 0 ≡ part 2 a (length s) → Holds q t n (step s) (n + 1)
+  h-iri : {n a : ℕ} {s : Text} → QueryTextAt q a s → getD t n 0 ≡ part 3 a (length s) → Holds q t n (atIri s) (n + 1)
+  h-literal : {n a : ℕ} {s : Text} → QueryTextAt q a s → getD t n 0 ≡ part 4 a (length s) → Holds q t n (atLiteral s) (n + 1)
   h-nested : {n m : ℕ} {e : Expr} → Holds q t n e m → getD t m 0 ≡ part 5 0 0 → Holds q t n (nested e) (m + 1)
   h-star : {n m : ℕ} {e : Expr} → Holds q t n e m → getD t m 0 ≡ part 6 0 0 → Holds q t n (star e) (m + 1)
   h-sequence : {n m k : ℕ} {a b : Expr} → Holds q t n a m → Holds q t m b k → getD t k 0 ≡ part 7 (m - 1) 0 → Holds q t n (sequence a b) (k + 1)

@@ -2,7 +2,7 @@
 ghost use lib.ListN.{length, drop};
 ghost use Prim.Native.Nat.{_+_, _≤_};
 ghost use Rattle.grammar.specs.Parse.{name, leaf};
-ghost use Rattle.query.specs.Reading.{labelled, Ready, Put, Reading};
+ghost use Rattle.query.specs.Reading.{labelled, CanRead, StarsPut, Reading};
 use crate::kinds;
 use crate::marks;
 use crate::parts::pack;
@@ -16,7 +16,7 @@ pub struct Read(pub bool, pub usize, pub usize);
 // Writes k stars from part n on.
 pub fn put_stars(tree: &mut [u32], n: usize, k: usize)
     requires { ⌜ n + k ≤ length (now tree) ⌝ }
-    ensures { λ _. ⌜ Put (now (tree .entry)) (now (tree .exit)) n k ⌝ }
+    ensures { λ _. ⌜ StarsPut (now (tree .entry)) (now (tree .exit)) n k ⌝ }
 {
     let star = pack(kinds::STAR, 0, 0);
     let mut i = 0;
@@ -28,7 +28,7 @@ pub fn put_stars(tree: &mut [u32], n: usize, k: usize)
 
 // Reads the rest of a label, whose opening mark stands before `at`.
 fn read_label(q: &[u8], at: usize, kind: usize, tree: &mut [u32], n: usize) -> Read
-    requires { ⌜ Ready (now q) (now tree) at n × ((3 ≤ kind) × (kind ≤ 4)) ⌝ }
+    requires { ⌜ CanRead (now q) (now tree) at n × ((3 ≤ kind) × (kind ≤ 4)) ⌝ }
     ensures { λ r. ⌜ Reading (now (q .entry)) (now (tree .entry)) (now (tree .exit)) at n (r .0) (r .1) (r .2) (labelled kind (drop at (now (q .entry)))) ⌝ }
 {
     let end = run_end(q, at, kind);
@@ -46,7 +46,7 @@ fn read_label(q: &[u8], at: usize, kind: usize, tree: &mut [u32], n: usize) -> R
 
 // Reads a predicate name.
 fn read_name(q: &[u8], at: usize, tree: &mut [u32], n: usize) -> Read
-    requires { ⌜ Ready (now q) (now tree) at n ⌝ }
+    requires { ⌜ CanRead (now q) (now tree) at n ⌝ }
     ensures { λ r. ⌜ Reading (now (q .entry)) (now (tree .entry)) (now (tree .exit)) at n (r .0) (r .1) (r .2) (name (drop at (now (q .entry)))) ⌝ }
 {
     let end = run_end(q, at, kinds::STEP);
@@ -63,7 +63,7 @@ fn read_name(q: &[u8], at: usize, tree: &mut [u32], n: usize) -> Read
 
 // Reads an atom that has no bracket.
 pub fn read_leaf(q: &[u8], at: usize, tree: &mut [u32], n: usize) -> Read
-    requires { ⌜ Ready (now q) (now tree) at n ⌝ }
+    requires { ⌜ CanRead (now q) (now tree) at n ⌝ }
     ensures { λ r. ⌜ Reading (now (q .entry)) (now (tree .entry)) (now (tree .exit)) at n (r .0) (r .1) (r .2) (leaf (drop at (now (q .entry)))) ⌝ }
 {
     let c = peek(q, at);

@@ -3,7 +3,7 @@
 ghost use lib.ListN.{drop};
 ghost use Rattle.grammar.specs.Grammar.{aUnion, aSequence, aStep, anAtom};
 ghost use Rattle.grammar.specs.Parse.{parse};
-ghost use Rattle.query.specs.Reading.{Ready, Reading};
+ghost use Rattle.query.specs.Reading.{CanRead, Reading};
 use crate::kinds;
 use crate::leaves::Read;
 use crate::leaves::put_stars;
@@ -15,7 +15,7 @@ use crate::scan::run_end;
 
 // Reads sequences parted by "|".
 pub fn read_union(q: &[u8], at: usize, left: usize, tree: &mut [u32], n: usize) -> Read
-    requires { ⌜ Ready (now q) (now tree) at n ⌝ }
+    requires { ⌜ CanRead (now q) (now tree) at n ⌝ }
     ensures { λ r. ⌜ Reading (now (q .entry)) (now (tree .entry)) (now (tree .exit)) at n (r .0) (r .1) (r .2) (parse aUnion left (drop at (now (q .entry)))) ⌝ }
 {
     let Read(ok, mut end, mut m) = read_sequence(q, at, left, tree, n);
@@ -36,7 +36,7 @@ pub fn read_union(q: &[u8], at: usize, left: usize, tree: &mut [u32], n: usize) 
 
 // Reads steps parted by "/".
 fn read_sequence(q: &[u8], at: usize, left: usize, tree: &mut [u32], n: usize) -> Read
-    requires { ⌜ Ready (now q) (now tree) at n ⌝ }
+    requires { ⌜ CanRead (now q) (now tree) at n ⌝ }
     ensures { λ r. ⌜ Reading (now (q .entry)) (now (tree .entry)) (now (tree .exit)) at n (r .0) (r .1) (r .2) (parse aSequence left (drop at (now (q .entry)))) ⌝ }
 {
     let Read(ok, mut end, mut m) = read_step(q, at, left, tree, n);
@@ -57,7 +57,7 @@ fn read_sequence(q: &[u8], at: usize, left: usize, tree: &mut [u32], n: usize) -
 
 // Reads an atom and its stars.
 fn read_step(q: &[u8], at: usize, left: usize, tree: &mut [u32], n: usize) -> Read
-    requires { ⌜ Ready (now q) (now tree) at n ⌝ }
+    requires { ⌜ CanRead (now q) (now tree) at n ⌝ }
     ensures { λ r. ⌜ Reading (now (q .entry)) (now (tree .entry)) (now (tree .exit)) at n (r .0) (r .1) (r .2) (parse aStep left (drop at (now (q .entry)))) ⌝ }
 {
     let Read(ok, end, m) = read_atom(q, at, left, tree, n);
@@ -72,7 +72,7 @@ fn read_step(q: &[u8], at: usize, left: usize, tree: &mut [u32], n: usize) -> Re
 
 // Reads "()", a union in brackets, or an atom with no bracket.
 fn read_atom(q: &[u8], at: usize, left: usize, tree: &mut [u32], n: usize) -> Read
-    requires { ⌜ Ready (now q) (now tree) at n ⌝ }
+    requires { ⌜ CanRead (now q) (now tree) at n ⌝ }
     ensures { λ r. ⌜ Reading (now (q .entry)) (now (tree .entry)) (now (tree .exit)) at n (r .0) (r .1) (r .2) (parse anAtom left (drop at (now (q .entry)))) ⌝ }
 {
     let c = peek(q, at);

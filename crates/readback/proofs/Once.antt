@@ -4,14 +4,14 @@ use mathlib.Core.Path.{_≡_, sym, ap, subst, _∙_}
 use Rattle.pack.proofs.Accepted.{well-formed}
 use Rattle.pack.proofs.Order.{not-both, one-number, one-pack}
 use Rattle.meaning.specs.Pack.{Text}
-use Rattle.readback.specs.Answer.{Answers, iri, no-iri, not-well-formed, unreadAs, term}
+use Rattle.readback.specs.Answer.{ReadBackAnswers, iri, no-iri, not-well-formed, unreadAs, term}
 use Rattle.readback.specs.declared.ReadBack.{ReadBack}
 use Rattle.spelling.proofs.Injective.{segment-writes}
 use Rattle.spelling.proofs.Reading.{reads-back-once}
 use Rattle.spelling.specs.ReadBack.{ReadsBack}
 
 module _ {pack text : Text} {r s : ReadBack} where
-  pub answers-once : Answers pack text r → Answers pack text s → r ≡ s
+  pub answers-once : ReadBackAnswers pack text r → ReadBackAnswers pack text s → r ≡ s
   answers-once (not-well-formed k e q) (not-well-formed m f p) = q ∙ ap unreadAs (one-number e f) ∙ sym p
   answers-once (not-well-formed k e q) (no-iri P w n p) = not-both e w
   answers-once (not-well-formed k e q) (iri P c vs w b p) = not-both e w

@@ -24,7 +24,7 @@ abbrev pub read : IriRead → ReadBack
 read found = cond (found .ok) (record { refusal = 0; constructor = found .constructor; values = found .values }) (unreadAs 13)
 
 -- "Read-back uses 3 to 7, then 13": "The text is no IRI of the pack's constructors over its values."
-pub data Answers (pack text : Text) (r : ReadBack) : Type 0 where
-  not-well-formed : (k : ℕ) → wellFormed pack ≡ refused k → r ≡ unreadAs k → Answers pack text r
-  no-iri : (P : Pack) → wellFormed pack ≡ accepted P → ((c : ℕ) (vs : List ℕ) → ReadsBack P text c vs → ⊥) → r ≡ unreadAs 13 → Answers pack text r
-  iri : (P : Pack) (c : ℕ) (vs : List ℕ) → wellFormed pack ≡ accepted P → ReadsBack P text c vs → r ≡ term c vs → Answers pack text r
+pub data ReadBackAnswers (pack text : Text) (r : ReadBack) : Type 0 where
+  not-well-formed : (k : ℕ) → wellFormed pack ≡ refused k → r ≡ unreadAs k → ReadBackAnswers pack text r
+  no-iri : (P : Pack) → wellFormed pack ≡ accepted P → ((c : ℕ) (vs : List ℕ) → ReadsBack P text c vs → ⊥) → r ≡ unreadAs 13 → ReadBackAnswers pack text r
+  iri : (P : Pack) (c : ℕ) (vs : List ℕ) → wellFormed pack ≡ accepted P → ReadsBack P text c vs → r ≡ term c vs → ReadBackAnswers pack text r

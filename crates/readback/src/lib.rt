@@ -1,6 +1,6 @@
 // Read-back, an open call: from an IRI's text to its constructor and values.
 ghost use mathlib.Core.Path.{_≡_};
-ghost use Rattle.readback.specs.Answer.{Answers, unreadAs, read};
+ghost use Rattle.readback.specs.Answer.{ReadBackAnswers, unreadAs, read};
 use checks::check;
 use iris::iri::IriRead;
 use iris::iri::read_iri;
@@ -44,7 +44,7 @@ fn answer(found: IriRead) -> ReadBack
 
 // The constructor and the values whose IRI the text is.
 pub fn read_back(pack: &[u8], text: &[u8]) -> ReadBack
-    ensures { λ r. ⌜ Answers (now (pack .entry)) (now (text .entry)) r ⌝ }
+    ensures { λ r. ⌜ ReadBackAnswers (now (pack .entry)) (now (text .entry)) r ⌝ }
 {
     let mut numbers = [0u16; SETTING_LENGTH];
     let mut rows = [0u16; ROWS_LENGTH];

@@ -14,7 +14,7 @@ use Rattle.pack.proofs.Bounds.{atom-fine}
 use Rattle.pack.proofs.Reading.{length-at}
 use Rattle.pack.specs.Readers.{Read, give, next}
 use Rattle.pack.specs.Records.{atom, atomOf, atoms}
-use Rattle.pack.specs.Shown.{left, Got, Not, Placed, TupleGot, made}
+use Rattle.pack.specs.Shown.{left, Got, Not, CursorIn, TupleGot, made}
 use Rattle.pack.specs.declared.cursor.Cursor.{Cursor}
 use Rattle.pack.specs.declared.cursor.Tuple.{Tuple}
 use Rattle.records.specs.Kept.{Put}
@@ -91,13 +91,13 @@ all-zeros xs h =
 -- the atoms of `done` are put, and with those from c on they are all n
 pub record AtomsPut (s : List ℕ) (c₀ : Cursor) (n i : ℕ) (c : Cursor) (out : List ℕ) : Type 0 where
   pub within : i ≤ n
-  pub placed : Placed s c
+  pub placed : CursorIn s c
   pub done : List Atom
   pub many : length done ≡ i
   pub held : out ≡ flatMap atomNumbers done ++ zeros i
   pub asked : (as′ : List Atom) (d : Cursor) → Got (atoms n) s c₀ as′ d → (bs : List Atom) × Got (atoms (n - i)) s c bs d × (done ++ bs ≡ as′)
 
-pub atoms-start : {s : List ℕ} {c : Cursor} (n : ℕ) → Placed s c → AtomsPut s c n 0 c (replicate atomsLength 0)
+pub atoms-start : {s : List ℕ} {c : Cursor} (n : ℕ) → CursorIn s c → AtomsPut s c n 0 c (replicate atomsLength 0)
 unfolding flatMap
 atoms-start n p = record {
   within = zero-le;

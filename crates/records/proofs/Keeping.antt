@@ -33,8 +33,8 @@ use Rattle.pack.specs.declared.cursor.TupleRead.{TupleRead}
 use Rattle.pack.specs.declared.cursor.TupleRead.the-variants.{Tuple as ATuple, Bad as NoTuple}
 use Rattle.pack.specs.declared.kinds.Kind.{Kind}
 use Rattle.pack.specs.declared.kinds.Kind.the-variants as K
-use Rattle.records.specs.Held.{width}
-use Rattle.records.specs.Kept.{ByteKept, ConstructorFits, ConstructorKept, DependencyKept, Fits, Kept, KeptShown, RowFits}
+use Rattle.records.specs.PackHeld.{width}
+use Rattle.records.specs.Kept.{ByteKept, ConstructorFits, ConstructorKept, DependencyKept, PlaceFits, RecordKept, KeptShown, RowFits}
 use Rattle.records.specs.Kept.{RowKept, RuleFits, RuleKept, SamePlace, ShapeKept, TextFits, TextKept, Wrote}
 use Rattle.records.specs.Numbers.{NumbersOf, TextAt, TextNumbers, targetNumber}
 use Rattle.records.proofs.RuleParts.{length-rule}
@@ -43,7 +43,7 @@ use Rattle.records.proofs.Short.{HeadShort, name-short, prefix-short, r
 
 -- ---- it fits
 
-fits-at : (s : List ℕ) (start len most : ℕ) → length s ≤ maxPackBytes → start + len ≤ length s → length (textAt s start len) ≤ most → most ≤ maxValueBytes → Fits start len
+fits-at : (s : List ℕ) (start len most : ℕ) → length s ≤ maxPackBytes → start + len ≤ length s → length (textAt s start len) ≤ most → most ≤ maxValueBytes → PlaceFits start len
 fits-at s start len most l i h m = (omega (arith, l, i), omega (arith, h, m, length-at s start len i))
 
 module _ (s : List ℕ) (c : Cursor) (l : length s ≤ maxPackBytes) where
@@ -146,7 +146,7 @@ module _ (s : List ℕ) (c : Cursor) (at : ℕ) (out out′ : List ℕ) (m : Mov
 
 -- ---- what an answer that is known says
 
-pub as-kept : {k : Kind} {s : List ℕ} {c : Cursor} {at : ℕ} {out out′ : List ℕ} {d : Cursor} {r : Moved} → r ≡ To d → KeptShown k s c at out out′ r → Kept k s c at out out′ d
+pub as-kept : {k : Kind} {s : List ℕ} {c : Cursor} {at : ℕ} {out out′ : List ℕ} {d : Cursor} {r : Moved} → r ≡ To d → KeptShown k s c at out out′ r → RecordKept k s c at out out′ d
 as-kept {k} {s} {c} {at} {out} {out′} e h = subst (KeptShown k s c at out out′) e h
 
 pub not-kept : (k : Kind) (s : List ℕ) (c : Cursor) (at : ℕ) (out out′ : List ℕ) {r : Moved} → r ≡ Stuck → KeptShown k s c at out out′ r → Not (readerOf k) s c

@@ -10,7 +10,7 @@ use Rattle.meaning.specs.Pack.{Atom, Head}
 use Rattle.meaning.specs.Tables.{atomNumbers, headArguments, headNumbers, rowNumbers, ruleNumbers}
 use Rattle.pack.specs.Kinds.{RecordOf, readerOf}
 use Rattle.pack.specs.Records.{atoms, rowOf}
-use Rattle.pack.specs.Shown.{Got, Not, Placed, headAt, made}
+use Rattle.pack.specs.Shown.{Got, Not, CursorIn, headAt, made}
 use Rattle.pack.specs.declared.cursor.Cursor.{Cursor}
 use Rattle.pack.specs.declared.cursor.Tuple.{Tuple}
 use Rattle.pack.specs.declared.cursor.ByteRead.{ByteRead}
@@ -30,7 +30,7 @@ use Rattle.pack.specs.declared.cursor.RuleRead.the-variants.{Rule as ARule, Bad
 use Rattle.pack.specs.declared.cursor.Moved.{Moved}
 use Rattle.pack.specs.declared.cursor.Moved.the-variants.{To, Stuck}
 use Rattle.pack.specs.declared.kinds.Kind.{Kind}
-use Rattle.records.specs.Held.{width}
+use Rattle.records.specs.PackHeld.{width}
 use Rattle.records.specs.Numbers.{NumbersOf}
 
 -- out′ is out with the numbers from a place on
@@ -38,7 +38,7 @@ pub record Put (numbers : List ℕ) (at : ℕ) (out out′ : List ℕ) : Type 0 
   pub is : out′ ≡ overwritten at numbers out
 
 -- The record at c was read: its numbers stand from a place on, and d is past it.
-pub record Kept (k : Kind) (s : List ℕ) (c : Cursor) (at : ℕ) (out out′ : List ℕ) (d : Cursor) : Type 0 where
+pub record RecordKept (k : Kind) (s : List ℕ) (c : Cursor) (at : ℕ) (out out′ : List ℕ) (d : Cursor) : Type 0 where
   pub it : RecordOf k
   pub got : Got (readerOf k) s c it d
   pub numbers : List ℕ
@@ -47,7 +47,7 @@ pub record Kept (k : Kind) (s : List ℕ) (c : Cursor) (at : ℕ) (out out′ : 
   pub put : Put numbers at out out′
 
 abbrev pub KeptShown : (k : Kind) → List ℕ → Cursor → ℕ → List ℕ → List ℕ → Moved → Type 0
-KeptShown k s c at out out′ (To d) = Kept k s c at out out′ d
+KeptShown k s c at out out′ (To d) = RecordKept k s c at out out′ d
 KeptShown k s c at out out′ Stuck = Not (readerOf k) s c
 
 -- ---- by what the cursor's method answered
@@ -63,11 +63,11 @@ pub record Wrote (numbers : List ℕ) (d : Cursor) (at : ℕ) (out out′ : List
   pub put : Put numbers at out out′
 
 -- a place and a length that 16 bits have room for, but for the place of an empty text
-abbrev pub Fits : ℕ → ℕ → Type 0
-Fits start len = (start + len ≤ maxPackBytes) × (len ≤ maxValueBytes)
+abbrev pub PlaceFits : ℕ → ℕ → Type 0
+PlaceFits start len = (start + len ≤ maxPackBytes) × (len ≤ maxValueBytes)
 
 abbrev pub TextFits : TextRead → Type 0
-TextFits (Text start len d) = Fits start len
+TextFits (Text start len d) = PlaceFits start len
 TextFits NoText = Unit
 
 abbrev pub TextKept : TextRead → ℕ → List ℕ → List ℕ → Moved → Type 0
@@ -87,7 +87,7 @@ ShapeKept (AShape t p x m d) at out out′ r = Wrote (t ∷ p ∷ x ∷ m ∷ []
 ShapeKept NoShape at out out′ r = r ≡ Stuck
 
 abbrev pub ConstructorFits : ConstructorRead → Type 0
-ConstructorFits (AConstructor k start len d) = Fits start len
+ConstructorFits (AConstructor k start len d) = PlaceFits start len
 ConstructorFits NoConstructor = Unit
 
 abbrev pub ConstructorKept : ConstructorRead → ℕ → List ℕ → List ℕ → Moved → Type 0
@@ -111,16 +111,16 @@ abbrev pub FewArguments : ℕ → Tuple → Tuple → Type 0
 FewArguments k t u = (t .len ≤ maxArguments) × (k ≡ 1 → u .len ≤ maxArguments)
 
 abbrev pub RuleFits : List ℕ → RuleRead → Type 0
-RuleFits s (ARule n f k t l u d) = Placed s f × (n ≤ maxAtoms) × Inside s t × Inside s u × FewArguments k t u
+RuleFits s (ARule n f k t l u d) = CursorIn s f × (n ≤ maxAtoms) × Inside s t × Inside s u × FewArguments k t u
 RuleFits s NoRule = Unit
 
 -- It holds of the n atoms at a cursor, where they are whole.
-abbrev pub AtomsAt : List ℕ → Cursor → ℕ → (List Atom → Type 0) → Type 0
-AtomsAt s c n Q = (as′ : List Atom) (d : Cursor) → Got (atoms n) s c as′ d → Q as′
+abbrev pub ForAtomsAt : List ℕ → Cursor → ℕ → (List Atom → Type 0) → Type 0
+ForAtomsAt s c n Q = (as′ : List Atom) (d : Cursor) → Got (atoms n) s c as′ d → Q as′
 
 abbrev pub RuleKept : List ℕ → RuleRead → ℕ → List ℕ → List ℕ → Moved → Type 0
 RuleKept s (ARule n f k t l u d) at out out′ r =
-    AtomsAt s f n (λ as′. Wrote (ruleNumbers (record { atoms = as′; head = headAt k s t l u })) d at out out′ r)
+    ForAtomsAt s f n (λ as′. Wrote (ruleNumbers (record { atoms = as′; head = headAt k s t l u })) d at out out′ r)
 RuleKept s NoRule at out out′ r = r ≡ Stuck
 
 -- ---- the parts of a rule

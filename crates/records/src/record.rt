@@ -2,9 +2,9 @@
 ghost use lib.ListN.{length};
 ghost use Prim.Native.Nat.{_+_, _≤_};
 ghost use Rattle.meaning.specs.Limits.{constructorWidth, dependencyWidth, maxPackBytes, relationWidth, shapeWidth, textWidth};
-ghost use Rattle.pack.specs.Shown.{Placed};
-ghost use Rattle.records.specs.Kept.{ByteKept, ConstructorFits, ConstructorKept, DependencyKept, Fits, KeptShown, SamePlace, ShapeKept, TextFits, TextKept};
-ghost use Rattle.records.specs.Held.{width};
+ghost use Rattle.pack.specs.Shown.{CursorIn};
+ghost use Rattle.records.specs.Kept.{ByteKept, ConstructorFits, ConstructorKept, DependencyKept, PlaceFits, KeptShown, SamePlace, ShapeKept, TextFits, TextKept};
+ghost use Rattle.records.specs.PackHeld.{width};
 use crate::put::put;
 use crate::row::keep_row;
 use crate::rule::keep_rule;
@@ -19,7 +19,7 @@ use pack::kinds::Kind;
 
 // The place of a text in 16 bits: an empty text may stand anywhere.
 fn place(start: usize, len: usize) -> u16
-    requires { ⌜ Fits start len ⌝ }
+    requires { ⌜ PlaceFits start len ⌝ }
     ensures { λ r. ⌜ SamePlace start len r ⌝ }
 {
     if len == 0 {
@@ -121,7 +121,7 @@ fn keep_constructor(read: ConstructorRead, out: &mut [u16], at: usize) -> Moved
 
 // Reads the record at a cursor and writes its numbers from a place on.
 pub fn load_record(c: Cursor, s: &[u8], kind: Kind, out: &mut [u16], at: usize) -> Moved
-    requires { ⌜ Placed (now s) c × (length (now s) ≤ maxPackBytes) × (at + width kind ≤ length (now out)) ⌝ }
+    requires { ⌜ CursorIn (now s) c × (length (now s) ≤ maxPackBytes) × (at + width kind ≤ length (now out)) ⌝ }
     ensures { λ r. ⌜ KeptShown kind (now (s .entry)) c at (now (out .entry)) (now (out .exit)) r ⌝ }
 {
     match kind {

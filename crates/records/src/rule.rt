@@ -6,8 +6,8 @@ ghost use Prim.Native.Nat.{_+_, _≤_, _<_};
 ghost use Rattle.meaning.specs.Limits.{atomsLength, atomWidth, headWidth, maxAtoms, maxColumns, maxHeadVariables, ruleWidth};
 ghost use Rattle.meaning.specs.Tables.{atomNumbers, headNumbers};
 ghost use Rattle.pack.specs.Records.{atomOf};
-ghost use Rattle.pack.specs.Shown.{Placed, headAt, made};
-ghost use Rattle.records.specs.Kept.{AtomsAt, FewArguments, InBytes, Inside, Put, RuleFits, RuleKept, argumentsAt, atomsPart, headPart};
+ghost use Rattle.pack.specs.Shown.{CursorIn, headAt, made};
+ghost use Rattle.records.specs.Kept.{ForAtomsAt, FewArguments, InBytes, Inside, Put, RuleFits, RuleKept, argumentsAt, atomsPart, headPart};
 use crate::put::put;
 use meaning::ATOM_WIDTH;
 use meaning::ATOMS_LENGTH;
@@ -58,8 +58,8 @@ fn atom_numbers(s: &[u8], atom: Tuple) -> [u16; ATOM_WIDTH]
 
 // The n atoms from a cursor on, 0 past them.
 fn rule_atoms(s: &[u8], first: Cursor, n: usize) -> [u16; ATOMS_LENGTH]
-    requires { ⌜ Placed (now s) first × (n ≤ maxAtoms) ⌝ }
-    ensures { λ r. ⌜ AtomsAt (now (s .entry)) first n (λ as′. r ≡ take atomsLength (flatMap atomNumbers as′ ++ replicate atomsLength 0)) ⌝ }
+    requires { ⌜ CursorIn (now s) first × (n ≤ maxAtoms) ⌝ }
+    ensures { λ r. ⌜ ForAtomsAt (now (s .entry)) first n (λ as′. r ≡ take atomsLength (flatMap atomNumbers as′ ++ replicate atomsLength 0)) ⌝ }
 {
     let mut out = [0u16; ATOMS_LENGTH];
     let mut c = first;
@@ -154,8 +154,8 @@ fn head_numbers(kind: u8, subject: Tuple, label: u8, object: Tuple) -> [u16; HEA
 
 // Writes how many atoms there are, and these.
 fn put_atoms(s: &[u8], first: Cursor, count: u8, out: &mut [u16], at: usize)
-    requires { ⌜ Placed (now s) first × (count ≤ maxAtoms) × (at + (1 + atomsLength) ≤ length (now out)) ⌝ }
-    ensures { λ _. ⌜ AtomsAt (now (s .entry)) first count (λ as′. Put (atomsPart as′) at (now (out .entry)) (now (out .exit))) ⌝ }
+    requires { ⌜ CursorIn (now s) first × (count ≤ maxAtoms) × (at + (1 + atomsLength) ≤ length (now out)) ⌝ }
+    ensures { λ _. ⌜ ForAtomsAt (now (s .entry)) first count (λ as′. Put (atomsPart as′) at (now (out .entry)) (now (out .exit))) ⌝ }
 {
     let many = [count as u16];
     put(&many, out, at);

@@ -13,7 +13,7 @@ use Prim.Native.Nat.{ℕ, _+_, _-_, _≤_, _<_}
 use Rattle.meaning.specs.Pack.{Text}
 use Rattle.query.specs.Tree.{kindOf}
 use Rattle.resolve.specs.Search.{lesser}
-use Rattle.resolve.specs.Wanted.{Wants, OfGraph, Written}
+use Rattle.resolve.specs.Wanted.{Wants, OfGraph, WantedWritten}
 use Rattle.walk.specs.Parts.{partText}
 
 -- ---- the lesser of two numbers
@@ -94,7 +94,7 @@ module _ {pack q : Text} {t nodes : List ℕ} {count : ℕ} {wanted : List ℕ} 
           go (no n) P a inOrder listed =
               subst (Wants P inOrder (kindOf t j) (partText q t j)) (sym (getD-set-other wanted′ i j w 0 n)) (f .parts j (omega arith) P a inOrder listed)
 
-  pub filled-done : {wanted′ : List ℕ} {i n : ℕ} → i ≡ n → Filled pack q t nodes count wanted wanted′ i → Written pack q t nodes n count wanted wanted′
+  pub filled-done : {wanted′ : List ℕ} {i n : ℕ} → i ≡ n → Filled pack q t nodes count wanted wanted′ i → WantedWritten pack q t nodes n count wanted wanted′
   filled-done {n} e f = record {
     found = λ P a inOrder listed. record { parts = λ j h. f .parts j (omega arith) P a inOrder listed };
     kept = λ j h. f .kept j (omega arith);

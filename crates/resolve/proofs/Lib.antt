@@ -1,6 +1,6 @@
-pub mod Answers
 pub mod Filling
 pub mod Labelled
+pub mod LabelledNodes
 pub mod Names
 pub mod Numbered
 pub mod OneNode

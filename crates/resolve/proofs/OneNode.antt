@@ -14,13 +14,13 @@ use Rattle.meaning.specs.Built.{BuiltNode, IsBuilt}
 use Rattle.meaning.specs.Limits.{maxNodes, unused}
 use Rattle.meaning.specs.Listing.{nodeKey}
 use Rattle.meaning.specs.Pack.{Pack}
-use Rattle.resolve.specs.Listed.{Listed}
+use Rattle.resolve.specs.Listed.{BuiltNodesListed}
 use Rattle.resolve.specs.Search.{HasNumbers, First, found, nowhere}
 use Rattle.resolve.specs.Wanted.{NodeIs}
 use Rattle.resolve.proofs.Numbered.{Numbered}
 use Rattle.resolve.proofs.Records.{below-count, has-numbers}
 
-module _ {P : Pack} {inOrder : List BuiltNode} {nodes : List ℕ} {count : ℕ} (listed : Listed P inOrder nodes count) (few : count ≤ maxNodes) (HasLabel : BuiltNode → Type 0) where
+module _ {P : Pack} {inOrder : List BuiltNode} {nodes : List ℕ} {count : ℕ} (listed : BuiltNodesListed P inOrder nodes count) (few : count ≤ maxNodes) (HasLabel : BuiltNode → Type 0) where
   built-at : (m : ℕ) (b : BuiltNode) → getElem? inOrder m ≡ some b → IsBuilt P b
   built-at m b at = listed .ordered .members b .0 (element inOrder m b at)
 

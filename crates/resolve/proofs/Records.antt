@@ -13,7 +13,7 @@ use Rattle.meaning.specs.Core.{iriNode, literalNode}
 use Rattle.meaning.specs.Limits.{maxArguments, nodeWidth, unused}
 use Rattle.meaning.specs.Listing.{kind, number, padded, arguments, NodeRecord}
 use Rattle.meaning.specs.Pack.{Pack}
-use Rattle.resolve.specs.Listed.{Listed}
+use Rattle.resolve.specs.Listed.{BuiltNodesListed}
 use Rattle.resolve.specs.Search.{HasNumbers}
 use Rattle.meaning.proofs.Lists.Padding.{padded-wide, unpadded}
 
@@ -62,7 +62,7 @@ module _ (P : Pack) where
             ∙ getD-append-add r (flatten rs) (m * nodeWidth + j) 0 ∙ t .1 j h,
       )
 
-  module _ {inOrder : List BuiltNode} {nodes : List ℕ} {count : ℕ} (listed : Listed P inOrder nodes count) (m : ℕ) (b : BuiltNode) (at : getElem? inOrder m ≡ some b) where
+  module _ {inOrder : List BuiltNode} {nodes : List ℕ} {count : ℕ} (listed : BuiltNodesListed P inOrder nodes count) (m : ℕ) (b : BuiltNode) (at : getElem? inOrder m ≡ some b) where
     pub below-count : m < count
     below-count = omega (arith, inside inOrder m _ at, listed .counted)
 

@@ -9,7 +9,7 @@ use Rattle.meaning.specs.Listing.{NodeRecord, NodesInOrder}
 use Rattle.meaning.specs.Pack.{Pack}
 
 -- The first count records are those of the pack's built nodes, in node order.
-pub record Listed (P : Pack) (inOrder : List BuiltNode) (nodes : List ℕ) (count : ℕ) : Type 0 where
+pub record BuiltNodesListed (P : Pack) (inOrder : List BuiltNode) (nodes : List ℕ) (count : ℕ) : Type 0 where
   pub ordered : NodesInOrder P inOrder
   pub records : List (List ℕ)
   pub recorded : Forall₂ (NodeRecord P) inOrder records

@@ -13,7 +13,7 @@ use Rattle.meaning.specs.Graph.{Called}
 use Rattle.meaning.specs.Limits.{maxPredicates}
 use Rattle.meaning.specs.Pack.{Pack, Text}
 use Rattle.query.specs.Tree.{kindOf}
-use Rattle.resolve.specs.Listed.{Listed}
+use Rattle.resolve.specs.Listed.{BuiltNodesListed}
 use Rattle.spelling.specs.Iri.{plain}
 use Rattle.walk.specs.Parts.{partText}
 
@@ -45,9 +45,9 @@ pub record Wanted (P : Pack) (inOrder : List BuiltNode) (q : Text) (t : List ℕ
 
 -- What holds of the pack that the bytes are, and of its node list.
 abbrev pub OfGraph : Text → List ℕ → ℕ → (Pack → List BuiltNode → Type 0) → Type 0
-OfGraph pack nodes count Q = OfPack pack (λ P. (inOrder : List BuiltNode) → Listed P inOrder nodes count → Q P inOrder)
+OfGraph pack nodes count Q = OfPack pack (λ P. (inOrder : List BuiltNode) → BuiltNodesListed P inOrder nodes count → Q P inOrder)
 
 -- The numbers wanted are written, and nothing past them.
-pub record Written (pack q : Text) (t nodes : List ℕ) (n count : ℕ) (wanted wanted′ : List ℕ) : Type 0 where
+pub record WantedWritten (pack q : Text) (t nodes : List ℕ) (n count : ℕ) (wanted wanted′ : List ℕ) : Type 0 where
   pub found : OfGraph pack nodes count (λ P inOrder. Wanted P inOrder q t n wanted′)
   pub kept : (i : ℕ) → n ≤ i → getD wanted′ i 0 ≡ getD wanted i 0

@@ -10,7 +10,7 @@ ghost use Prim.Native.Nat.{_≤_};
 ghost use Rattle.checks.specs.Checked.{SettingLoaded};
 ghost use Rattle.resolve.specs.Listed.{Roomy};
 ghost use Rattle.resolve.specs.Search.{lesser};
-ghost use Rattle.resolve.specs.Wanted.{OfGraph, Wants, Written};
+ghost use Rattle.resolve.specs.Wanted.{OfGraph, Wants, WantedWritten};
 use crate::labels::node_of_iri;
 use crate::labels::node_of_literal;
 use crate::predicates::predicate_named;
@@ -70,7 +70,7 @@ pub fn resolve(
     wanted: &mut [u16],
 )
     requires { ⌜ SettingLoaded (now pack) counts (now numbers) × Roomy (now nodes) count × (n ≤ length (now tree)) × (n ≤ length (now wanted)) ⌝ }
-    ensures { λ _. ⌜ Written (now (pack .entry)) (now (query .entry)) (now (tree .entry)) (now (nodes .entry)) n count (now (wanted .entry)) (now (wanted .exit)) ⌝ }
+    ensures { λ _. ⌜ WantedWritten (now (pack .entry)) (now (query .entry)) (now (tree .entry)) (now (nodes .entry)) n count (now (wanted .entry)) (now (wanted .exit)) ⌝ }
 {
     for i in 0..n {
         let start = least(first_number(tree, i), query.len());

@@ -1,5 +1,5 @@
 -- The loop over all rules' keys: each rule's stand in its own part of a slice. Assumes nothing.
-use Rattle.names.specs.Given.{ForResolved, IsResolved}
+use Rattle.names.specs.PackGiven.{ForResolved, IsResolved}
 use lib.ListN.{drop, getD, length, length-drop, length-set, length-take, set, take}
 use lib.Seq.{getD-set-other, getD-set-same}
 use mathlib.Core.Bool.{false}
@@ -9,7 +9,7 @@ use native.Mathlib.Decide.{ℕ-discrete}
 use native.Mathlib.Omega.{arith}
 use Prim.Native.Nat.{ℕ, _+_, _*_, _-_, _≤_, _<_, zero-le}
 use Rattle.core.specs.Heads.{keysOf}
-use Rattle.matching.specs.Rule.{Answers}
+use Rattle.matching.specs.Rule.{ListedOrOver}
 use Rattle.matching.specs.declared.Heads.{Heads}
 use Rattle.matching.specs.declared.Heads.the-variants.{Listed, Over}
 use Rattle.meaning.proofs.Lists.Places.{inside, there-is}
@@ -19,9 +19,9 @@ use Rattle.meaning.specs.Ordered.{ListOf, Over as OverSet}
 use Rattle.meaning.specs.Pack.{Pack, Rule}
 use Rattle.names.proofs.Rule.{rules-many}
 use Rattle.rule_heads.specs.Answer.{FoundOr}
-use Rattle.rule_heads.specs.Given.{ForRuleOf, IsRuleOf, KeyOf, RuleOf}
-use Rattle.rule_heads.proofs.Held.{rule-of}
-use Rattle.rule_heads.proofs.Over.{too-large}
+use Rattle.rule_heads.specs.RuleOf.{ForRuleOf, IsRuleOf, RuleKey, RuleOf}
+use Rattle.rule_heads.proofs.HeldRule.{rule-of}
+use Rattle.rule_heads.proofs.TooManyHeads.{too-large}
 use Rattle.meaning.proofs.Lists.Overwriting.{kept-front, part-replaced, put-there}
 
 -- some rule stands there
@@ -33,8 +33,8 @@ is-rule-of g i h =
 
 -- the answer about the rule there, once it is known
 pub answer-is : {numbers : List ℕ} {at : ℕ} {rows : List ℕ} {g h : Heads} (keys : List ℕ) → g ≡ h
-    → ForRuleOf numbers at rows (λ P rule. Answers g keys (KeyOf P rule)) → ForRuleOf numbers at rows (λ P rule. Answers h keys (KeyOf P rule))
-answer-is {numbers} {at} {rows} keys e a = subst (λ (x : Heads). ForRuleOf numbers at rows (λ P rule. Answers x keys (KeyOf P rule))) e a
+    → ForRuleOf numbers at rows (λ P rule. ListedOrOver g keys (RuleKey P rule)) → ForRuleOf numbers at rows (λ P rule. ListedOrOver h keys (RuleKey P rule))
+answer-is {numbers} {at} {rows} keys e a = subst (λ (x : Heads). ForRuleOf numbers at rows (λ P rule. ListedOrOver x keys (RuleKey P rule))) e a
 
 -- the keys of the first r rules are listed
 pub record Collecting (numbers rows : List ℕ) (count : ℕ) (heads₀ : List ℕ) (r : ℕ) (heads counts : List ℕ) : Type 0 where
@@ -42,7 +42,7 @@ pub record Collecting (numbers rows : List ℕ) (count : ℕ) (heads₀ : List �
   pub long : length heads ≡ length heads₀
   pub all : length counts ≡ maxRules
   pub short : (i : ℕ) → i < r → getD counts i 0 ≤ maxHeads
-  pub keys : (i : ℕ) → i < r → ForRuleOf numbers (rulesAt + i * ruleWidth) rows (λ P rule. ListOf _<_ (KeyOf P rule) (keysOf heads counts i))
+  pub keys : (i : ℕ) → i < r → ForRuleOf numbers (rulesAt + i * ruleWidth) rows (λ P rule. ListOf _<_ (RuleKey P rule) (keysOf heads counts i))
 
 pub collecting-start : (numbers rows : List ℕ) (count : ℕ) (heads counts : List ℕ) → length counts ≡ maxRules → Collecting numbers rows count heads 0 heads counts
 collecting-start numbers rows count heads counts e = record {
@@ -70,17 +70,17 @@ module _ {numbers rows : List ℕ} {count : ℕ} {heads₀ : List ℕ} {r : ℕ}
 
     module _ (ys : List ℕ) (l : length ys ≡ length part) where
       -- too many
-      pub collecting-over : ForRuleOf numbers (rulesAt + r * ruleWidth) rows (λ P rule. Answers Over ys (KeyOf P rule))
+      pub collecting-over : ForRuleOf numbers (rulesAt + r * ruleWidth) rows (λ P rule. ListedOrOver Over ys (RuleKey P rule))
           → ForRuleOf numbers (rulesAt + r * ruleWidth) rows (λ P rule. TooLarge P)
       collecting-over a P rule g =
           let e : length ys ≡ maxHeads = l ∙ part-length in
-          too-large P rule (g .listed) (subst (λ (m : ℕ). OverSet m (KeyOf P rule)) e (a P rule g))
+          too-large P rule (g .listed) (subst (λ (m : ℕ). OverSet m (RuleKey P rule)) e (a P rule g))
 
       pub long-is : length (take (r * maxHeads) heads ++ (ys ++ behind)) ≡ length heads
       long-is = part-replaced (r * maxHeads) (r * maxHeads + maxHeads - r * maxHeads) heads ys l
 
       module _ (v : IsRuleOf numbers (rulesAt + r * ruleWidth) rows) (n : ℕ)
-          (a : ForRuleOf numbers (rulesAt + r * ruleWidth) rows (λ P rule. Answers (Listed n) ys (KeyOf P rule))) where
+          (a : ForRuleOf numbers (rulesAt + r * ruleWidth) rows (λ P rule. ListedOrOver (Listed n) ys (RuleKey P rule))) where
         counted-small : n ≤ maxHeads
         counted-small = omega (arith, a (v .pack) (v .rule) (v .given) .0, l, part-length)
 
@@ -101,7 +101,7 @@ module _ {numbers rows : List ℕ} {count : ℕ} {heads₀ : List ℕ} {r : ℕ}
             short-at i m (no d) = rw (getD-set-other counts r i n 0 d) (p .short i (omega (arith, m, d)))
 
             keys-at : (i : ℕ) → i < r + 1 → (P : Pack) (rule : Rule) → RuleOf P rule numbers (rulesAt + i * ruleWidth) rows → Dec (i ≡ r)
-                → ListOf _<_ (KeyOf P rule) (keysOf (take (r * maxHeads) heads ++ (ys ++ behind)) (set counts r n) i)
+                → ListOf _<_ (RuleKey P rule) (keysOf (take (r * maxHeads) heads ++ (ys ++ behind)) (set counts r n) i)
             keys-at i m P rule e (yes f) =
                 rw (f, same, put-there n (r * maxHeads) heads ys behind (omega (arith, h, few, room, p .long)) (omega (arith, counted-small, l, part-length)))
                 (a P rule (subst (λ (j : ℕ). RuleOf P rule numbers (rulesAt + j * ruleWidth) rows) f e) .1)

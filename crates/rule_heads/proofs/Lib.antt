@@ -1,4 +1,4 @@
-pub mod Over
-pub mod Held
+pub mod TooManyHeads
+pub mod HeldRule
 pub mod Collecting
-pub mod Answers
+pub mod Flagged

@@ -1,2 +1,2 @@
-pub mod Given
+pub mod RuleOf
 pub mod Answer

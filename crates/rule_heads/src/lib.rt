@@ -1,12 +1,12 @@
 // The keys of all rules' heads, each rule's in its part of a lent slice.
-ghost use Rattle.names.specs.Given.{ForResolved, IsResolved};
+ghost use Rattle.names.specs.PackGiven.{ForResolved, IsResolved};
 ghost use mathlib.Core.Path.{_≡_};
 ghost use Prim.Native.Nat.{_≤_};
 ghost use lib.ListN.{drop, length, take};
-ghost use Rattle.matching.specs.Rule.{Answers};
+ghost use Rattle.matching.specs.Rule.{ListedOrOver};
 ghost use Rattle.meaning.specs.Limits.{atomsLength, candidatesLength, headsLength, maxHeadVariables};
 ghost use Rattle.rule_heads.specs.Answer.{FoundOr};
-ghost use Rattle.rule_heads.specs.Given.{Bytes, ForRuleOf, IsRuleOf, KeyOf};
+ghost use Rattle.rule_heads.specs.RuleOf.{Bytes, ForRuleOf, IsRuleOf, RuleKey};
 use core::heads::Counts;
 use matching::Heads;
 use matching::rule_heads;
@@ -60,7 +60,7 @@ fn variables(numbers: &[u16], at: usize) -> [u8; MAX_HEAD_VARIABLES]
 // The keys of the heads of the rule at a place, ascending at the front of keys.
 fn heads_of(numbers: &[u16], at: usize, rows: &[u16], keys: &mut [u64], work: &mut [u64]) -> Heads
     requires { ⌜ IsRuleOf (now numbers) at (now rows) × (candidatesLength ≤ length (now work)) ⌝ }
-    ensures { λ h. ⌜ ForRuleOf (now (numbers .entry)) at (now (rows .entry)) (λ P r. Answers h (now (keys .exit)) (KeyOf P r)) ⌝ }
+    ensures { λ h. ⌜ ForRuleOf (now (numbers .entry)) at (now (rows .entry)) (λ P r. ListedOrOver h (now (keys .exit)) (RuleKey P r)) ⌝ }
 {
     let its_atoms = atoms(numbers, at + 1);
     let vars = variables(numbers, at + VARIABLES);

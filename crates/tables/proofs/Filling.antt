@@ -21,7 +21,7 @@ use Rattle.meaning.specs.Tables.{ShapeTable, cellAt, cellOf, targetCode}
 use Rattle.meaning.specs.Member.{_∈_}
 use Rattle.meaning.specs.Tests.{every}
 use Rattle.meaning.specs.WellFormed.{dangling, goodDependency, goodRow, goodRule, goodShape, goodTarget}
-use Rattle.names.specs.Given.{ForSetting, SettingGiven}
+use Rattle.names.specs.PackGiven.{ForSetting, SettingGiven}
 use Rattle.meaning.proofs.Lists.Parts.{first-at, number-at}
 use Rattle.names.proofs.Shape.{shape-at, shapes-many}
 use Rattle.tables.specs.Tables.{IsResolvedSetting, codeOf, putFirst}

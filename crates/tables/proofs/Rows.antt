@@ -9,9 +9,9 @@ use Rattle.meaning.proofs.Lists.Members.{element}
 use Rattle.meaning.proofs.Lists.Places.{inside, there-is}
 use Rattle.meaning.specs.Limits.{constructorWidth, constructorsAt, headWidth, maxArguments, maxConstructors, maxRules, ruleWidth, rulesAt}
 use Rattle.meaning.specs.Pack.{Constructor, Pack}
-use Rattle.names.specs.Given.{SettingGiven}
+use Rattle.names.specs.PackGiven.{SettingGiven}
 use Rattle.names.proofs.Counted.{count-at, held-at}
-use Rattle.names.proofs.Parts.{head-at, headFrom}
+use Rattle.names.proofs.RuleNumbers.{head-at, headFrom}
 use Rattle.meaning.proofs.Lists.Parts.{first-at}
 use Rattle.names.proofs.Rule.{rule-at, rules-many}
 use Rattle.node_list.specs.Records.{Arities}

@@ -10,7 +10,7 @@ use Rattle.meaning.specs.Limits.{literalBit, literalTarget, multiplicityRoom}
 use Rattle.meaning.specs.Pack.{Pack, Rule}
 use Rattle.meaning.specs.Tables.{cellAt, headNumbers}
 use Rattle.meaning.specs.WellFormed.{dangling}
-use Rattle.names.specs.Given.{SettingGiven}
+use Rattle.names.specs.PackGiven.{SettingGiven}
 
 -- They are numbers of some pack's setting, and each names a record that is there.
 pub record IsResolvedSetting (counts numbers : List ℕ) : Type 0 where

@@ -1,5 +1,5 @@
 // The arities of constructors.
-ghost use Rattle.names.specs.Given.{ForSetting, IsSetting};
+ghost use Rattle.names.specs.PackGiven.{ForSetting, IsSetting};
 ghost use Rattle.node_list.specs.Records.{Arities};
 use meaning::Arities;
 use meaning::BODIES;

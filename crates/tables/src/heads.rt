@@ -3,7 +3,7 @@ ghost use mathlib.Core.Path.{_≡_};
 ghost use Prim.Native.Nat.{_+_, _≤_};
 ghost use lib.ListN.{drop, length, take};
 ghost use Rattle.meaning.specs.Limits.{headWidth};
-ghost use Rattle.names.specs.Given.{ForSetting, IsSetting};
+ghost use Rattle.names.specs.PackGiven.{ForSetting, IsSetting};
 ghost use Rattle.tables.specs.Tables.{HeadTable};
 use core::heads::Head;
 use core::heads::HeadTable;

@@ -3,7 +3,7 @@ ghost use mathlib.Core.Path.{_≡_};
 ghost use Prim.Native.Nat.{_≤_, _<_};
 ghost use Rattle.meaning.specs.Limits.{literalTarget, maxPredicates, maxTypes, multiplicityRoom};
 ghost use Rattle.meaning.specs.Tables.{ShapeTable};
-ghost use Rattle.names.specs.Given.{ForSetting};
+ghost use Rattle.names.specs.PackGiven.{ForSetting};
 ghost use Rattle.tables.specs.Tables.{IsResolvedSetting, codeOf, putFirst};
 use meaning::BODIES;
 use meaning::LITERAL_BIT;

@@ -10,7 +10,7 @@ use Rattle.meaning.specs.Limits.{constructorsAt, predicatesAt, shapesAt, typesA
 use Rattle.meaning.specs.Pack.{Constructor, Pack, Setting}
 use Rattle.meaning.specs.Tests.{any, anyTwo, begins}
 use Rattle.meaning.specs.WellFormed.{prefixClash}
-use Rattle.records.specs.Held.{countsOf, SettingHeld}
+use Rattle.records.specs.PackHeld.{countsOf, SettingHeld}
 use Rattle.texts.specs.Compared.{clashes, Records, SaysAny, SomePack, SomeRecords}
 use Rattle.texts.specs.declared.Key.the-variants.{Cell, Prefix, Text}
 

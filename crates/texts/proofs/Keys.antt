@@ -14,7 +14,7 @@ use Rattle.meaning.specs.Limits.{constructorWidth, shapeWidth, textWidth}
 use Rattle.meaning.specs.Tests.{begins, sameText}
 use Rattle.pack.specs.Shown.{textAt}
 use Rattle.records.specs.Numbers.{NumbersOf}
-use Rattle.texts.specs.Compared.{firstOf, Keyed, kindOf, Records, SaysTwo, Shows, SomeRecords, SomeShows, widthOf}
+use Rattle.texts.specs.Compared.{firstOf, Keyed, keyKind, Records, SaysTwo, Shows, SomeRecords, SomeShows, widthOf}
 use Rattle.texts.specs.declared.Key.{Key}
 use Rattle.texts.specs.declared.Key.the-variants.{Cell, Prefix, Text}
 use Rattle.meaning.proofs.Lists.Parts.{number-at}
@@ -46,7 +46,7 @@ after numbers p i e = ap (λ z. getD numbers z 0) (omega arith) ∙ e
 
 -- the record's numbers stand there
 record Stands (key : Key) (s : List ℕ) (it : Keyed key) (numbers : List ℕ) (p : ℕ) : Type 0 where
-  are : NumbersOf (kindOf key) s it (take (widthOf key) (drop p numbers))
+  are : NumbersOf (keyKind key) s it (take (widthOf key) (drop p numbers))
 
 module _ {s numbers : List ℕ} {p : ℕ} where
   shows-at : (key : Key) {x : Keyed key} → Stands key s x numbers p → Shows key s x (getD numbers (p + firstOf key) 0) (getD numbers (p + firstOf key + 1) 0)

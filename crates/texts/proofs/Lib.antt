@@ -1,5 +1,5 @@
 pub mod Keys
-pub mod Before
+pub mod EarlierRecords
 pub mod Bodies
-pub mod Eights
+pub mod EightBytes
 pub mod Texts

@@ -12,22 +12,22 @@ use Rattle.meaning.specs.WellFormed.{sameCell}
 use Rattle.pack.specs.Kinds.{RecordOf}
 use Rattle.pack.specs.declared.kinds.Kind.{Kind}
 use Rattle.pack.specs.declared.kinds.Kind.the-variants as K
-use Rattle.records.specs.Held.{BodyHeld, SettingHeld, width}
+use Rattle.records.specs.PackHeld.{BodyHeld, SettingHeld, width}
 use Rattle.records.specs.Numbers.{TextAt}
 use Rattle.texts.specs.declared.Key.{Key}
 use Rattle.texts.specs.declared.Key.the-variants.{Cell, Prefix, Text}
 
 -- the records that have the key; a name is held as a value is
-abbrev pub kindOf : Key → Kind
-kindOf Text = K.Value
-kindOf Prefix = K.Constructor
-kindOf Cell = K.Shape
+abbrev pub keyKind : Key → Kind
+keyKind Text = K.Value
+keyKind Prefix = K.Constructor
+keyKind Cell = K.Shape
 
 abbrev pub Keyed : Key → Type 0
-Keyed key = RecordOf (kindOf key)
+Keyed key = RecordOf (keyKind key)
 
 abbrev pub widthOf : Key → ℕ
-widthOf key = width (kindOf key)
+widthOf key = width (keyKind key)
 
 -- "equal", "a prefix begins another constructor's prefix, or equals it", "share type and predicate"
 abbrev pub clashes : (key : Key) → Keyed key → Keyed key → Bool
@@ -53,7 +53,7 @@ pub record Shows (key : Key) (s : List ℕ) (it : Keyed key) (a n : ℕ) : Type 
 
 -- The numbers hold so many records from a place on.
 pub record Records (key : Key) (s : List ℕ) (records : List (Keyed key)) (numbers : List ℕ) (at n : ℕ) : Type 0 where
-  pub held : BodyHeld (kindOf key) s records at numbers
+  pub held : BodyHeld (keyKind key) s records at numbers
   pub many : length records ≡ n
 
 -- ---- they are some record's key, they hold so many records of some list, some pack's setting is held

@@ -10,7 +10,7 @@ use Prim.Native.Nat.{ℕ, _+_, _*_, _-_, _^_, _<_, _≤_}
 use Rattle.core.specs.Keys.{objectOf, originAt, originOf}
 use Rattle.invent.specs.Invent.{Upto, numberOf}
 use Rattle.node_list.specs.Records.{overwritten}
-use Rattle.triple_list.specs.Triples.{EdgeFrom, EdgesListed, Listed, SetEdge, SetsPlaced, SubjectEdge, edgeRecord, edgeRecords, gotten, present}
+use Rattle.triple_list.specs.Triples.{EdgeFrom, EdgesListed, RecordsListed, SetEdge, SetsPlaced, SubjectEdge, edgeRecord, edgeRecords, gotten, present}
 use Rattle.triple_list.proofs.ListedLaws.{listed-iff, listed-none}
 use Rattle.invent.proofs.Marks.{only, targets-set}
 use Rattle.core_lists.proofs.Origin.{group-in, group-only, keys-all, keys-le, keys-mono, keys-next, origin-none, origin-some}
@@ -93,7 +93,7 @@ module _ (table : List (List ℕ)) (triples places : List ℕ) (a : InOrder _<_ 
   passed = let c = e .count in let k = keys-next (originAt s p) triples in omega arith
 
   -- there are some
-  pub origin-present : (at ≡ from → ⊥) → Listed table Edge first out out₁ (first + (at - from)) × (first + (at - from) + from ≤ first + 1 + at) × (at ≡ keysBefore (originAt s p + 1) triples)
+  pub origin-present : (at ≡ from → ⊥) → RecordsListed table Edge first out out₁ (first + (at - from)) × (first + (at - from) + from ≤ first + 1 + at) × (at ≡ keysBefore (originAt s p + 1) triples)
   origin-present n = (
     record {
       records = edgeRecords s p triples;
@@ -129,8 +129,8 @@ module _ (table : List (List ℕ)) (triples places : List ℕ) (a : InOrder _<_ 
         go [] z = sym (nothing-written (first * 3) out)
         go (x ∷ xs) z = absurd (let y : ⊥ = omega arith in y)
 
-    pub origin-free : (r : Bool) → r ≡ false → SomePasses requires table mask p r → Listed table Edge first out out₁ first × (first + from ≤ first + 1 + from) × (from ≡ keysBefore (originAt s p + 1) triples)
-    origin-free r f shown = (subst (λ o. Listed table Edge first out o first) (sym out-same) (listed-none first out none), omega arith, sym n ∙ passed)
+    pub origin-free : (r : Bool) → r ≡ false → SomePasses requires table mask p r → RecordsListed table Edge first out out₁ first × (first + from ≤ first + 1 + from) × (from ≡ keysBefore (originAt s p + 1) triples)
+    origin-free r f shown = (subst (λ o. RecordsListed table Edge first out o first) (sym out-same) (listed-none first out none), omega arith, sym n ∙ passed)
       where
         none : (P : Pack) → Tabled (P .setting) table → (x : List ℕ) → ¬ Edge P x
         none P h x (present k m o q) = no-origin (record { key = k; listed = m; is = o })
@@ -138,7 +138,7 @@ module _ (table : List (List ℕ)) (triples places : List ℕ) (a : InOrder _<_ 
 
     pub origin-gets : (r : Bool) → r ≡ true → SomePasses requires table mask p r → (m : ℕ) → m < 2 ^ 16 → TargetsOf table mask p m → (set : ℕ) → set ≡ numberOf m
         → (out₂ : List ℕ) → out₂ ≡ overwritten (first * 3) (s ∷ p ∷ getD places set 0 ∷ []) out₁
-        → Listed table Edge first out out₂ (first + 1) × (first + 1 + from ≤ first + 1 + at) × (at ≡ keysBefore (originAt s p + 1) triples)
+        → RecordsListed table Edge first out out₂ (first + 1) × (first + 1 + from ≤ first + 1 + at) × (at ≡ keysBefore (originAt s p + 1) triples)
     unfolding flatten
     origin-gets r t shown m small ts set is out₂ w = (
       record {
@@ -174,14 +174,14 @@ module _ (table : List (List ℕ)) (triples places : List ℕ) (a : InOrder _<_ 
 -- ---- the edges of a set
 
 module _ (table : List (List ℕ)) (triples flags places : List ℕ) (j first : ℕ) where
-  pub set-unmarked : (out : List ℕ) → (getD flags j 0 ≡ 1 → ⊥) → Listed table (λ P. SetEdge triples flags places P j) first out out first × (first ≤ first + maxPredicates)
+  pub set-unmarked : (out : List ℕ) → (getD flags j 0 ≡ 1 → ⊥) → RecordsListed table (λ P. SetEdge triples flags places P j) first out out first × (first ≤ first + maxPredicates)
   set-unmarked out n = (listed-none first out (λ P h x e. n (e .marked)), omega arith)
 
-  pub set-marked : {out out′ : List ℕ} {r : ℕ} → 0 < j → getD flags j 0 ≡ 1 → Listed table (λ P. SubjectEdge P triples places (getD places j 0) j) first out out′ r
-      → Listed table (λ P. SetEdge triples flags places P j) first out out′ r
+  pub set-marked : {out out′ : List ℕ} {r : ℕ} → 0 < j → getD flags j 0 ≡ 1 → RecordsListed table (λ P. SubjectEdge P triples places (getD places j 0) j) first out out′ r
+      → RecordsListed table (λ P. SetEdge triples flags places P j) first out out′ r
   set-marked p m l = listed-iff (λ P x. (λ e. record { some-type = p; marked = m; edge = e }, λ (e : SetEdge triples flags places P j x). e .edge)) l
 
-  pub sets-start : (out : List ℕ) → Listed table (λ P. Upto (SetEdge triples flags places P) 1) first out out first
+  pub sets-start : (out : List ℕ) → RecordsListed table (λ P. Upto (SetEdge triples flags places P) 1) first out out first
   sets-start out = listed-none first out (λ P h x u. let b = u .below in let s = u .holds .some-type in omega arith)
 
 pub by-set : {triples flags places : List ℕ} → SetsPlaced triples flags places → (P : Pack) (j : ℕ) → j < typeSets → (i : ℕ) → i < j → (x y : List ℕ)

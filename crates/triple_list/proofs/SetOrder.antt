@@ -4,7 +4,7 @@ use mathlib.Core.List.{List}
 use mathlib.Core.Path.{_≡_, sym, ap, subst, _∙_}
 use native.Mathlib.Omega.{arith}
 use Prim.Native.Nat.{ℕ, _+_, _-_, _<_, _≤_}
-use Rattle.core_lists.specs.Input.{Placed}
+use Rattle.core_lists.specs.Input.{CoreFits}
 use Rattle.node_list.specs.Records.{SetPlaces, setsFrom, slotOf}
 use Rattle.triple_list.specs.Triples.{SetsPlaced}
 use Rattle.node_list.proofs.SetList.{count-le, countBefore, one-more, one-set, slot-later, split}
@@ -32,7 +32,7 @@ module _ {flags places : List ℕ} {first : ℕ} (sp : SetPlaces flags first pla
   pub set-above : (j : ℕ) → 0 < j → j < typeSets → getD flags j 0 ≡ 1 → first ≤ getD places j 0
   set-above j p h e = let a = set-place j p h e in omega arith
 
-  pub sets-placed : {nodes triples masks : List ℕ} → Placed nodes triples masks → first ≡ length nodes → SetsPlaced triples flags places
+  pub sets-placed : {nodes triples masks : List ℕ} → CoreFits nodes triples masks → first ≡ length nodes → SetsPlaced triples flags places
   sets-placed l q = record {
     above = λ j k p h e m. let a = set-above j p h e in let s = l .subject k m in omega arith;
     below = λ j p h e. let a = set-place j p h e in let c = count-le flags 0 j in let f = l .few in omega arith;

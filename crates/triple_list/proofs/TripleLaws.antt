@@ -12,14 +12,14 @@ use Rattle.core.specs.Keys.{keyOf, objectOf, originAt, originOf, predicateOf, s
 use Rattle.core_lists.specs.Input.{Input}
 use Rattle.invent.specs.Invent.{InventedSets, Upto, maskOf, setAt}
 use Rattle.node_list.specs.Records.{SetPlaces, setList}
-use Rattle.triple_list.specs.Triples.{EdgeFrom, IriEdge, Listed, SetEdge, TriplesListed, gotten, present}
+use Rattle.triple_list.specs.Triples.{EdgeFrom, IriEdge, RecordsListed, SetEdge, TriplesListed, gotten, present}
 use Rattle.invent.proofs.Invented.{known-predicate, leads-to, lifted, no-core-edge, no-origin, number-back, setNumber, small-set}
 use Rattle.core_lists.proofs.Keys.{iri-key-lt, key-one}
 use Rattle.triple_list.proofs.EdgeLaws.{by-subject}
 use Rattle.triple_list.proofs.ListedLaws.{listed-join}
 use Rattle.node_list.proofs.Order.{all-nodes, inOrder, nodes-in-order, setNode}
 use Rattle.core_lists.proofs.Places.{edge-at, edge-key, masked, masked-targets, node-at, place-of, place-small, predicate-small, requires-masked, targets-masked, well}
-use Rattle.core_lists.proofs.Proper.{proper, subject-iri}
+use Rattle.core_lists.proofs.ResolvedNodes.{proper, subject-iri}
 use Rattle.core_lists.specs.Origin.{HasOrigin}
 use Rattle.invent.proofs.SetNumbers.{mask-set}
 use Rattle.triple_list.proofs.SetOrder.{set-above}
@@ -38,7 +38,7 @@ use Rattle.meaning.specs.Ordered.{ListOf, _≺_}
 use Rattle.meaning.specs.Pack.{Pack, type}
 use Rattle.meaning.specs.Tables.{setOfMask}
 use Rattle.meaning.specs.TypeSet.{TypeSet, _∈ₜ_}
-use Rattle.node_list.specs.NodeList.{Numbered}
+use Rattle.node_list.specs.NodeList.{SetsNumbered}
 use Rattle.sets.proofs.Rank.{rank-above, rank-le}
 use Rattle.sets.specs.Ordered.{rankOf}
 use Rattle.shapes.specs.Shapes.{Tabled}
@@ -115,7 +115,7 @@ module _ {P : Pack} {shapes : List (List ℕ)} {nodes triples masks flags : List
       rank-above firstLiteral nodes i (subst (λ x. x < firstLiteral) (sym (entry-is nodes i (keyOf (iriNode c vs)) 0 e)) (iri-key-lt P (I .bounded) c vs (proper P (well I) k)))
       (I .held .node-keys .ascending) (inside nodes i (keyOf (iriNode c vs)) e)
 
-  module _ (places : List ℕ) (numbered : Numbered bs places) where
+  module _ (places : List ℕ) (numbered : SetsNumbered bs places) where
     set-at : (j : ℕ) → j < memberSets → IsBuilt P (invented (setAt j)) → getElem? bs (getD places j 0) ≡ some (invented (setAt j))
     set-at j h b =
         let s = at-built (invented (setAt j)) b in
@@ -304,8 +304,8 @@ module _ {P : Pack} {shapes : List (List ℕ)} {nodes triples masks flags : List
         let r = rank-le firstLiteral nodes in
         by-subject (omega arith) x y (u .holds) (v .holds .edge)
 
-    pub triples-listed : {table : List (List ℕ)} → Tabled (P .setting) table → SetPlaces flags (length nodes) places → {next r : ℕ} {out out₁ out₂ : List ℕ} → Listed table (IriEdge nodes triples masks places) 0 out out₁ next
-        → Listed table (λ Q. Upto (SetEdge triples flags places Q) typeSets) next out₁ out₂ r → next * 3 ≤ length out → r ≤ maxTriples → TriplesListed P bs out out₂ r
+    pub triples-listed : {table : List (List ℕ)} → Tabled (P .setting) table → SetPlaces flags (length nodes) places → {next r : ℕ} {out out₁ out₂ : List ℕ} → RecordsListed table (IriEdge nodes triples masks places) 0 out out₁ next
+        → RecordsListed table (λ Q. Upto (SetEdge triples flags places Q) typeSets) next out₁ out₂ r → next * 3 ≤ length out → r ≤ maxTriples → TriplesListed P bs out out₂ r
     triples-listed {table} tab sp {next} {r} {out} {out₁} {out₂} a b room few = record {
       records = both .records;
       few = few;
@@ -317,7 +317,7 @@ module _ {P : Pack} {shapes : List (List ℕ)} {nodes triples masks flags : List
       written = both .written ∙ (let e : 0 * 3 + length (flatten (both .records)) ≡ r * 3 = (let c = both .count in let l = both .long in omega arith) in rw e refl);
     }
       where
-        both : Listed table (λ Q x. IriEdge nodes triples masks places Q x ⊎ Upto (SetEdge triples flags places Q) typeSets x) 0 out out₂ r
+        both : RecordsListed table (λ Q x. IriEdge nodes triples masks places Q x ⊎ Upto (SetEdge triples flags places Q) typeSets x) 0 out out₂ r
         both = listed-join a b room (across sp) (λ Q x. (λ e. e, λ e. e))
 
         all : ListOf _≺_ (λ x. IriEdge nodes triples masks places P x ⊎ Upto (SetEdge triples flags places P) typeSets x) (both .records)

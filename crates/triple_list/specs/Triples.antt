@@ -16,7 +16,7 @@ use Rattle.meaning.specs.Member.{_∈_}
 use Rattle.meaning.specs.NoGraph.{MixedKinds}
 use Rattle.meaning.specs.Ordered.{ListOf, _≺_}
 use Rattle.meaning.specs.Pack.{Pack}
-use Rattle.node_list.specs.NodeList.{Numbered}
+use Rattle.node_list.specs.NodeList.{SetsNumbered}
 use Rattle.sets.specs.Ordered.{rankOf}
 use Rattle.shapes.specs.Shapes.{Tabled}
 
@@ -63,7 +63,7 @@ pub record SetsPlaced (triples flags places : List ℕ) : Type 0 where
   pub ascend : (i j : ℕ) → 0 < i → i < j → j < typeSets → getD flags i 0 ≡ 1 → getD flags j 0 ≡ 1 → getD places i 0 < getD places j 0
 
 -- The records of Q, in order, stand from triple `first` on; the next number is r.
-pub record Listed (table : List (List ℕ)) (Q : Pack → List ℕ → Type 0) (first : ℕ) (out out′ : List ℕ) (r : ℕ) : Type 0 where
+pub record RecordsListed (table : List (List ℕ)) (Q : Pack → List ℕ → Type 0) (first : ℕ) (out out′ : List ℕ) (r : ℕ) : Type 0 where
   pub records : List (List ℕ)
   pub are : (P : Pack) → Tabled (P .setting) table → ListOf _≺_ (Q P) records
   pub long : length (flatten records) ≡ length records * tripleWidth
@@ -83,4 +83,4 @@ pub record TriplesListed (P : Pack) (inOrder : List BuiltNode) (out out′ : Lis
 abbrev pub TriplesShown : List (List ℕ) → List ℕ → List ℕ → List ℕ → List ℕ → List ℕ → List ℕ → List ℕ → ℕ → Type 0
 TriplesShown table nodes triples masks flags places out out′ count =
     (P : Pack) → Input P table nodes triples masks → InventedSets P flags → ¬ MixedKinds P
-    → (inOrder : List BuiltNode) → NodesInOrder P inOrder → Numbered inOrder places → TriplesListed P inOrder out out′ count
+    → (inOrder : List BuiltNode) → NodesInOrder P inOrder → SetsNumbered inOrder places → TriplesListed P inOrder out out′ count

@@ -4,11 +4,11 @@ ghost use mathlib.Core.List.{[], _∷_};
 ghost use mathlib.Core.Path.{_≡_};
 ghost use Prim.Native.Nat.{_+_, _*_, _<_, _≤_};
 ghost use Rattle.core.specs.Keys.{originAt};
-ghost use Rattle.core_lists.specs.Input.{Placed};
+ghost use Rattle.core_lists.specs.Input.{CoreFits};
 ghost use Rattle.core_lists.specs.Origin.{keysBefore};
 ghost use Rattle.invent.specs.Invent.{Upto};
 ghost use Rattle.node_list.specs.Records.{SetPlaces, overwritten};
-ghost use Rattle.triple_list.specs.Triples.{EdgeFrom, EdgesListed, IriEdge, Listed, SetEdge, SetsPlaced, SubjectEdge, TriplesShown};
+ghost use Rattle.triple_list.specs.Triples.{EdgeFrom, EdgesListed, IriEdge, RecordsListed, SetEdge, SetsPlaced, SubjectEdge, TriplesShown};
 ghost use Rattle.meaning.specs.Limits.{maxCoreTriples, maxIris, maxNodes, maxPredicates, maxTriples, memberSets, tripleListLength, tripleWidth, typeSets};
 ghost use Rattle.meaning.specs.Ordered.{InOrder};
 ghost use Rattle.shapes.specs.Shapes.{CodesFit};
@@ -85,7 +85,7 @@ fn list_origin(
     out: &mut [u16],
 ) -> Next
     requires { ⌜ InOrder _<_ (now triples) × (memberSets ≤ length (now places)) × (subject < maxNodes) × (p < maxPredicates) × (next .at ≡ keysBefore (originAt subject p) (now triples)) × (next .triple + keysBefore (originAt subject p + 1) (now triples) + 1 ≤ maxTriples + next .at) × (tripleListLength ≤ length (now out)) × CodesFit (now shapes) ⌝ }
-    ensures { λ r. ⌜ Listed (now (shapes .entry)) (λ P. EdgeFrom P (now (triples .entry)) (now (places .entry)) subject mask p) (next .triple) (now (out .entry)) (now (out .exit)) (r .triple) × (r .triple + next .at ≤ next .triple + 1 + r .at) × (r .at ≡ keysBefore (originAt subject p + 1) (now (triples .entry))) ⌝ }
+    ensures { λ r. ⌜ RecordsListed (now (shapes .entry)) (λ P. EdgeFrom P (now (triples .entry)) (now (places .entry)) subject mask p) (next .triple) (now (out .entry)) (now (out .exit)) (r .triple) × (r .triple + next .at ≤ next .triple + 1 + r .at) × (r .at ≡ keysBefore (originAt subject p + 1) (now (triples .entry))) ⌝ }
 {
     let first = next.triple;
     let from = next.at;
@@ -118,7 +118,7 @@ fn list_subject(
     out: &mut [u16],
 ) -> Next
     requires { ⌜ InOrder _<_ (now triples) × (memberSets ≤ length (now places)) × (subject < maxNodes) × (first .at ≡ keysBefore (originAt subject 0) (now triples)) × (first .triple + maxPredicates + keysBefore (originAt subject maxPredicates) (now triples) ≤ maxTriples + first .at) × (tripleListLength ≤ length (now out)) × CodesFit (now shapes) ⌝ }
-    ensures { λ r. ⌜ Listed (now (shapes .entry)) (λ P. SubjectEdge P (now (triples .entry)) (now (places .entry)) subject mask) (first .triple) (now (out .entry)) (now (out .exit)) (r .triple) × (r .triple + first .at ≤ first .triple + maxPredicates + r .at) × (r .at ≡ keysBefore (originAt subject maxPredicates) (now (triples .entry))) ⌝ }
+    ensures { λ r. ⌜ RecordsListed (now (shapes .entry)) (λ P. SubjectEdge P (now (triples .entry)) (now (places .entry)) subject mask) (first .triple) (now (out .entry)) (now (out .exit)) (r .triple) × (r .triple + first .at ≤ first .triple + maxPredicates + r .at) × (r .at ≡ keysBefore (originAt subject maxPredicates) (now (triples .entry))) ⌝ }
 {
     let mut next = first;
     for p in 0..MAX_PREDICATES {
@@ -137,8 +137,8 @@ fn list_iris(
     places: &[u16],
     out: &mut [u16],
 ) -> usize
-    requires { ⌜ Placed (now nodes) (now triples) (now masks) × (memberSets ≤ length (now places)) × (tripleListLength ≤ length (now out)) × CodesFit (now shapes) ⌝ }
-    ensures { λ r. ⌜ Listed (now (shapes .entry)) (IriEdge (now (nodes .entry)) (now (triples .entry)) (now (masks .entry)) (now (places .entry))) 0 (now (out .entry)) (now (out .exit)) r × (r ≤ maxCoreTriples + maxIris * maxPredicates) ⌝ }
+    requires { ⌜ CoreFits (now nodes) (now triples) (now masks) × (memberSets ≤ length (now places)) × (tripleListLength ≤ length (now out)) × CodesFit (now shapes) ⌝ }
+    ensures { λ r. ⌜ RecordsListed (now (shapes .entry)) (IriEdge (now (nodes .entry)) (now (triples .entry)) (now (masks .entry)) (now (places .entry))) 0 (now (out .entry)) (now (out .exit)) r × (r ≤ maxCoreTriples + maxIris * maxPredicates) ⌝ }
 {
     let iris = rank(nodes, FIRST_LITERAL);
     let mut next = Next { triple: 0, at: 0 };
@@ -160,7 +160,7 @@ fn list_set_edges(
     out: &mut [u16],
 ) -> usize
     requires { ⌜ SetsPlaced (now triples) (now flags) (now places) × InOrder _<_ (now triples) × (memberSets ≤ length (now flags)) × (memberSets ≤ length (now places)) × (0 < set) × (set < typeSets) × (first + maxPredicates ≤ maxTriples) × (tripleListLength ≤ length (now out)) × CodesFit (now shapes) ⌝ }
-    ensures { λ r. ⌜ Listed (now (shapes .entry)) (λ P. SetEdge (now (triples .entry)) (now (flags .entry)) (now (places .entry)) P set) first (now (out .entry)) (now (out .exit)) r × (r ≤ first + maxPredicates) ⌝ }
+    ensures { λ r. ⌜ RecordsListed (now (shapes .entry)) (λ P. SetEdge (now (triples .entry)) (now (flags .entry)) (now (places .entry)) P set) first (now (out .entry)) (now (out .exit)) r × (r ≤ first + maxPredicates) ⌝ }
 {
     if flags[set] != 1 {
         return first;
@@ -184,7 +184,7 @@ fn list_sets_edges(
     out: &mut [u16],
 ) -> usize
     requires { ⌜ SetsPlaced (now triples) (now flags) (now places) × InOrder _<_ (now triples) × (memberSets ≤ length (now flags)) × (memberSets ≤ length (now places)) × (first ≤ maxCoreTriples + maxIris * maxPredicates) × (tripleListLength ≤ length (now out)) × CodesFit (now shapes) ⌝ }
-    ensures { λ r. ⌜ Listed (now (shapes .entry)) (λ P. Upto (SetEdge (now (triples .entry)) (now (flags .entry)) (now (places .entry)) P) typeSets) first (now (out .entry)) (now (out .exit)) r × (r ≤ maxTriples) ⌝ }
+    ensures { λ r. ⌜ RecordsListed (now (shapes .entry)) (λ P. Upto (SetEdge (now (triples .entry)) (now (flags .entry)) (now (places .entry)) P) typeSets) first (now (out .entry)) (now (out .exit)) r × (r ≤ maxTriples) ⌝ }
 {
     let mut next = first;
     for j in 1..TYPE_SETS {
@@ -203,7 +203,7 @@ pub fn list_triples(
     places: &[u16],
     out: &mut [u16],
 ) -> usize
-    requires { ⌜ Placed (now nodes) (now triples) (now masks) × SetPlaces (now flags) (length (now nodes)) (now places) × (memberSets ≤ length (now flags)) × (memberSets ≤ length (now places)) × (tripleListLength ≤ length (now out)) × CodesFit (now shapes) ⌝ }
+    requires { ⌜ CoreFits (now nodes) (now triples) (now masks) × SetPlaces (now flags) (length (now nodes)) (now places) × (memberSets ≤ length (now flags)) × (memberSets ≤ length (now places)) × (tripleListLength ≤ length (now out)) × CodesFit (now shapes) ⌝ }
     ensures { λ r. ⌜ TriplesShown (now (shapes .entry)) (now (nodes .entry)) (now (triples .entry)) (now (masks .entry)) (now (flags .entry)) (now (places .entry)) (now (out .entry)) (now (out .exit)) r ⌝ }
 {
     let next = list_iris(shapes, nodes, triples, masks, places, out);

@@ -1,5 +1,5 @@
 pub mod Alive
-pub mod Answers
+pub mod WalkedAnswers
 mod Expressions
 pub mod KindLaws
 mod Links

@@ -11,11 +11,11 @@ use Rattle.meaning.specs.Limits.{maxParts}
 use Rattle.query.proofs.TreeLaws.{holds-lt}
 use Rattle.query.specs.Tree.{firstNumber, kindOf}
 use Rattle.walk.specs.Parts.{Part, leaf, test, repeat, chain, either, Child, Ordered, partOf, Linked, Threaded, listed}
-use Rattle.walk.specs.Threading.{PartReady, PartLinked, Threadable}
+use Rattle.walk.specs.Threading.{PartAmong, PartLinked, Threadable}
 use Rattle.walk.proofs.KindLaws.{kind-leaf, kind-test, kind-repeat, kind-chain, kind-either}
 use Rattle.walk.proofs.Trees.{Nest, holds-nest}
 
-module _ {t next : List ℕ} {n i : ℕ} (r : PartReady t next n i) where
+module _ {t next : List ℕ} {n i : ℕ} (r : PartAmong t next n i) where
   owns : {p : Part} → partOf t i ≡ p → (c : ℕ) → Child p c → c < i
   owns e c x = r .before c (subst (λ y. Child y c) (sym e) x)
 
@@ -98,7 +98,7 @@ some-part r = let a = holds-lt (r .held .holds) in let b = r .held .few in let c
 nested-parts : {t next : List ℕ} {n : ℕ} → Threadable t next n → Nest t 0 n
 nested-parts r = holds-nest (r .held .holds) (some-part r .1)
 
-pub part-ready : {t next₀ : List ℕ} {n : ℕ} → Threadable t next₀ n → (next : List ℕ) (i : ℕ) → i < n → n ≤ length next → PartReady t next n i
+pub part-ready : {t next₀ : List ℕ} {n : ℕ} → Threadable t next₀ n → (next : List ℕ) (i : ℕ) → i < n → n ≤ length next → PartAmong t next n i
 part-ready r next i l g = let w = nested-parts r in record {
   inside = l;
   short = some-part r .1;

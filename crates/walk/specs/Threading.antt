@@ -9,7 +9,7 @@ use Rattle.query.specs.Answer.{HoldsQuery}
 use Rattle.walk.specs.Parts.{partOf, Child, Ordered, Linked, listed}
 
 -- The part i is one of n, and its own parts stand before it.
-pub record PartReady (t next : List ℕ) (n i : ℕ) : Type 0 where
+pub record PartAmong (t next : List ℕ) (n i : ℕ) : Type 0 where
   pub inside : i < n
   pub short : n ≤ maxParts
   pub parts : n ≤ length t

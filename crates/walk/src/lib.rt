@@ -1,13 +1,13 @@
 // Threading a query's parts: what is to be done after each.
 ghost use Rattle.walk.specs.Parts.{partOf, listed, Threaded};
-ghost use Rattle.walk.specs.Threading.{PartReady, PartLinked, Threadable};
+ghost use Rattle.walk.specs.Threading.{PartAmong, PartLinked, Threadable};
 use query::kinds;
 use query::parts::first_number;
 use query::parts::kind_of;
 
 // Writes what is to be done after the parts of the part i, whose own place is written already.
 fn thread_part(tree: &[u32], n: usize, i: usize, next: &mut [u16])
-    requires { ⌜ PartReady (now tree) (now next) n i ⌝ }
+    requires { ⌜ PartAmong (now tree) (now next) n i ⌝ }
     ensures { λ _. ⌜ PartLinked (now (tree .entry)) (now (next .entry)) (now (next .exit)) n i ⌝ }
 {
     let kind = kind_of(tree, i);

@@ -1,2 +1,2 @@
+pub mod FromPrepared
 pub mod Once
-pub mod Shell

@@ -14,7 +14,7 @@ use Rattle.meaning.specs.Pack.{Pack, Text}
 use Rattle.meaning.specs.Query.{Expr}
 use Rattle.prepare.proofs.Once as prepared
 use Rattle.spelling.specs.Iri.{plain}
-use Rattle.yes_no.specs.Answer.{Answers, Gives, Refuses, buffers}
+use Rattle.yes_no.specs.Answer.{YesNoAnswers, Gives, Refuses, buffers}
 use Rattle.yes_no.specs.declared.YesNo.{YesNo}
 
 one-answer : {X : Type 0} (a b : Bool) → T a ↔ X → T b ↔ X → a ≡ b
@@ -40,6 +40,6 @@ fixed pack query = record {
 
 pub answers-once : (pack query : Text) (r s : YesNo) (nodes nodes₂ triples triples₂ rows rows₂ heads heads₂ alive alive₂ queue queue₂ : Contents)
     → SameLengths (graphLists nodes triples) (graphLists nodes₂ triples₂) → SameLengths (buffers rows heads alive queue) (buffers rows₂ heads₂ alive₂ queue₂)
-    → Answers pack query r nodes triples rows heads alive queue → Answers pack query s nodes₂ triples₂ rows₂ heads₂ alive₂ queue₂
+    → YesNoAnswers pack query r nodes triples rows heads alive queue → YesNoAnswers pack query s nodes₂ triples₂ rows₂ heads₂ alive₂ queue₂
     → Same (Refuses pack query) (Gives pack query) r s (graphLists nodes triples) (graphLists nodes₂ triples₂) (buffers rows heads alive queue) (buffers rows₂ heads₂ alive₂ queue₂)
 answers-once pack query r s nodes nodes₂ triples triples₂ rows rows₂ heads heads₂ alive alive₂ queue queue₂ = call-once (fixed pack query)

@@ -30,6 +30,6 @@ abbrev pub buffers : Contents → Contents → Contents → Contents → List Le
 buffers rows heads alive queue = rows at-least rowsLength ∷ heads at-least headsLength ∷ alive at-least maxStates ∷ queue at-least maxStates ∷ []
 
 -- 1 to 11, or the graph and the answer
-abbrev pub Answers : Text → Text → YesNo → Contents → Contents → Contents → Contents → Contents → Contents → Type 0
-Answers pack query r nodes triples rows heads alive queue =
+abbrev pub YesNoAnswers : Text → Text → YesNo → Contents → Contents → Contents → Contents → Contents → Contents → Type 0
+YesNoAnswers pack query r nodes triples rows heads alive queue =
     Call (record { graph = refusedAs 1; yes = false }) (Refuses pack query) (Gives pack query) r (graphLists nodes triples) (buffers rows heads alive queue)

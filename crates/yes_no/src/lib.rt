@@ -1,6 +1,6 @@
 // Yes/no, an open call: whether a query is satisfied in every finite graph that obeys a pack.
 ghost use Rattle.calls.specs.Call.{lent};
-ghost use Rattle.yes_no.specs.Answer.{Answers};
+ghost use Rattle.yes_no.specs.Answer.{YesNoAnswers};
 ghost use Rattle.yes_no.specs.Inner.{Comes, Room};
 use calls::long_enough;
 use construct::Constructed;
@@ -92,7 +92,7 @@ pub fn yes_no(
     alive: &mut [u8],
     queue: &mut [u32],
 ) -> YesNo
-    ensures { λ r. ⌜ Answers (now (pack .entry)) (now (query .entry)) r (lent nodes) (lent triples) (lent rows) (lent heads) (lent alive) (lent queue) ⌝ }
+    ensures { λ r. ⌜ YesNoAnswers (now (pack .entry)) (now (query .entry)) r (lent nodes) (lent triples) (lent rows) (lent heads) (lent alive) (lent queue) ⌝ }
 {
     let asked = LEAST_LENGTHS;
     let lengths = [

@@ -7,7 +7,7 @@ use mir.Facts.{fits-widen}
 use native.Mathlib.Omega.{arith}
 use Prim.Native.Nat.{ℕ, _-_, _/_, _<_}
 use Rattle.alive.specs.declared.Sizes.{Sizes}
-use Rattle.alive.specs.Fits.{Fits}
+use Rattle.alive.specs.Fits.{ListsFit}
 use Rattle.alive.specs.Links.{Caused}
 use Rattle.alive.specs.Lists.{lists}
 use Rattle.alive.specs.Steps.{AllAlive}
@@ -22,7 +22,7 @@ use Rattle.alive.proofs.mark_back.Tie as tie
 
 -- What the call requires. The loop does not know the sizes, so its invariant is said of any that are right.
 abbrev Ready : Sizes → (triples earlier last tree next wanted heads rest : List ℕ) (s : ℕ) (alive queue : List ℕ) (tail : ℕ) → Type 0
-Ready sizes triples earlier last tree next wanted heads rest s alive queue tail = (Fits (lists sizes triples tree next wanted) × (ByObject triples (sizes .edges) last earlier × Caused (lists sizes triples tree next wanted) heads rest)) × ((AllAlive (lists sizes triples tree next wanted) alive × ((s < maxStates) × (Marked 1 alive s))) × Table 1 maxStates alive queue tail)
+Ready sizes triples earlier last tree next wanted heads rest s alive queue tail = (ListsFit (lists sizes triples tree next wanted) × (ByObject triples (sizes .edges) last earlier × Caused (lists sizes triples tree next wanted) heads rest)) × ((AllAlive (lists sizes triples tree next wanted) alive × ((s < maxStates) × (Marked 1 alive s))) × Table 1 maxStates alive queue tail)
 
 abbrev Inv-loop : tie.InvT-loop
 Inv-loop triples earlier last tree next wanted heads rest s alive₀ queue₀ tail j m end₀ at₀ alive queue end at = (length alive ≡ length alive₀) × (length queue ≡ length queue₀) × ((sizes : Sizes) → Ready sizes triples earlier last tree next wanted heads rest s alive₀ queue₀ tail → Backing (lists sizes triples tree next wanted) rest s alive₀ queue₀ tail alive queue end at)

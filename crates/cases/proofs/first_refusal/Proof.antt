@@ -2,7 +2,7 @@
 use borrow.Author.Needs.{needs}
 use Rattle.cases.proofs.first_refusal.Statement.{statement}
 use Rattle.cases.proofs.first_refusal.Tie as tie
-use Rattle.construct.proofs.Answer.{is-resolved}
+use Rattle.construct.proofs.FromSteps.{is-resolved}
 
 pub first-refusal-spec : {M : Type 1} → statement M
 first-refusal-spec =

@@ -6,7 +6,7 @@ use lib.ListN.{getD}
 use mathlib.Core.Path.{_≡_, refl, sym, _∙_}
 use Prim.Native.Nat.{ℕ, _<_}
 use native.Mathlib.Omega.{arith}
-use Rattle.checks.proofs.Laws.{accepts, as-loaded, given, is-pack, not-loaded, refuses, some-pack}
+use Rattle.checks.proofs.FromParts.{accepts, as-loaded, given, is-pack, not-loaded, refuses, some-pack}
 use Rattle.pack.specs.Contents.{badSize}
 use Rattle.pack.proofs.Order.{refused-3, refused-4, refused-5, refused-6, refused-7}
 use Rattle.checks.proofs.check.Statement.{statement}

@@ -2,7 +2,7 @@
 use borrow.Author.Needs.{needs}
 use mathlib.Core.Path.{refl}
 use Rattle.checks.specs.Checked.{Accepted}
-use Rattle.construct.proofs.Answer.{checked-answer, is-resolved, rows-answer}
+use Rattle.construct.proofs.FromSteps.{checked-answer, is-resolved, rows-answer}
 use Rattle.construct.proofs.construct.Statement.{statement}
 use Rattle.construct.proofs.construct.Tie as tie
 

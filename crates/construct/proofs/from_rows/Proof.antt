@@ -9,8 +9,8 @@ use Rattle.construct.proofs.from_rows.Tie as tie
 use Rattle.construct.specs.Steps.{HeadsOf, dependency, kept, large}
 use Rattle.meaning.specs.Pack.{Pack}
 use Rattle.meaning.specs.WellFormed.{broken}
-use Rattle.names.specs.Given.{Resolved}
-use Rattle.rule_heads.proofs.Answers.{as-found, as-too-large}
+use Rattle.names.specs.PackGiven.{Resolved}
+use Rattle.rule_heads.proofs.Flagged.{as-found, as-too-large}
 
 -- ---- places: the start, what was said of 8, the heads
 

@@ -7,8 +7,8 @@ use native.Mathlib.Omega.{arith}
 use mathlib.Core.List.{List}
 use Prim.Native.Nat.{ℕ, _≤_}
 use Rattle.meaning.specs.Limits.{maxCoreNodes, maxCoreTriples}
-use Rattle.core.specs.Outcomes.{NodesListed, TriplesListed}
-use Rattle.core.proofs.Whole.{all-placed, core-listed, known-rules}
+use Rattle.core.specs.Outcomes.{NodeKeysListed, TripleKeysListed}
+use Rattle.core.proofs.AllPasses.{all-placed, core-listed, known-rules}
 use Rattle.core.proofs.core.Statement.{statement}
 use Rattle.core.proofs.core.Tie as tie
 
@@ -23,7 +23,7 @@ module _ (c : tie.After-known-told) where
   abbrev count : ℕ
   count = c .before .listed .given .0 .0
 
-  listed : NodesListed count (start .args .rules) (start .args .count) (start .args .heads .now) (start .args .counts) (start .args .nodes .now) nodes
+  listed : NodeKeysListed count (start .args .rules) (start .args .count) (start .args .heads .now) (start .args .counts) (start .args .nodes .now) nodes
   listed = rw (c .before .listed .given .1) at (c .before .before .before .before .before .nodes .ensures)
 
   long : length nodes ≡ maxCoreNodes
@@ -46,7 +46,7 @@ module _ (c : tie.After-known-told2) where
   abbrev count₂ : ℕ
   count₂ = c .before .linked .given .0 .0
 
-  linked : TriplesListed count₂ (take (count past) (nodes past)) (start past .args .rules) (start past .args .count) (start past .args .heads .now) (start past .args .counts) (start past .args .triples .now) triples
+  linked : TripleKeysListed count₂ (take (count past) (nodes past)) (start past .args .rules) (start past .args .count) (start past .args .heads .now) (start past .args .counts) (start past .args .triples .now) triples
   linked = rw (c .before .linked .given .1) at (c .before .before .before .before .before .triples .ensures)
 
   exact₂ : count₂ ≡ length (take count₂ triples)

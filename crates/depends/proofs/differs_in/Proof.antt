@@ -1,6 +1,6 @@
 -- `differs_in` meets its contract: no entry of the part before i differs. Assumes nothing.
 use Prim.Native.Nat.{_+_, _-_, _≤_}
-use Rattle.depends.proofs.Looking.{Looking, looking-done, looking-found, looking-on, looking-one, looking-start}
+use Rattle.depends.proofs.KeySearch.{Looking, looking-done, looking-found, looking-on, looking-one, looking-start}
 use borrow.Author.Needs.{needs}
 use Rattle.depends.proofs.differs_in.Statement.{statement}
 use Rattle.depends.proofs.differs_in.Tie as tie

@@ -1,5 +1,5 @@
 -- `has_left` meets its contract. Assumes nothing.
-use Rattle.depends.proofs.Looking.{four-left}
+use Rattle.depends.proofs.KeySearch.{four-left}
 use native.Mathlib.Omega.{arith}
 use borrow.Author.Needs.{needs}
 use Rattle.depends.proofs.has_left.Statement.{statement}

@@ -1,6 +1,6 @@
 -- `some_broken` meets its contract: the rows keep each dependency before dependency i. Assumes nothing.
 use Prim.Native.Nat.{_-_}
-use Rattle.depends.proofs.Asking.{Asking, asking-done, asking-found, asking-on, asking-start}
+use Rattle.depends.proofs.DependencyLoop.{Asking, asking-done, asking-found, asking-on, asking-start}
 use borrow.Author.Needs.{needs}
 use Rattle.depends.proofs.some_broken.Statement.{statement}
 use Rattle.depends.proofs.some_broken.Tie as tie

@@ -2,7 +2,7 @@
 use Prim.Native.Nat.{_+_, _-_, _≤_}
 use mathlib.Core.Logic.{⊎-elim}
 use mathlib.Core.Path.{refl, sym, _∙_}
-use Rattle.depends.proofs.Looking.{Looking, left-differs, looking-found, looking-on, looking-start}
+use Rattle.depends.proofs.KeySearch.{Looking, left-differs, looking-found, looking-on, looking-start}
 use borrow.Author.Needs.{needs}
 use Rattle.depends.proofs.some_differs.Statement.{statement}
 use Rattle.depends.proofs.some_differs.Tie as tie

@@ -5,7 +5,7 @@ use mathlib.Core.Logic.{⊎-elim}
 use mathlib.Core.Path.{_≡_, refl}
 use native.Mathlib.Omega.{arith}
 use Prim.Native.Nat.{_-_, _≤_}
-use Rattle.invent.specs.Invent.{Leads, Marked, unset, Upto}
+use Rattle.invent.specs.Invent.{Leads, FlagsMarked, unset, Upto}
 use Rattle.invent.proofs.Marks.{upto-again, upto-start}
 use Rattle.invent.proofs.mark_all.Statement.{statement}
 use Rattle.invent.proofs.mark_all.Tie as tie
@@ -20,7 +20,7 @@ use Rattle.shapes.specs.Shapes.{Tabled}
 abbrev Inv-loop : tie.InvT-loop
 Inv-loop shapes mask flags₀ changed₀ p₀ flags changed p =
     (p ≤ maxPredicates) × (length flags ≡ length flags₀) × Progress unset changed flags₀ flags
-    × ((P : Pack) → Tabled (P .setting) shapes → Marked (Upto (Leads P (invented (setOfMask mask))) p) flags₀ flags)
+    × ((P : Pack) → Tabled (P .setting) shapes → FlagsMarked (Upto (Leads P (invented (setOfMask mask))) p) flags₀ flags)
 
 abbrev μ-loop : tie.MeasureT-loop
 μ-loop shapes mask flags₀ changed₀ p₀ flags changed p = maxPredicates - p

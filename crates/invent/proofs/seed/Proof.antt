@@ -6,7 +6,7 @@ use native.Mathlib.Omega.{arith}
 use Prim.Native.Nat.{_-_, _≤_}
 use Rattle.core.specs.Keys.{originAt}
 use Rattle.shapes.specs.Shapes.{Tabled}
-use Rattle.invent.specs.Invent.{Lacks, Marked, Upto}
+use Rattle.invent.specs.Invent.{Lacks, FlagsMarked, Upto}
 use Rattle.invent.proofs.Marks.{upto-again, upto-start}
 use Rattle.core_lists.proofs.Origin.{next-subject, no-subject}
 use Rattle.core_lists.specs.Origin.{keysBefore}
@@ -18,7 +18,7 @@ use Rattle.meaning.specs.Pack.{Pack}
 abbrev Inv-loop : tie.InvT-loop
 Inv-loop shapes nodes triples masks flags₀ at₀ s₀ s-end flags at s =
     (s-end ≡ length nodes) × (s ≤ length nodes) × (length flags ≡ length flags₀) × (at ≡ keysBefore (originAt s 0) triples)
-    × ((P : Pack) → Tabled (P .setting) shapes → Marked (Upto (λ i. Upto (Lacks P triples i (getD masks i 0)) maxPredicates) s) flags₀ flags)
+    × ((P : Pack) → Tabled (P .setting) shapes → FlagsMarked (Upto (λ i. Upto (Lacks P triples i (getD masks i 0)) maxPredicates) s) flags₀ flags)
 
 abbrev μ-loop : tie.MeasureT-loop
 μ-loop shapes nodes triples masks flags₀ at₀ s₀ s-end flags at s = s-end - s

@@ -5,7 +5,7 @@ use mathlib.Core.Path.{_≡_}
 use native.Mathlib.Omega.{arith}
 use Prim.Native.Nat.{_-_, _≤_}
 use Rattle.core.specs.Keys.{originAt}
-use Rattle.invent.specs.Invent.{Lacks, Marked, Upto}
+use Rattle.invent.specs.Invent.{Lacks, FlagsMarked, Upto}
 use Rattle.invent.proofs.Marks.{upto-again, upto-start}
 use Rattle.core_lists.proofs.Origin.{next-predicate}
 use Rattle.core_lists.specs.Origin.{keysBefore}
@@ -18,7 +18,7 @@ use Rattle.shapes.specs.Shapes.{Tabled}
 abbrev Inv-loop : tie.InvT-loop
 Inv-loop shapes triples subject mask from flags₀ at₀ p₀ flags at p =
     (p ≤ maxPredicates) × (length flags ≡ length flags₀) × (at ≡ keysBefore (originAt subject p) triples)
-    × ((P : Pack) → Tabled (P .setting) shapes → Marked (Upto (Lacks P triples subject mask) p) flags₀ flags)
+    × ((P : Pack) → Tabled (P .setting) shapes → FlagsMarked (Upto (Lacks P triples subject mask) p) flags₀ flags)
 
 abbrev μ-loop : tie.MeasureT-loop
 μ-loop shapes triples subject mask from flags₀ at₀ p₀ flags at p = maxPredicates - p

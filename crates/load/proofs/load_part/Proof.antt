@@ -1,6 +1,6 @@
 -- `load_part` meets its contract. Assumes nothing.
 use native.Mathlib.Omega.{arith}
-use Rattle.load.proofs.Parts.{part-room, part-shown}
+use Rattle.load.proofs.LoadedBody.{part-room, part-shown}
 use Rattle.pack.proofs.Sizes.{size-is}
 use borrow.Author.Needs.{needs}
 use Rattle.load.proofs.load_part.Statement.{statement}

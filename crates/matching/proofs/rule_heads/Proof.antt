@@ -4,7 +4,7 @@ use lib.ListN.{length-take}
 use native.Mathlib.Omega.{arith}
 use Prim.Native.Nat.{zero-le}
 use Rattle.meaning.specs.Ordered.{empty}
-use Rattle.matching.proofs.Answer.{grown-answers, unmatched-answers, atoms-below, head-variables, few-rows, atoms-bytes, plan, reaches}
+use Rattle.matching.proofs.RuleAnswers.{grown-answers, unmatched-answers, atoms-below, head-variables, few-rows, atoms-bytes, plan, reaches}
 use Rattle.matching.proofs.Matched.{start-bindings, heads-iff}
 use Rattle.matching.proofs.rule_heads.Statement.{statement}
 use Rattle.matching.proofs.rule_heads.Tie as tie

@@ -2,7 +2,7 @@
 -- Assumes nothing.
 use mathlib.Core.List.{List}
 use Rattle.meaning.proofs.Model.Enumeration.{Enumeration}
-use Rattle.meaning.proofs.Theory.Answers.{pair-iff, yes-iff}
+use Rattle.meaning.proofs.Theory.CertainAnswers.{pair-iff, yes-iff}
 use Rattle.meaning.proofs.Theory.Simulated.{built-closed, is-core, pair-certain, yes-certain}
 use Rattle.meaning.proofs.Theory.Simulation.{ends, starts}
 use Rattle.meaning.specs.Built.{core}

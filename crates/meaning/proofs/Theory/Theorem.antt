@@ -9,7 +9,7 @@ use Rattle.meaning.proofs.Model.Built.{enumerate}
 use Rattle.meaning.proofs.Model.Enumeration.{Enumeration}
 use Rattle.meaning.proofs.Model.Refusals.{noGraph?}
 use Rattle.meaning.proofs.Model.Resolved.{resolved}
-use Rattle.meaning.proofs.Theory.Answers.{graph-iff, pair-iff, pairs-all, yes-iff}
+use Rattle.meaning.proofs.Theory.CertainAnswers.{graph-iff, pair-iff, pairs-all, yes-iff}
 use Rattle.meaning.proofs.Theory.Simulated.{no-graph}
 use Rattle.meaning.specs.Built.{core}
 use Rattle.meaning.specs.Certain.{CertainPair, CertainYes, Distinct, built}

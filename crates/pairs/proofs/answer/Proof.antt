@@ -2,7 +2,7 @@
 use borrow.Author.Needs.{needs}
 use native.Mathlib.Omega.{arith}
 use Rattle.evaluate.specs.Answered.{Ready}
-use Rattle.pairs.proofs.Shell.{counts, ready, refused}
+use Rattle.pairs.proofs.FromPrepared.{counts, ready, refused}
 use Rattle.pairs.proofs.answer.Statement.{statement}
 use Rattle.pairs.proofs.answer.Tie as tie
 

@@ -4,7 +4,7 @@ use lib.ListN.{length}
 use native.Mathlib.Omega.{arith}
 use Prim.Native.Nat.{_≤_}
 use Rattle.meaning.specs.Limits.{maxPairs}
-use Rattle.pairs.proofs.Shell.{fits, listed, over}
+use Rattle.pairs.proofs.FromPrepared.{fits, listed, over}
 use Rattle.pairs.proofs.in_lists.Statement.{statement}
 use Rattle.pairs.proofs.in_lists.Tie as tie
 

@@ -4,7 +4,7 @@ use mathlib.Core.Path.{refl}
 use native.Mathlib.Omega.{arith}
 use Prim.Native.Nat.{ℕ}
 use Rattle.calls.specs.Call.{_becomes_}
-use Rattle.prepare.proofs.Decide.{as-held, built, not-0, not-read, roomy}
+use Rattle.prepare.proofs.RefusedOrGraph.{as-held, built, not-0, not-read, roomy}
 use Rattle.prepare.proofs.prepare.Statement.{statement}
 use Rattle.prepare.proofs.prepare.Tie as tie
 use Rattle.prepare.specs.Prepared.{Prepares}

@@ -1,7 +1,7 @@
 -- `query::read_query` meets its contract. Assumes nothing.
 use borrow.Author.Needs.{needs}
 use borrow.Author.Tests.{not-true, not-false}
-use Rattle.query.proofs.Whole.{no-query, left-over, a-query}
+use Rattle.query.proofs.WholeText.{no-query, left-over, a-query}
 use Rattle.query.proofs.read_query.Statement.{statement}
 use Rattle.query.proofs.read_query.Tie as tie
 

@@ -1,7 +1,7 @@
 -- `readback::read_back` meets its contract: a pack that passes the check is loaded. Assumes nothing.
 use borrow.Author.Needs.{needs}
 use native.Mathlib.Omega.{arith}
-use Rattle.readback.proofs.Answered.{found-answer, refused-answer, setting-loaded}
+use Rattle.readback.proofs.FromRead.{found-answer, refused-answer, setting-loaded}
 use Rattle.readback.proofs.read_back.Statement.{statement}
 use Rattle.readback.proofs.read_back.Tie as tie
 

@@ -1,7 +1,7 @@
 -- `heads_of` meets its contract: what the two copies are is held as matching supposes. Assumes nothing.
 use mir.Facts.{fits-widen}
 use native.Mathlib.Omega.{arith}
-use Rattle.rule_heads.proofs.Held.{atoms-small, rule-given, rule-held, variables-small}
+use Rattle.rule_heads.proofs.HeldRule.{atoms-small, rule-given, rule-held, variables-small}
 use borrow.Author.Needs.{needs}
 use Rattle.rule_heads.proofs.heads_of.Statement.{statement}
 use Rattle.rule_heads.proofs.heads_of.Tie as tie

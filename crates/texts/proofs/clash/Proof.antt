@@ -1,6 +1,6 @@
 -- `clash` meets its contract: no two of the records before j clash. Assumes nothing.
 use Prim.Native.Nat.{_-_}
-use Rattle.texts.proofs.Before.{Comparing, comparing-done, comparing-found, comparing-on, comparing-start}
+use Rattle.texts.proofs.EarlierRecords.{Comparing, comparing-done, comparing-found, comparing-on, comparing-start}
 use borrow.Author.Needs.{needs}
 use Rattle.texts.proofs.clash.Statement.{statement}
 use Rattle.texts.proofs.clash.Tie as tie

@@ -1,7 +1,7 @@
 -- `clash_before` meets its contract: no record before i clashes with record j. Assumes nothing.
 use mir.Facts.{fits-widen}
 use Prim.Native.Nat.{_-_}
-use Rattle.texts.proofs.Before.{last-inside, last-shows, Looking, looking-done, looking-found, looking-on, looking-start, one-inside, one-shows}
+use Rattle.texts.proofs.EarlierRecords.{last-inside, last-shows, Looking, looking-done, looking-found, looking-on, looking-start, one-inside, one-shows}
 use borrow.Author.Needs.{needs}
 use Rattle.texts.proofs.clash_before.Statement.{statement}
 use Rattle.texts.proofs.clash_before.Tie as tie

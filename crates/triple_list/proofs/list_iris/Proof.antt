@@ -6,7 +6,7 @@ use native.Mathlib.Omega.{arith}
 use Prim.Native.Nat.{_+_, _*_, _-_, _≤_}
 use Rattle.core.specs.Keys.{originAt}
 use Rattle.invent.specs.Invent.{Upto}
-use Rattle.triple_list.specs.Triples.{Listed, SubjectEdge}
+use Rattle.triple_list.specs.Triples.{RecordsListed, SubjectEdge}
 use Rattle.triple_list.proofs.EdgeLaws.{by-subject, iri-end, iri-room}
 use Rattle.triple_list.proofs.ListedLaws.{listed-again, listed-start}
 use Rattle.core_lists.proofs.Origin.{next-subject, no-subject}
@@ -20,7 +20,7 @@ use Rattle.sets.specs.Ordered.{rankOf}
 abbrev Inv-loop : tie.InvT-loop
 Inv-loop shapes nodes triples masks places out₀ iris next₀ s₀ out next s =
     (s ≤ iris) × (iris ≡ rankOf firstLiteral nodes) × (length out ≡ length out₀) × (next .triple ≤ s * maxPredicates + next .at) × (next .at ≡ keysBefore (originAt s 0) triples)
-    × Listed shapes (λ P. Upto (λ t. SubjectEdge P triples places t (getD masks t 0)) s) 0 out₀ out (next .triple)
+    × RecordsListed shapes (λ P. Upto (λ t. SubjectEdge P triples places t (getD masks t 0)) s) 0 out₀ out (next .triple)
 
 abbrev μ-loop : tie.MeasureT-loop
 μ-loop shapes nodes triples masks places out₀ iris next₀ s₀ out next s = iris - s

@@ -5,7 +5,7 @@ use mathlib.Core.Path.{_≡_}
 use native.Mathlib.Omega.{arith}
 use Prim.Native.Nat.{_+_, _*_, _-_, _≤_, _<_}
 use Rattle.invent.specs.Invent.{Upto}
-use Rattle.triple_list.specs.Triples.{Listed, SetEdge}
+use Rattle.triple_list.specs.Triples.{RecordsListed, SetEdge}
 use Rattle.triple_list.proofs.EdgeLaws.{by-set, sets-start}
 use Rattle.triple_list.proofs.ListedLaws.{listed-again}
 use Rattle.triple_list.proofs.list_sets_edges.Statement.{statement}
@@ -15,7 +15,7 @@ use Rattle.triple_list.proofs.list_sets_edges.Tie as tie
 abbrev Inv-loop : tie.InvT-loop
 Inv-loop shapes triples flags places first out₀ next₀ j₀ out next j =
     (0 < j) × (j ≤ typeSets) × (length out ≡ length out₀) × (next + maxPredicates ≤ first + j * maxPredicates)
-    × Listed shapes (λ P. Upto (SetEdge triples flags places P) j) first out₀ out next
+    × RecordsListed shapes (λ P. Upto (SetEdge triples flags places P) j) first out₀ out next
 
 abbrev μ-loop : tie.MeasureT-loop
 μ-loop shapes triples flags places first out₀ next₀ j₀ out next j = typeSets - j

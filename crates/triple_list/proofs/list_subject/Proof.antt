@@ -6,7 +6,7 @@ use native.Mathlib.Omega.{arith}
 use Prim.Native.Nat.{_+_, _-_, _≤_}
 use Rattle.core.specs.Keys.{originAt}
 use Rattle.invent.specs.Invent.{Upto}
-use Rattle.triple_list.specs.Triples.{EdgeFrom, Listed}
+use Rattle.triple_list.specs.Triples.{EdgeFrom, RecordsListed}
 use Rattle.triple_list.proofs.EdgeLaws.{by-predicate, origin-number, origin-room}
 use Rattle.triple_list.proofs.ListedLaws.{listed-again, listed-start}
 use Rattle.core_lists.proofs.Origin.{next-predicate}
@@ -18,7 +18,7 @@ use Rattle.triple_list.proofs.list_subject.Tie as tie
 abbrev Inv-loop : tie.InvT-loop
 Inv-loop shapes triples places subject mask out₀ next₀ p₀ out next p =
     (p ≤ maxPredicates) × (length out ≡ length out₀) × (next .triple + next₀ .at ≤ next₀ .triple + p + next .at) × (next .at ≡ keysBefore (originAt subject p) triples)
-    × Listed shapes (λ P. Upto (EdgeFrom P triples places subject mask) p) (next₀ .triple) out₀ out (next .triple)
+    × RecordsListed shapes (λ P. Upto (EdgeFrom P triples places subject mask) p) (next₀ .triple) out₀ out (next .triple)
 
 abbrev μ-loop : tie.MeasureT-loop
 μ-loop shapes triples places subject mask out₀ next₀ p₀ out next p = maxPredicates - p

@@ -3,7 +3,7 @@ use borrow.Author.Needs.{needs}
 use native.Mathlib.Omega.{arith}
 use Rattle.evaluate.proofs.Started.{cleared}
 use Rattle.evaluate.specs.Answered.{Ready}
-use Rattle.yes_no.proofs.Shell.{answered, ready, refused}
+use Rattle.yes_no.proofs.FromPrepared.{answered, ready, refused}
 use Rattle.yes_no.proofs.answer.Statement.{statement}
 use Rattle.yes_no.proofs.answer.Tie as tie
 

@@ -5,7 +5,7 @@ use mathlib.Core.Path.{refl, subst, _∙_, _≡_}
 use native.Mathlib.Omega.{arith}
 use Prim.Native.Nat.{_+_, _-_, _≤_}
 use Rattle.alive.specs.Lists.{lists}
-use Rattle.answers.specs.Answers.{ListedBelow, ListedUpTo}
+use Rattle.answers.specs.Walked.{ListedBelow, ListedUpTo}
 use Rattle.answers.specs.Keys.{pairKey}
 use Rattle.meaning.specs.Limits.{maxStates}
 use Rattle.states.specs.Table.{Unmarked}

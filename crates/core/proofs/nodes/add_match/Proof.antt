@@ -5,12 +5,12 @@ use mathlib.Core.Path.{_≡_}
 use native.Mathlib.Omega.{arith}
 use Rattle.core.proofs.Growing.{adding-then}
 use Rattle.core.proofs.NodeKeys.{link-keys, subject-beyond, type-keys}
-use Rattle.core.specs.Collected.{Grown, subjectKey}
+use Rattle.core.specs.Collected.{SetGrown, subjectKey}
 use Rattle.core.proofs.nodes.add_match.Statement.{statement}
 use Rattle.core.proofs.nodes.add_match.Tie as tie
 
 -- the set with the subject
-with-subject : (c : tie.After-known-told) → let s = c .before .before .before .before .before .before .before .before .before .before .before .before .args in Grown (λ y. y ≡ subjectKey (s .t1) (s .k)) (s .n) (c .before .added .given .0 .0) (s .nodes .now) (c .before .before .before .before .before .add-at .last .0)
+with-subject : (c : tie.After-known-told) → let s = c .before .before .before .before .before .before .before .before .before .before .before .before .args in SetGrown (λ y. y ≡ subjectKey (s .t1) (s .k)) (s .n) (c .before .added .given .0 .0) (s .nodes .now) (c .before .before .before .before .before .add-at .last .0)
 with-subject c = rw (c .before .before .before .before .before .before .before .before .before .before .subject-key .ensures, c .before .added .given .1) at (c .before .before .before .before .before .add-at .ensures)
 
 pub add-match-spec : {M : Type 1} → statement M

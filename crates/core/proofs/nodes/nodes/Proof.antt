@@ -2,7 +2,7 @@
 use borrow.Author.Needs.{needs}
 use lib.ListN.{length-take}
 use native.Mathlib.Omega.{arith}
-use Rattle.core.proofs.Answers.{nodes-beyond, nodes-listed, nodes-over}
+use Rattle.core.proofs.Passed.{nodes-beyond, nodes-listed, nodes-over}
 use Rattle.core.proofs.nodes.nodes.Statement.{statement}
 use Rattle.core.proofs.nodes.nodes.Tie as tie
 

@@ -3,14 +3,14 @@ use borrow.Author.Needs.{needs}
 use lib.ListN.{length}
 use native.Mathlib.Omega.{arith}
 use Prim.Native.Nat.{_-_}
-use Rattle.core.specs.Collected.{TypeFact}
+use Rattle.core.specs.Collected.{HeadType}
 use Rattle.core.proofs.Marking.{KeysMarked, marks-start, marks-again, marks-done}
 use Rattle.core.proofs.typing.mark_rule.Statement.{statement}
 use Rattle.core.proofs.typing.mark_rule.Tie as tie
 use Rattle.meaning.proofs.Lists.Places.{∈-at}
 
 abbrev Inv-loop : tie.InvT-loop
-Inv-loop head keys nodes masks₀ near₀ i₀ i-end masks near i = KeysMarked (TypeFact nodes head) keys i masks₀ masks
+Inv-loop head keys nodes masks₀ near₀ i₀ i-end masks near i = KeysMarked (HeadType nodes head) keys i masks₀ masks
 
 abbrev μ-loop : tie.MeasureT-loop
 μ-loop head keys nodes masks₀ near₀ i₀ i-end masks near i = length keys - i

@@ -2,7 +2,7 @@
 use borrow.Author.Needs.{needs}
 use native.Mathlib.Omega.{arith}
 use Prim.Native.Nat.{_≤_, _<_, _-_}
-use Rattle.core.specs.Collected.{TypeFact}
+use Rattle.core.specs.Collected.{HeadType}
 use Rattle.core.proofs.Marking.{RulesMarked, all-start, all-again, all-done}
 use Rattle.core.proofs.typing.mark_rules.Statement.{statement}
 use Rattle.core.proofs.typing.mark_rules.Tie as tie
@@ -10,7 +10,7 @@ use native.Mathlib.Nat.{add-sub-cancel-left}
 
 abbrev Inv-loop : tie.InvT-loop
 Inv-loop count heads nodes masks₀ rules counts r₀ masks r =
-    (r ≤ count) × RulesMarked (TypeFact nodes) rules heads counts r masks₀ masks
+    (r ≤ count) × RulesMarked (HeadType nodes) rules heads counts r masks₀ masks
 
 abbrev μ-loop : tie.MeasureT-loop
 μ-loop count heads nodes masks₀ rules counts r₀ masks r = count - r

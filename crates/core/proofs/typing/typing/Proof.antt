@@ -1,6 +1,6 @@
 -- `core::typing::typing` meets its contract. Assumes nothing.
 use borrow.Author.Needs.{needs}
-use Rattle.core.proofs.Whole.{types-answer}
+use Rattle.core.proofs.AllPasses.{types-answer}
 use Rattle.core.proofs.typing.typing.Statement.{statement}
 use Rattle.core.proofs.typing.typing.Tie as tie
 

@@ -1,8 +1,8 @@
 -- `evaluate::pairs::pairs` meets its contract. Assumes nothing.
 use borrow.Author.Needs.{needs}
 use native.Mathlib.Omega.{arith}
-use Rattle.evaluate.proofs.Answers.{lists-fit, pairs-answer}
-use Rattle.evaluate.proofs.Held.{subjects-rise}
+use Rattle.evaluate.proofs.CertainAnswers.{lists-fit, pairs-answer}
+use Rattle.evaluate.proofs.HeldGraph.{subjects-rise}
 use Rattle.evaluate.proofs.Readied.{chain-ready, parts-few, threadable}
 use Rattle.evaluate.proofs.pairs.pairs.Statement.{statement}
 use Rattle.evaluate.proofs.pairs.pairs.Tie as tie

@@ -1,7 +1,7 @@
 -- `evaluate::yes::yes` meets its contract. Assumes nothing.
 use borrow.Author.Needs.{needs}
 use native.Mathlib.Omega.{arith}
-use Rattle.evaluate.proofs.Answers.{lists-fit, yes-answer}
+use Rattle.evaluate.proofs.CertainAnswers.{lists-fit, yes-answer}
 use Rattle.evaluate.proofs.Readied.{chain-ready, parts-few, threadable}
 use Rattle.evaluate.proofs.yes.yes.Statement.{statement}
 use Rattle.evaluate.proofs.yes.yes.Tie as tie

@@ -5,7 +5,7 @@ use mir.Facts.{fits-widen}
 use native.Mathlib.Omega.{arith}
 use Prim.Native.Nat.{_*_, _+_, _-_, _<_, _≤_}
 use Rattle.iris.proofs.Loaded.{value-inside, value-place, valueLength, valueStart}
-use Rattle.iris.proofs.Parts.{Finding, finding-start, found-again, found-here, found-none}
+use Rattle.iris.proofs.Segments.{Finding, finding-start, found-again, found-here, found-none}
 use Rattle.iris.proofs.arguments.find_value.Statement.{statement}
 use Rattle.iris.proofs.arguments.find_value.Tie as tie
 use Rattle.meaning.specs.Limits.{textWidth, valuesAt}

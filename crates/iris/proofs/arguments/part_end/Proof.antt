@@ -4,7 +4,7 @@ use lib.ListN.{length}
 use Prim.Native.Nat.{_-_}
 use Rattle.iris.proofs.arguments.part_end.Statement.{statement}
 use Rattle.iris.proofs.arguments.part_end.Tie as tie
-use Rattle.iris.proofs.Parts.{Seeking, seeking-start, seeking-again, seeking-here, seeking-end}
+use Rattle.iris.proofs.Segments.{Seeking, seeking-start, seeking-again, seeking-here, seeking-end}
 
 abbrev Inv-loop : tie.InvT-loop
 Inv-loop text at end₀ end = Seeking text at end

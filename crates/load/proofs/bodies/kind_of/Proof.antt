@@ -1,12 +1,12 @@
 -- `bodies::kind_of` meets its contract: the rows come last. Assumes nothing.
-use Rattle.load.specs.Bodies.{kindOf}
+use Rattle.load.specs.Bodies.{bodyKind}
 use Rattle.load.proofs.Places.{last-kind}
 use borrow.Author.Needs.{needs}
 use Rattle.load.proofs.bodies.kind_of.Statement.{statement}
 use Rattle.load.proofs.bodies.kind_of.Tie as tie
 
 pub kind-of-spec : {M : Type 1} → statement M
-unfolding kindOf
+unfolding bodyKind
 kind-of-spec =
     tie.close
     (tie.spec

@@ -5,7 +5,7 @@ use Prim.Native.Nat.{_-_}
 use Rattle.meaning.specs.Pack.{Pack}
 use Rattle.meaning.specs.Tests.{every}
 use Rattle.meaning.specs.WellFormed.{goodRow}
-use Rattle.names.specs.Given.{PackGiven}
+use Rattle.names.specs.PackGiven.{PackGiven}
 use Rattle.names.proofs.Cells.{row-at, row-room, rows-few}
 use borrow.Author.Needs.{needs}
 use Rattle.names.proofs.rows.good_rows.Statement.{statement}

@@ -5,7 +5,7 @@ use Prim.Native.Nat.{_-_}
 use Rattle.meaning.specs.Pack.{Atom, Pack}
 use Rattle.meaning.specs.Tests.{every}
 use Rattle.meaning.specs.WellFormed.{goodAtom}
-use Rattle.names.specs.Given.{SettingGiven}
+use Rattle.names.specs.PackGiven.{SettingGiven}
 use Rattle.names.specs.Rule.{AtomsAt}
 use Rattle.names.proofs.Atoms.{atom-good}
 use borrow.Author.Needs.{needs}

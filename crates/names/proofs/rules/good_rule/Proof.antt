@@ -2,7 +2,7 @@
 use mathlib.Core.Path.{_∙_}
 use mir.Facts.{fits-widen}
 use native.Mathlib.Omega.{arith}
-use Rattle.names.proofs.Parts.{atoms-at, head-at, variables-few}
+use Rattle.names.proofs.RuleNumbers.{atoms-at, head-at, variables-few}
 use Rattle.names.proofs.Rule.{atoms-bad, head-bad, rule-good}
 use borrow.Author.Needs.{needs}
 use Rattle.names.proofs.rules.good_rule.Statement.{statement}

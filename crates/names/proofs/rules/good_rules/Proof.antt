@@ -5,7 +5,7 @@ use Prim.Native.Nat.{_-_}
 use Rattle.meaning.specs.Pack.{Pack}
 use Rattle.meaning.specs.Tests.{every}
 use Rattle.meaning.specs.WellFormed.{goodRule}
-use Rattle.names.specs.Given.{SettingGiven}
+use Rattle.names.specs.PackGiven.{SettingGiven}
 use Rattle.names.proofs.Rule.{is-rule, rule-at, rules-few, rules-many}
 use borrow.Author.Needs.{needs}
 use Rattle.names.proofs.rules.good_rules.Statement.{statement}

@@ -5,7 +5,7 @@ use Prim.Native.Nat.{_-_}
 use Rattle.meaning.specs.Pack.{Pack}
 use Rattle.meaning.specs.Tests.{every}
 use Rattle.meaning.specs.WellFormed.{goodShape}
-use Rattle.names.specs.Given.{SettingGiven}
+use Rattle.names.specs.PackGiven.{SettingGiven}
 use Rattle.names.proofs.Shape.{shapes-few, shapes-many, shape-at}
 use borrow.Author.Needs.{needs}
 use Rattle.names.proofs.shapes.good_shapes.Statement.{statement}

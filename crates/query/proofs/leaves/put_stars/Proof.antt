@@ -4,13 +4,13 @@ use mathlib.Core.Path.{_≡_, refl, subst, _∙_}
 use Prim.Native.Nat.{ℕ, _≤_, _-_, _+_}
 use native.Mathlib.Omega.{arith}
 use lib.ListN.{length, length-set}
-use Rattle.query.specs.Reading.{Put}
+use Rattle.query.specs.Reading.{StarsPut}
 use Rattle.query.proofs.LeafLaws.{put-none, put-more}
 use Rattle.query.proofs.leaves.put_stars.Statement.{statement}
 use Rattle.query.proofs.leaves.put_stars.Tie as tie
 
 abbrev Inv-loop : tie.InvT-loop
-Inv-loop tree₀ n k star i₀ tree i = (i ≤ k) × (length tree ≡ length tree₀) × Put tree₀ tree n i
+Inv-loop tree₀ n k star i₀ tree i = (i ≤ k) × (length tree ≡ length tree₀) × StarsPut tree₀ tree n i
 
 abbrev μ-loop : tie.MeasureT-loop
 μ-loop tree₀ n k star i₀ tree i = k - i
@@ -50,7 +50,7 @@ returns c =
     let a = c .before .before .before .before .args in
     let l = c .before .loop in
     let e : l .i ≡ a .k = omega arith in
-    subst (λ (x : ℕ). Put (a .tree .now) (l .tree) (a .n) x) e (l .inv .2)
+    subst (λ (x : ℕ). StarsPut (a .tree .now) (l .tree) (a .n) x) e (l .inv .2)
 
 pub put-stars-spec : {M : Type 1} → statement M
 put-stars-spec =

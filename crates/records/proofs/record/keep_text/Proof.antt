@@ -1,7 +1,7 @@
 -- `record::keep_text` meets its contract. Assumes nothing.
 use mathlib.Core.Path.{refl}
 use native.Mathlib.Omega.{arith}
-use Rattle.records.specs.Kept.{Fits}
+use Rattle.records.specs.Kept.{PlaceFits}
 use borrow.Author.Needs.{needs}
 use Rattle.records.proofs.record.keep_text.Statement.{statement}
 use Rattle.records.proofs.record.keep_text.Tie as tie
@@ -12,7 +12,7 @@ keep-text-spec =
     (tie.spec
     (λ c. search needs)  -- enum-known-read
     (λ c κs. rw (c .before .read .given .1) at (c .before .before .before .before .pre .0))  -- place-requires
-    (λ c. let h : Fits _ _ = rw (c .before .before .read .given .1) at (c .before .before .before .before .before .pre .0) in omega (arith, h .1))  -- cast-t10
+    (λ c. let h : PlaceFits _ _ = rw (c .before .before .read .given .1) at (c .before .before .before .before .before .pre .0) in omega (arith, h .1))  -- cast-t10
     (λ c. search needs)  -- slice-aggregate-put
     (λ c κs. search needs)  -- put-requires
     (λ c. search needs)  -- enum-told

@@ -1,7 +1,7 @@
 -- `resolve::labels::node_of_iri` meets its contract. Assumes nothing.
 use borrow.Author.Needs.{needs}
 use borrow.Author.Tests.{not-true, not-false}
-use Rattle.resolve.proofs.Answers.{iri-unknown, iri-found}
+use Rattle.resolve.proofs.LabelledNodes.{iri-unknown, iri-found}
 use Rattle.resolve.proofs.labels.node_of_iri.Statement.{statement}
 use Rattle.resolve.proofs.labels.node_of_iri.Tie as tie
 

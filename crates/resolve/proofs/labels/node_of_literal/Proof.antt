@@ -2,7 +2,7 @@
 use borrow.Author.Needs.{needs}
 use native.Mathlib.Omega.{arith}
 use Rattle.iris.proofs.ArgumentsRead.{found-small}
-use Rattle.resolve.proofs.Answers.{literal-unknown, literal-found}
+use Rattle.resolve.proofs.LabelledNodes.{literal-unknown, literal-found}
 use Rattle.resolve.proofs.labels.node_of_literal.Statement.{statement}
 use Rattle.resolve.proofs.labels.node_of_literal.Tie as tie
 

@@ -5,7 +5,7 @@ use mathlib.Core.Path.{refl}
 use native.Mathlib.Omega.{arith}
 use Prim.Native.Nat.{_+_, _*_, _-_}
 use Rattle.meaning.specs.Limits.{headWidth, maxRules, ruleWidth, rulesAt}
-use Rattle.names.proofs.Parts.{headFrom}
+use Rattle.names.proofs.RuleNumbers.{headFrom}
 use Rattle.names.proofs.Rule.{rules-few}
 use Rattle.meaning.proofs.Lists.Filling.{Put, put-on, put-start}
 use Rattle.tables.proofs.Rows.{heads-done}

@@ -3,7 +3,7 @@ use mathlib.Core.Path.{sym, _∙_}
 use native.Mathlib.Omega.{arith}
 use Prim.Native.Nat.{_-_, _≤_}
 use Rattle.texts.specs.Places.{SameBytes}
-use Rattle.texts.proofs.Eights.{eight-same}
+use Rattle.texts.proofs.EightBytes.{eight-same}
 use borrow.Author.Needs.{needs}
 use Rattle.texts.proofs.compare.agreeing.Statement.{statement}
 use Rattle.texts.proofs.compare.agreeing.Tie as tie

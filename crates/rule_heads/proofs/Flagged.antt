@@ -6,7 +6,7 @@ use Prim.Native.Nat.{ℕ}
 use Rattle.meaning.specs.NoGraph.{TooLarge}
 use Rattle.meaning.specs.Pack.{Pack}
 use Rattle.rule_heads.specs.Answer.{FoundOr, HeadsFound}
-use Rattle.names.specs.Given.{ForResolved, Resolved}
+use Rattle.names.specs.PackGiven.{ForResolved, Resolved}
 use Rattle.rule_heads.specs.declared.AllHeads.{AllHeads}
 
 module _ {counts numbers rows : List ℕ} (a : AllHeads) (heads : List ℕ) (h : ForResolved counts numbers rows (λ P. FoundOr (a .«too_large») P a heads))

@@ -11,7 +11,7 @@ use Rattle.meaning.specs.Tables.{RowsHeld}
 use Rattle.meaning.specs.Tests.{any, anyTwo}
 use Rattle.meaning.specs.WellFormed.{breaks}
 use Rattle.depends.specs.Answer.{DependenciesHeld, Even, SaysBreaks, SaysBroken}
-use Rattle.depends.proofs.Held.{dependencies-counted, dependency-at, dependencyAt}
+use Rattle.depends.proofs.HeldRows.{dependencies-counted, dependency-at, dependencyAt}
 
 abbrev broke : List Row → Dependency → Bool
 broke rs d = anyTwo (breaks d) rs

@@ -10,7 +10,7 @@ use native.Mathlib.Omega.{arith}
 use Prim.Native.Nat.{ℕ, suc, _+_, _*_, _≤_, _<_}
 use Rattle.pack.proofs.Accepted.{well-formed}
 use Rattle.alive.specs.Lists.{Lists}
-use Rattle.answers.specs.Graph.{HeldIn, Numbered, Resolved}
+use Rattle.answers.specs.Graph.{HeldIn, NumberedGraph, WantedResolved}
 use Rattle.core.proofs.Declared.{edge-predicate}
 use Rattle.evaluate.proofs.InLists.{formed}
 use Rattle.meaning.proofs.Lists.Places.{inside, placed, same-at, there-is}
@@ -18,7 +18,7 @@ use Rattle.evaluate.specs.GraphIn.{GraphIn}
 use Rattle.evaluate.specs.Named.{byPlace}
 use Rattle.graph.proofs.Fronts.{nodes-are, triples-are}
 use Rattle.graph.specs.Fronts.{GraphFronts, frontsOf}
-use Rattle.index.specs.Triples.{GraphFits, SubjectsRise, TripleIn, objectOf, predicateOf, subjectOf}
+use Rattle.index.specs.Triples.{GraphFits, SubjectsRise, TripleIn, objectAt, predicateAt, subjectAt}
 use Rattle.meaning.proofs.Lists.Members.{element}
 use Rattle.meaning.proofs.Lists.OrderedPlaces.{in-order-at}
 use Rattle.meaning.proofs.Model.Resolved.{resolved}
@@ -31,7 +31,7 @@ use Rattle.meaning.specs.Ordered.{_≺_, shorter, less, equal}
 use Rattle.meaning.specs.Pack.{Pack, Text}
 use Rattle.meaning.specs.WellFormed.{dangling}
 use Rattle.pack.proofs.Unpacking.{unpacked}
-use Rattle.resolve.specs.Listed.{Listed}
+use Rattle.resolve.specs.Listed.{BuiltNodesListed}
 use Rattle.resolve.specs.Wanted.{Wanted}
 use Rattle.spelling.specs.Iri.{plain}
 use Rattle.meaning.proofs.Lists.Blocks.{flatten-at}
@@ -56,7 +56,7 @@ module _ {pack : Text} {P : Pack} {nodes : List ℕ} {count : ℕ} {triples : Li
   count-is = listed .node-count ∙ sym (forall-length (listed .lists .records))
 
   -- the node list as the names and labels are looked up in it
-  pub node-list : Listed P inOrder nodes count
+  pub node-list : BuiltNodesListed P inOrder nodes count
   node-list = record {
     ordered = listed .lists .ordered;
     records = listed .node-records;
@@ -81,14 +81,14 @@ module _ {pack : Text} {P : Pack} {nodes : List ℕ} {count : ℕ} {triples : Li
       ∙ ap (λ l. getD l (k * 3 + j) 0) (triples-are nodes triples listed)
       ∙ flatten-at 3 (listed .triple-records) three k j r e h
 
-  subject-at : (k : ℕ) (r : List ℕ) → getElem? (listed .triple-records) k ≡ some r → subjectOf triples k ≡ getD r 0 0
+  subject-at : (k : ℕ) (r : List ℕ) → getElem? (listed .triple-records) k ≡ some r → subjectAt triples k ≡ getD r 0 0
   subject-at k r e = ap (λ i. getD triples i 0) (let z : k * 3 ≡ k * 3 + 0 = omega arith in z) ∙ number-at k r e 0 (omega arith)
 
   -- the record of a triple within the count
   record-of : (k : ℕ) → k < edges → (r : List ℕ) × (getElem? (listed .triple-records) k ≡ some r)
   record-of k l = there-is (listed .triple-records) k (omega (arith, listed .triple-count))
 
-  edge-of : (s p o k : ℕ) → k < edges → subjectOf triples k ≡ s → predicateOf triples k ≡ p → objectOf triples k ≡ o → TripleRecord P inOrder (s ∷ p ∷ o ∷ [])
+  edge-of : (s p o k : ℕ) → k < edges → subjectAt triples k ≡ s → predicateAt triples k ≡ p → objectAt triples k ≡ o → TripleRecord P inOrder (s ∷ p ∷ o ∷ [])
   edge-of s p o k l a b c =
       let (r, e) = record-of k l in
       let t = is-triple r (element (listed .triple-records) k r e) in
@@ -108,7 +108,7 @@ module _ {pack : Text} {P : Pack} {nodes : List ℕ} {count : ℕ} {triples : Li
       go (made i h) = resolved P named-7 .predicate (h .needs .declared)
 
   module _ (L : Lists) (same-nodes : L .nodes ≡ count) (same-edges : L .edges ≡ edges) (same-triples : L .triples ≡ triples) where
-    abbrev B : Numbered
+    abbrev B : NumberedGraph
     B = byPlace (plain P) P inOrder
 
     forth : (s p o : ℕ) → B .Edge s p o → TripleIn triples edges s p o
@@ -158,7 +158,7 @@ module _ {pack : Text} {P : Pack} {nodes : List ℕ} {count : ℕ} {triples : Li
     }
 
     -- the numbers wanted are right
-    pub right-numbers : {q : Text} → Wanted P inOrder q (L .tree) (L .parts) (L .wanted) → Resolved B q L
+    pub right-numbers : {q : Text} → Wanted P inOrder q (L .tree) (L .parts) (L .wanted) → WantedResolved B q L
     right-numbers {q} w = record {
       steps = λ i l k p h. let x = w .parts i l .step k p in ((λ c. x .0 c .1), (λ e. x .1 (h, e)));
       iris = λ i l k n h. let (b, e) = there-is inOrder n h in let x = w .parts i l .iri k n b e in
@@ -169,12 +169,12 @@ module _ {pack : Text} {P : Pack} {nodes : List ℕ} {count : ℕ} {triples : Li
 
   -- ---- bounds and order
 
-  ends-below : (k : ℕ) → k < edges → (subjectOf triples k < count) × (objectOf triples k < count)
+  ends-below : (k : ℕ) → k < edges → (subjectAt triples k < count) × (objectAt triples k < count)
   ends-below k l =
       let t = edge-of _ _ _ k l refl refl refl in
       let h = t .are in
-      let a : t .subject ≡ subjectOf triples k = sym (ap (λ z. getD z 0 0) h) in
-      let c : t .object ≡ objectOf triples k = sym (ap (λ z. getD z 2 0) h) in
+      let a : t .subject ≡ subjectAt triples k = sym (ap (λ z. getD z 0 0) h) in
+      let c : t .object ≡ objectAt triples k = sym (ap (λ z. getD z 2 0) h) in
       let x = inside inOrder (t .subject) (t .from) (t .from-at) in
       let y = inside inOrder (t .object) (t .to) (t .to-at) in
       (omega (arith, count-is), omega (arith, count-is))

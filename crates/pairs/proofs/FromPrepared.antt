@@ -22,7 +22,7 @@ use Rattle.pair_list.proofs.Publishing.{flat-length}
 use Rattle.pair_list.specs.Written.{CanCopy, PairsFit, withPairs}
 use Rattle.pairs.specs.Answer.{before-12, too-many}
 use Rattle.pairs.specs.Inner.{Comes, ListRoom}
-use Rattle.prepare.proofs.Decide.{as-readied, as-refused}
+use Rattle.prepare.proofs.RefusedOrGraph.{as-readied, as-refused}
 use Rattle.prepare.specs.Prepared.{Prepares, ResolvedIf}
 use Rattle.prepare.specs.declared.Prepared.{Prepared}
 use Rattle.sets.specs.Buffers.{overlaid}

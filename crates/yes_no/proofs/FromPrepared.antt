@@ -9,7 +9,7 @@ use Rattle.evaluate.proofs.InLists.{graph-in, ready-in}
 use Rattle.evaluate.specs.Answered.{Ready, YesIn}
 use Rattle.meaning.specs.Limits.{maxParts, nodeListLength, tripleListLength}
 use Rattle.meaning.specs.Pack.{Text}
-use Rattle.prepare.proofs.Decide.{as-readied, as-refused, given}
+use Rattle.prepare.proofs.RefusedOrGraph.{as-readied, as-refused, given}
 use Rattle.prepare.specs.Prepared.{Prepares, ResolvedIf}
 use Rattle.prepare.specs.declared.Prepared.{Prepared}
 use Rattle.yes_no.specs.Inner.{Comes}

@@ -15,23 +15,23 @@ use Rattle.meaning.specs.Pack.{Row, Atom}
 use Rattle.meaning.proofs.Cases.{case-on}
 use Rattle.matching.specs.declared.Heads.{Heads}
 use Rattle.matching.specs.declared.Heads.the-variants.{Listed, Over}
-use Rattle.matching.specs.Plan.{masked, variablesAt, candidatesAt, KeyVariables, AtomsBelow, AtomsBytes, SameVariables, Bindings, Candidate, Prepared, Plan, Solution, Reaches, Grown}
-use Rattle.matching.specs.Rule.{RuleHeld, Answers}
+use Rattle.matching.specs.Plan.{masked, variablesAt, candidatesAt, KeyVariables, AtomsBelow, AtomsBytes, SameVariables, Bindings, Candidate, Prepared, Plan, Solution, Reaches, KeysGrown}
+use Rattle.matching.specs.Rule.{RuleHeld, ListedOrOver}
 use Rattle.matching.proofs.Bytes.{stacked-small}
-use Rattle.matching.proofs.Held.{atom-relation, atom-count, atom-variables, row-relation, row-cell, map-long}
+use Rattle.matching.proofs.HeldNumbers.{atom-relation, atom-count, atom-variables, row-relation, row-cell, map-long}
 use Rattle.matching.proofs.Matched.{atom-at, atom-of, row-at, rows-long}
 use Rattle.meaning.proofs.Lists.SetLists.{list-as}
 use Rattle.meaning.proofs.Lists.Places.{∈-at, ∈-index}
 use Rattle.meaning.proofs.Lists.Counting.{over-sub}
 
 -- the keys of a set that was empty
-pub grown-answers : (r : Heads) (keys keys′ : List ℕ) {P Q : ℕ → Type 0} → ((k : ℕ) → P k ↔ Q k) → length keys′ ≡ length keys → Grown r keys 0 P keys′ → Answers r keys′ Q
+pub grown-answers : (r : Heads) (keys keys′ : List ℕ) {P Q : ℕ → Type 0} → ((k : ℕ) → P k ↔ Q k) → length keys′ ≡ length keys → KeysGrown r keys 0 P keys′ → ListedOrOver r keys′ Q
 grown-answers (Listed m) keys keys′ f e g = (omega (arith, g .room, e), list-as (λ k. (⊎-elim (λ m. elim m [ ]) (f k .0), λ q. inr (f k .1 q))) (g .list))
 grown-answers Over keys keys′ f e g = rw e (over-sub (λ k. ⊎-elim (λ m. elim m [ ]) (f k .0)) (g .over))
 
 -- an atom that has no candidate leaves no head
 pub unmatched-answers : {orders : List ℕ} {count : ℕ} {vars cands counts start : List ℕ} {Q : ℕ → Type 0} → ((k : ℕ) → Solution orders count vars cands counts 0 start k ↔ Q k)
-    → (j : ℕ) × (j < count) × (getD counts j 0 ≡ 0) → (keys : List ℕ) → Answers (Listed 0) keys Q
+    → (j : ℕ) × (j < count) × (getD counts j 0 ≡ 0) → (keys : List ℕ) → ListedOrOver (Listed 0) keys Q
 unmatched-answers {orders} {count} {vars} {cands} {counts} {start} f u keys = (zero-le, record { ascending = empty; members = λ k. (λ m. elim m [ ], λ q. absurd (none k (f k .1 q))) })
   where
     none : (k : ℕ) → Solution orders count vars cands counts 0 start k → ⊥

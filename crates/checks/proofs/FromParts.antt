@@ -11,8 +11,8 @@ use Rattle.checks.specs.declared.Checked.{Checked}
 use Rattle.load.specs.Loaded.{PackLoaded, PackShown}
 use Rattle.meaning.specs.Limits.{settingLength}
 use Rattle.meaning.specs.WellFormed.{dangling, duplicates, prefixClash}
-use Rattle.names.proofs.Read.{given-of}
-use Rattle.names.specs.Given.{IsPack, PackGiven}
+use Rattle.names.proofs.ReadWithinBounds.{given-of}
+use Rattle.names.specs.PackGiven.{IsPack, PackGiven}
 use Rattle.pack.proofs.Order.{accepted-is, accepted-number}
 use Rattle.pack.specs.Checked.{numberOf, wellFormed}
 use Rattle.pack.specs.Contents.{badSize}

@@ -5,7 +5,7 @@ use mathlib.Core.List.{List, []}
 use mathlib.Core.Logic.{_≢_}
 use mathlib.Core.Path.{_≡_}
 use Prim.Native.Nat.{ℕ, _*_, _≤_, _<_}
-use Rattle.records.specs.Held.{SettingNumbers}
+use Rattle.records.specs.PackHeld.{SettingNumbers}
 use Rattle.records.specs.Numbers.{NumbersOf}
 use Rattle.meaning.specs.Limits.{dependencyWidth, literalTarget, maxArguments, maxAtoms, maxColumns, maxConstructors, maxDependencies, maxHeadVariables, maxPredicates, maxRelations, maxRows, maxRules, maxShapes, maxTypes, maxValues, maxVariables, rowWidth, rowsBody, settingLength, shapeWidth, unused}
 use Rattle.meaning.specs.Member.{_∈_}

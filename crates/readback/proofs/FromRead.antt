@@ -3,7 +3,7 @@ use mathlib.Core.Bool.{Bool, true, false}
 use mathlib.Core.Path.{_≡_, refl, sym, ap, _∙_}
 use Prim.Native.Nat.{ℕ}
 use Rattle.checks.specs.Checked.{Accepted, SettingLoaded}
-use Rattle.iris.proofs.Answer.{not-read, read-is-spelled}
+use Rattle.iris.proofs.SpelledIsRead.{not-read, read-is-spelled}
 use Rattle.iris.specs.Read.{iriRead}
 use Rattle.iris.specs.declared.iri.IriRead.{IriRead}
 use Rattle.meaning.specs.Listing.{padded}
@@ -12,7 +12,7 @@ use Rattle.pack.proofs.Accepted.{WellFormed, well-formed}
 use Rattle.pack.proofs.Bounds.{constructor-bounded}
 use Rattle.pack.proofs.Unpacking.{unpacked}
 use Rattle.pack.specs.Checked.{Checked, refused, accepted, wellFormed, numberOf}
-use Rattle.readback.specs.Answer.{Answers, not-well-formed, no-iri, iri, unreadAs, read}
+use Rattle.readback.specs.Answer.{ReadBackAnswers, not-well-formed, no-iri, iri, unreadAs, read}
 use Rattle.readback.specs.declared.ReadBack.{ReadBack}
 use Rattle.spelling.proofs.Reading.{SomeArguments}
 use Rattle.spelling.specs.ReadBack.{readBack}
@@ -25,10 +25,10 @@ read-some found e = rw e
 
 -- ---- a pack that is not well formed
 
-pub refused-answer : (pack text : Text) (k : ℕ) (r : ReadBack) → k ≡ numberOf (wellFormed pack) → (k ≡ 0 → ⊥) → r ≡ unreadAs k → Answers pack text r
+pub refused-answer : (pack text : Text) (k : ℕ) (r : ReadBack) → k ≡ numberOf (wellFormed pack) → (k ≡ 0 → ⊥) → r ≡ unreadAs k → ReadBackAnswers pack text r
 refused-answer pack text k r e n h = go (wellFormed pack) refl e
   where
-    go : (c : Checked) → wellFormed pack ≡ c → k ≡ numberOf c → Answers pack text r
+    go : (c : Checked) → wellFormed pack ≡ c → k ≡ numberOf c → ReadBackAnswers pack text r
     go (refused m) w q = not-well-formed m w (h ∙ ap unreadAs q)
     go (accepted P) w q = absurd (n q)
 
@@ -38,7 +38,7 @@ some-arguments : (s : Text) (P : Pack) → WellFormed s P → SomeArguments P
 some-arguments s P f k i = constructor-bounded _ _ (unpacked s P (f .read) .constructors .0) k i .some-arguments
 
 pub found-answer : (pack text : Text) (P : Pack) → wellFormed pack ≡ accepted P → (found : IriRead) (r : ReadBack) → found ≡ iriRead (readBack P text) → r ≡ read found
-    → Answers pack text r
+    → ReadBackAnswers pack text r
 found-answer pack text P w found r e h = go (found .ok) refl
   where
     f : WellFormed pack P
@@ -47,7 +47,7 @@ found-answer pack text P w found r e h = go (found .ok) refl
     same : found .ok ≡ iriRead (readBack P text) .ok
     same = ap (λ (x : IriRead). x .ok) e
 
-    go : (b : Bool) → found .ok ≡ b → Answers pack text r
+    go : (b : Bool) → found .ok ≡ b → ReadBackAnswers pack text r
     go false q = no-iri P w (not-read P (f .distinct) (f .prefixFree) (some-arguments pack P f) text (sym same ∙ q)) (h ∙ read-none found q)
     go true q =
         let t = read-is-spelled P (f .distinct) (f .prefixFree) (some-arguments pack P f) text (sym same ∙ q) in

@@ -19,11 +19,11 @@ use Rattle.meaning.specs.Pack.{Atom, Head, Pack, Row, Rule, hasType, linksTo, l
 use Rattle.meaning.specs.Tables.{atomNumbers, headArguments}
 use Rattle.meaning.specs.Tests.{thereAnd}
 use Rattle.meaning.specs.WellFormed.{dangling, hasArity}
-use Rattle.names.specs.Given.{Bounds, Resolved}
+use Rattle.names.specs.PackGiven.{Bounds, Resolved}
 use Rattle.names.proofs.Good.{atom-good, row-good, same-arity}
-use Rattle.names.proofs.Parts.{atom-count, atoms-part, countAt, length-atom, variable-count, variables-few, variables-part, variablesAt}
+use Rattle.names.proofs.RuleNumbers.{atom-count, atoms-part, countAt, length-atom, variable-count, variables-few, variables-part, variablesAt}
 use Rattle.names.proofs.Rule.{rule-at}
-use Rattle.rule_heads.specs.Given.{Bytes, IsRuleOf, RuleOf}
+use Rattle.rule_heads.specs.RuleOf.{Bytes, IsRuleOf, RuleOf}
 use Rattle.meaning.proofs.Lists.Blocks.{length-flat}
 use Rattle.meaning.proofs.Lists.Bytes.{AllBytes, byte-below, bytes-append, bytes-cons, bytes-flat, bytes-take, bytes-zeros}
 use Rattle.meaning.proofs.Lists.Padding.{unpadded}

@@ -5,7 +5,7 @@ use mathlib.Core.List.{List, [], _++_, _∷_}
 use mathlib.Core.Logic.{_↔_}
 use mathlib.Core.Path.{_≡_}
 use Prim.Native.Nat.{suc, zero, ℕ, _+_, _<_, _≤_}
-use Rattle.alive.specs.Fits.{Fits}
+use Rattle.alive.specs.Fits.{ListsFit}
 use Rattle.alive.specs.Lists.{Lists, ReachedIn}
 use Rattle.answers.specs.declared.pairs.Pairs.{Pairs}
 use Rattle.answers.specs.declared.pairs.Pairs.the-variants.{Listed, TooMany}
@@ -62,7 +62,7 @@ PairsAre TooMany L named pairs = Over maxPairs (PairIn L named)
 -- ---- what the two calls ask of their lists: working slices that are long enough, and zero where they are read first
 
 pub record YesReady (L : Lists) (last earlier alive queue : List ℕ) : Type 0 where
-  pub fits : Fits L
+  pub fits : ListsFit L
   pub chains : ChainReady (L .edges) last earlier
   pub unmarked : Unmarked 1 maxStates alive queue
 

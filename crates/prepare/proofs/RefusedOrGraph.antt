@@ -5,7 +5,7 @@ use mathlib.Core.Path.{_≡_, ap, subst}
 use native.Mathlib.Omega.{arith}
 use Prim.Native.Nat.{ℕ, _≤_}
 use Rattle.calls.specs.Call.{Contents, Kept, Written, gives, refuses}
-use Rattle.construct.proofs.Decide.{refuses-some}
+use Rattle.construct.proofs.RefusalNumbers.{refuses-some}
 use Rattle.construct.specs.Outcome.{Constructs, refusedAs}
 use Rattle.construct.specs.declared.Constructed.{Constructed}
 use Rattle.graph.specs.Fronts.{graphLists}

@@ -9,7 +9,7 @@ use Rattle.meaning.specs.Member.{_∈_}
 use Rattle.meaning.specs.Pack.{Pack, Rule}
 use Rattle.meaning.specs.Tables.{RowsHeld, headArguments}
 use Rattle.meaning.specs.WellFormed.{dangling}
-use Rattle.names.specs.Given.{Bounds}
+use Rattle.names.specs.PackGiven.{Bounds}
 use Rattle.names.specs.Rule.{RuleAt}
 
 -- so many numbers from a place on fit eight bits
@@ -35,5 +35,5 @@ abbrev pub ForRuleOf : List ℕ → ℕ → List ℕ → (Pack → Rule → Type
 ForRuleOf numbers at rows Q = (P : Pack) (r : Rule) → RuleOf P r numbers at rows → Q P r
 
 -- the keys of its heads
-abbrev pub KeyOf : Pack → Rule → ℕ → Type 0
-KeyOf P r = HeadKey (P .rows) (r .atoms) (headArguments (r .head))
+abbrev pub RuleKey : Pack → Rule → ℕ → Type 0
+RuleKey P r = HeadKey (P .rows) (r .atoms) (headArguments (r .head))

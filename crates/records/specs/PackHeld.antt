@@ -24,11 +24,11 @@ width K.Rule = ruleWidth
 width K.Row = rowWidth
 
 -- Each record's numbers, so many, stand after those of the records before it; `at` is where the first stands.
-pub record Held {A : Type 0} (N : A → List ℕ → Type 0) (w : ℕ) (records : List A) (at : ℕ) (numbers : List ℕ) : Type 0 where
+pub record RecordsHeld {A : Type 0} (N : A → List ℕ → Type 0) (w : ℕ) (records : List A) (at : ℕ) (numbers : List ℕ) : Type 0 where
   pub each : (i : ℕ) (x : A) → getElem? records i ≡ some x → N x (take w (drop (i * w) (drop at numbers)))
 
 abbrev pub BodyHeld : (k : Kind) → List ℕ → List (RecordOf k) → ℕ → List ℕ → Type 0
-BodyHeld k s = Held (NumbersOf k s) (width k)
+BodyHeld k s = RecordsHeld (NumbersOf k s) (width k)
 
 -- ---- what building takes: no text
 
@@ -47,7 +47,7 @@ pub record SettingNumbers (S : Setting) (counts numbers : List ℕ) : Type 0 whe
   pub relations : BodyHeld K.Relation [] (S .arities) relationsAt numbers
   pub dependencies : BodyHeld K.Dependency [] (S .dependencies) dependenciesAt numbers
   pub shapes : BodyHeld K.Shape [] (S .shapes) shapesAt numbers
-  pub arities : Held ArityFirst constructorWidth (S .constructors) constructorsAt numbers
+  pub arities : RecordsHeld ArityFirst constructorWidth (S .constructors) constructorsAt numbers
   pub rules : BodyHeld K.Rule [] (S .rules) rulesAt numbers
 
 -- ---- and the texts, by their places in the bytes

@@ -17,7 +17,7 @@ use Rattle.meaning.specs.NoGraph.{TooLarge}
 use Rattle.meaning.specs.Pack.{Pack, Text}
 use Rattle.meaning.specs.WellFormed.{broken}
 use Rattle.pack.specs.Checked.{Checked as Found, accepted, firstRefusal, numberOf, refused}
-use Rattle.names.specs.Given.{ForResolved, IsResolved, Resolved}
+use Rattle.names.specs.PackGiven.{ForResolved, IsResolved, Resolved}
 
 -- ---- the pack is well formed, and the numbers hold it
 

@@ -9,14 +9,14 @@ use native.Mathlib.Omega.{arith}
 use Prim.Native.Nat.{ℕ, _≤_, _<_}
 use Rattle.pack.proofs.Accepted.{WellFormed, well-formed}
 use Rattle.alive.proofs.Bounds.{query-fits}
-use Rattle.alive.specs.Fits.{Fits}
+use Rattle.alive.specs.Fits.{ListsFit}
 use Rattle.alive.specs.Lists.{Lists}
 use Rattle.alive.specs.Living.{Yes}
 use Rattle.answers.proofs.Graphs.{listed-joined, no-unsatisfied, over-joined, yes-satisfied}
-use Rattle.answers.specs.Answers.{PairIn, PairsAre}
+use Rattle.answers.specs.Walked.{PairIn, PairsAre}
 use Rattle.answers.specs.declared.pairs.Pairs.{Pairs}
 use Rattle.answers.specs.declared.pairs.Pairs.the-variants.{Listed, TooMany}
-use Rattle.answers.specs.Graph.{HeldIn, JoinedPair, Numbered, Resolved, view}
+use Rattle.answers.specs.Graph.{HeldIn, JoinedPair, NumberedGraph, WantedResolved, view}
 use Rattle.answers.specs.Keys.{pairKeys}
 use Rattle.evaluate.specs.Answered.{PairsIn, Ready, YesIn}
 use Rattle.evaluate.specs.GraphIn.{GraphIn}
@@ -36,7 +36,7 @@ use Rattle.spelling.specs.Iri.{plain}
 use Rattle.walk.specs.Parts.{Threaded, listed, partOf}
 use Rattle.evaluate.proofs.Built.{built-listed, built-whole}
 use Rattle.evaluate.proofs.CertainPairs.{not-too-many, pairs-are, too-many}
-use Rattle.evaluate.proofs.Held.{graph-fits, held-in, inOrder, node-list, right-numbers}
+use Rattle.evaluate.proofs.HeldGraph.{graph-fits, held-in, inOrder, node-list, right-numbers}
 use Rattle.evaluate.proofs.InLists.{formed, some-graph}
 use Rattle.evaluate.proofs.KindOrder.{named-first}
 use Rattle.evaluate.proofs.Places.{satisfied}
@@ -47,11 +47,11 @@ module _ {pack query : Text} {tree : List ℕ} {parts : ℕ} {wanted nodes : Lis
   L = record { nodes = count; edges = edges; parts = parts; triples = triples; tree = tree; next = next; wanted = wanted }
 
   -- the lists are within their bounds
-  pub lists-fit : parts ≤ length next → Fits L
+  pub lists-fit : parts ≤ length next → ListsFit L
   lists-fit a = record { graph = graph-fits (ready .graph .graph); query = query-fits (ready .held) threaded (ready .room) a (ready .wanted-room) }
 
   module _ {P : Pack} (g : GraphIn pack P nodes count triples edges) where
-    abbrev G : Numbered
+    abbrev G : NumberedGraph
     G = byPlace (plain P) P (inOrder g)
 
     well : WellFormed pack P
@@ -63,7 +63,7 @@ module _ {pack query : Text} {tree : List ℕ} {parts : ℕ} {wanted nodes : Lis
     in-lists : HeldIn G L
     in-lists = held-in g L refl refl refl
 
-    numbers : Resolved G query L
+    numbers : WantedResolved G query L
     numbers = right-numbers g L refl refl refl (ready .resolved P (formed (g .has)) (inOrder g) (node-list g))
 
     -- the query's expression is the one that the tree holds

@@ -9,7 +9,7 @@ use mathlib.Core.Option.{Option, none, some, Option·none-ne-some, Option·some-
 use mathlib.Core.Path.{_≡_, refl, sym, ap, subst}
 use native.Mathlib.Omega.{arith}
 use Prim.Native.Nat.{ℕ, zero, suc, _≤_, _<_}
-use Rattle.records.specs.Held.{PackHeld}
+use Rattle.records.specs.PackHeld.{PackHeld}
 use Rattle.meaning.specs.Limits.{literalTarget, maxArguments, maxAtoms, maxColumns, maxHeadVariables, settingLength}
 use Rattle.meaning.specs.Member.{_∈_, here, there}
 use Rattle.meaning.specs.Pack.{Atom, Literal, Pack, Target, Term, type}
@@ -22,7 +22,7 @@ use Rattle.pack.specs.Unpack.{also, readAll, records, unpack}
 use Rattle.pack.proofs.Bounds.{constructor-bounded, rule-fine}
 use Rattle.meaning.proofs.Cases.{and-both}
 use Rattle.pack.proofs.Unpacking.{unpacked}
-use Rattle.names.specs.Given.{Bounds, PackGiven, RowBounds, TargetBound}
+use Rattle.names.specs.PackGiven.{Bounds, PackGiven, RowBounds, TargetBound}
 use Rattle.meaning.proofs.Lists.Bytes.{AllBytes, bytes-cons, bytes-drop, bytes-first, bytes-nil, bytes-rest, bytes-take}
 
 -- ---- readers: what each gives of bytes, and that bytes are left

@@ -8,7 +8,7 @@ use mathlib.Core.Path.{_≡_, sym, ap, subst, _∙_}
 use native.Mathlib.Omega.{arith}
 use Prim.Native.Nat.{ℕ, _+_, _*_, _≤_}
 use Rattle.meaning.proofs.Lists.Places.{inside, snoc-at}
-use Rattle.records.specs.Held.{Held}
+use Rattle.records.specs.PackHeld.{RecordsHeld}
 use Rattle.records.specs.Kept.{Put}
 use Rattle.meaning.proofs.Lists.Overwriting.{written-before, written-there}
 use Rattle.meaning.proofs.Lists.Blocks.{record-end}
@@ -16,11 +16,11 @@ use Rattle.meaning.proofs.Lists.Blocks.{record-end}
 -- ---- one record more
 
 module _ {A : Type 0} (N : A → List ℕ → Type 0) (w : ℕ) where
-  pub held-none : (at : ℕ) (out : List ℕ) → Held N w [] at out
+  pub held-none : (at : ℕ) (out : List ℕ) → RecordsHeld N w [] at out
   held-none at out = record { each = λ i x e. absurd (Option·none-ne-some x e) }
 
-  pub held-more : {done : List A} {a : A} {numbers out out′ : List ℕ} → Held N w done 0 out → N a numbers → length numbers ≡ w → length done * w + w ≤ length out
-      → Put numbers (length done * w) out out′ → Held N w (done ++ (a ∷ [])) 0 out′
+  pub held-more : {done : List A} {a : A} {numbers out out′ : List ℕ} → RecordsHeld N w done 0 out → N a numbers → length numbers ≡ w → length done * w + w ≤ length out
+      → Put numbers (length done * w) out out′ → RecordsHeld N w (done ++ (a ∷ [])) 0 out′
   held-more {done} {a} {numbers} {out} {out′} h n m room p = record {
     each = λ i x e.
         snoc-at done a i x e
@@ -34,7 +34,7 @@ module _ {A : Type 0} (N : A → List ℕ → Type 0) (w : ℕ) where
   }
 
   -- numbers past the records may change
-  pub held-kept : {xs : List A} {at end : ℕ} {out out′ : List ℕ} → Held N w xs at out → at + length xs * w ≤ end → take end out′ ≡ take end out → Held N w xs at out′
+  pub held-kept : {xs : List A} {at end : ℕ} {out out′ : List ℕ} → RecordsHeld N w xs at out → at + length xs * w ≤ end → take end out′ ≡ take end out → RecordsHeld N w xs at out′
   held-kept {xs} {at} {end} {out} {out′} h l e = record {
     each = λ i x f.
         let r = record-end i (length xs) w (inside xs i x f) in
@@ -45,7 +45,7 @@ module _ {A : Type 0} (N : A → List ℕ → Type 0) (w : ℕ) where
   }
 
   -- in a part of a list, and in the list
-  pub held-at : {xs : List A} (at : ℕ) {part out : List ℕ} → Held N w xs 0 part → length xs * w ≤ length part → take (length part) (drop at out) ≡ part → Held N w xs at out
+  pub held-at : {xs : List A} (at : ℕ) {part out : List ℕ} → RecordsHeld N w xs 0 part → length xs * w ≤ length part → take (length part) (drop at out) ≡ part → RecordsHeld N w xs at out
   held-at {xs} at {part} {out} h l e = record {
     each = λ i x f.
         let r = record-end i (length xs) w (inside xs i x f) in

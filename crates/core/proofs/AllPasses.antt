@@ -11,10 +11,10 @@ use Rattle.core.proofs.NodeKeys.{link-keys, subject-in}
 use Rattle.core.proofs.TripleKeys.{link-triple, no-triple}
 use Rattle.core.proofs.TypeSources.{decoded, types-at}
 use Rattle.core.specs.Bounds.{HeadFits, HeadsFit}
-use Rattle.core.specs.Collected.{FromRules, Grown, KnownMatch, KnownRules, Marked, TypeFact, nodeKeys, objectKey, subjectKey, tripleKeys}
+use Rattle.core.specs.Collected.{FromRules, SetGrown, KnownMatch, KnownRules, TypesMarked, HeadType, nodeKeys, objectKey, subjectKey, tripleKeys}
 use Rattle.core.specs.Heads.{kindNumber, namedNumber}
-use Rattle.core.specs.Outcomes.{CoreListed, NodesListed, TriplesListed, TypesAnswer}
-use Rattle.core.specs.Spread.{AllPlaced, Placed, SpreadFrom}
+use Rattle.core.specs.Outcomes.{CoreListed, NodeKeysListed, TripleKeysListed, TypesAnswer}
+use Rattle.core.specs.Spread.{AllTriplesFit, TripleFits, SpreadFrom}
 use Rattle.meaning.specs.Limits.{maxCoreNodes, maxCoreTriples, maxIris}
 use Rattle.meaning.specs.Member.{_∈_}
 use Rattle.meaning.specs.NoGraph.{CoreIri, CoreTriple}
@@ -30,7 +30,7 @@ use Rattle.meaning.proofs.Lists.Places.{zeros-at}
 
 module _ {rules : List (List ℕ)} {count : ℕ} {heads counts : List ℕ} (fit : HeadsFit rules count heads counts) where
   pub types-answer : (nodes : List ℕ) → length nodes ≤ maxCoreNodes → (triples before : List ℕ) → before ≡ zeros (length before) → (start : List ℕ)
-      → Marked (FromRules (TypeFact nodes) rules count heads counts) before start → (table : List (List ℕ)) (after : List ℕ)
+      → TypesMarked (FromRules (HeadType nodes) rules count heads counts) before start → (table : List (List ℕ)) (after : List ℕ)
       → SpreadFrom table triples start after → TypesAnswer table rules count heads counts nodes triples after
   types-answer nodes few triples before e start marked table after spread P h b tab l ts =
       types-at fit nodes few P h b l triples ts before start (λ i. ap (λ (x : List ℕ). getD x i 0) e ∙ zeros-at (length before) i) marked table tab after spread
@@ -38,15 +38,15 @@ module _ {rules : List (List ℕ)} {count : ℕ} {heads counts : List ℕ} (fit 
   -- ---- what the passes suppose of each other
 
   -- the nodes of all heads are listed
-  pub known-rules : {m : ℕ} {d d′ : List ℕ} → Grown (FromRules (λ head k y. y ∈ nodeKeys head k) rules count heads counts) 0 m d d′
+  pub known-rules : {m : ℕ} {d d′ : List ℕ} → SetGrown (FromRules (λ head k y. y ∈ nodeKeys head k) rules count heads counts) 0 m d d′
       → KnownRules (take m d′) rules count heads counts
   known-rules g r l k i y m = g .list .members y .1 (inr (record { rule = r; below = l; gives = record { key = k; listed = i; gives = m } }))
 
   module _ (nodes : List ℕ) (a : InOrder _<_ nodes) (few : length nodes ≤ maxCoreNodes) where
-    placed-triple : (head : List ℕ) (k : ℕ) → HeadFits head → KnownMatch nodes head k → (y : ℕ) → y ∈ tripleKeys nodes head k → Placed y
+    placed-triple : (head : List ℕ) (k : ℕ) → HeadFits head → KnownMatch nodes head k → (y : ℕ) → y ∈ tripleKeys nodes head k → TripleFits y
     placed-triple head k f known y m = go (ℕ-discrete (kindNumber head) 0)
       where
-        go : Dec (kindNumber head ≡ 0) → Placed y
+        go : Dec (kindNumber head ≡ 0) → TripleFits y
         go (yes e) = elim (rw (no-triple nodes head k e) at m) [ ]
         go (no n) =
             let s = rank-member (subjectKey head k) nodes a (known (subjectKey head k) (subject-in head k refl)) .inside in
@@ -54,12 +54,12 @@ module _ {rules : List (List ℕ)} {count : ℕ} {heads counts : List ℕ} (fit 
             let d = decoded (rankOf (subjectKey head k) nodes) (namedNumber head) (rankOf (objectKey head k) nodes) (omega (arith, f .named))
             (omega (arith, o, few)) in
             let e = List·Memᴰ·eq-of-singleton (rw (link-triple nodes head k n) at m) in
-            subst Placed (sym e)
+            subst TripleFits (sym e)
             (record { from = omega (arith, d .0, s, few); named = omega (arith, d .1, f .named); to = omega (arith, d .2, o, few) })
 
     -- the triples of all heads have their nodes' places
     pub all-placed : KnownRules nodes rules count heads counts → {m : ℕ} {d d′ : List ℕ}
-        → Grown (FromRules (λ head k y. y ∈ tripleKeys nodes head k) rules count heads counts) 0 m d d′ → AllPlaced (take m d′)
+        → SetGrown (FromRules (λ head k y. y ∈ tripleKeys nodes head k) rules count heads counts) 0 m d d′ → AllTriplesFit (take m d′)
     all-placed known g y i =
         let f = only-new (g .list .members y .0 i) in
         placed-triple _ (f .gives .key) (fit .fits (f .rule) (f .below)) (known (f .rule) (f .below) (f .gives .key) (f .gives .listed)) y (f .gives .gives)
@@ -67,7 +67,7 @@ module _ {rules : List (List ℕ)} {count : ℕ} {heads counts : List ℕ} (fit 
 -- ---- the whole
 
 pub core-listed : {n t : ℕ} {table rules : List (List ℕ)} {count : ℕ} {heads counts nodes₀ nodes triples₀ triples masks : List ℕ}
-    → NodesListed n rules count heads counts nodes₀ nodes → TriplesListed t (take n nodes) rules count heads counts triples₀ triples
+    → NodeKeysListed n rules count heads counts nodes₀ nodes → TripleKeysListed t (take n nodes) rules count heads counts triples₀ triples
     → TypesAnswer table rules count heads counts (take n nodes) (take t triples) masks
     → length nodes ≡ maxCoreNodes → length triples ≡ maxCoreTriples → maxCoreNodes ≤ length masks
     → CoreListed n t table rules count heads counts nodes triples masks

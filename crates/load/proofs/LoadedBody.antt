@@ -8,8 +8,8 @@ use mathlib.Core.Path.{_≡_, refl, ap, _∙_}
 use native.Mathlib.Nat.{mul-le-mul-right}
 use native.Mathlib.Omega.{arith}
 use Prim.Native.Nat.{ℕ, _+_, _*_, _-_, _≤_}
-use Rattle.load.specs.Bodies.{kindOf, limitOf, placeOf}
-use Rattle.load.specs.Loaded.{BodyLoaded, BodyShown, PartIn, PartShown, Room}
+use Rattle.load.specs.Bodies.{bodyKind, limitOf, placeOf}
+use Rattle.load.specs.Loaded.{BodyLoaded, BodyShown, PartIn, PartShown, BodyRoom}
 use Rattle.pack.specs.Contents.{bodyOf}
 use Rattle.pack.specs.Kinds.{readerOf}
 use Rattle.pack.specs.Readers.{Reader}
@@ -19,16 +19,16 @@ use Rattle.pack.specs.declared.cursor.Cursor.{Cursor}
 use Rattle.load.specs.declared.Count.{Count}
 use Rattle.load.specs.declared.Count.the-variants.{Records, Bad as NoCount}
 use Rattle.pack.specs.declared.kinds.Kind.{Kind}
-use Rattle.records.specs.Held.{width}
+use Rattle.records.specs.PackHeld.{width}
 use Rattle.records.specs.Numbers.{NumbersOf}
-use Rattle.load.proofs.Windows.{held-at}
+use Rattle.load.proofs.HeldRecords.{held-at}
 
 -- no more than the limit
 few-read : {A : Type 0} (reader : Reader A) (limit : ℕ) (s : List ℕ) (xs : List A) → readAll reader s ≡ some xs → length xs ≤ limit → body reader limit s ≡ some xs
 unfolding body
 few-read reader limit s xs e h = rw (e, le-leb (length xs) limit h, atMost)
 
-module _ (i : ℕ) {k : Kind} {limit at : ℕ} (e : k ≡ kindOf i) (f : limit ≡ limitOf i) (g : at ≡ placeOf i) (out : List ℕ) (room : Room i out) where
+module _ (i : ℕ) {k : Kind} {limit at : ℕ} (e : k ≡ bodyKind i) (f : limit ≡ limitOf i) (g : at ≡ placeOf i) (out : List ℕ) (room : BodyRoom i out) where
   fits : at + limit * width k ≤ length out
   fits = rw (e, f, g) room
 
