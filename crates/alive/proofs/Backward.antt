@@ -24,10 +24,13 @@ use Rattle.meaning.proofs.Cases.{true-false}
 -- ---- one triple
 
 module _ {triples : List ℕ} {k kind want i : ℕ} {t₁ q₁ : List ℕ} {k₁ : ℕ} where
-  pub subject-none : (b : Bool) → not b ≡ true → b ≡ takes kind want (predicateAt triples k) → Table 1 maxStates t₁ q₁ k₁ → Adds 1 maxStates (SubjectAt triples k kind want i) (SubjectAt triples k kind want i) t₁ q₁ k₁ t₁ q₁ k₁
+  pub subject-none : (b : Bool) → not b ≡ true → b ≡ takes kind want (predicateAt triples k) → Table 1 maxStates t₁ q₁ k₁
+      → Adds 1 maxStates (SubjectAt triples k kind want i) (SubjectAt triples k kind want i) t₁ q₁ k₁ t₁ q₁ k₁
   subject-none b n e t = adds-none t (λ y s. true-false (e ∙ s .taken) (not-true b n))
 
-  pub subject-one : {t₂ q₂ : List ℕ} {k₂ : ℕ} → takes kind want (predicateAt triples k) ≡ true → Adds 1 maxStates (λ y. y ≡ state i (subjectAt triples k)) (λ y. y ≡ state i (subjectAt triples k)) t₁ q₁ k₁ t₂ q₂ k₂ → Adds 1 maxStates (SubjectAt triples k kind want i) (SubjectAt triples k kind want i) t₁ q₁ k₁ t₂ q₂ k₂
+  pub subject-one : {t₂ q₂ : List ℕ} {k₂ : ℕ} → takes kind want (predicateAt triples k) ≡ true
+      → Adds 1 maxStates (λ y. y ≡ state i (subjectAt triples k)) (λ y. y ≡ state i (subjectAt triples k)) t₁ q₁ k₁ t₂ q₂ k₂
+      → Adds 1 maxStates (SubjectAt triples k kind want i) (SubjectAt triples k kind want i) t₁ q₁ k₁ t₂ q₂ k₂
   subject-one e a = adds-same a (λ y p. record { taken = e; state = p }) (λ y s. s .state)
 
 -- ---- a chain of triples
@@ -47,7 +50,9 @@ module _ {triples earlier : List ℕ} {x kind want i : ℕ} {t₁ q₁ : List �
     pub at-first : 0 < at → Met earlier x (at - 1)
     at-first l = f .inside (at - 1) (met-first at l)
 
-    pub follow-again : {t₃ q₃ : List ℕ} {k₃ : ℕ} → 0 < at → Adds 1 maxStates (SubjectAt triples (at - 1) kind want i) (SubjectAt triples (at - 1) kind want i) t₂ q₂ k₂ t₃ q₃ k₃ → Following triples earlier x kind want i t₁ q₁ k₁ t₃ q₃ k₃ (getD earlier (at - 1) 0)
+    pub follow-again : {t₃ q₃ : List ℕ} {k₃ : ℕ}
+        → 0 < at → Adds 1 maxStates (SubjectAt triples (at - 1) kind want i) (SubjectAt triples (at - 1) kind want i) t₂ q₂ k₂ t₃ q₃ k₃
+        → Following triples earlier x kind want i t₁ q₁ k₁ t₃ q₃ k₃ (getD earlier (at - 1) 0)
     follow-again {t₃} {q₃} {k₃} l a = record {
       adds = adds-as {Y′ = λ y. ⊥} (adds-then (f .adds) (adds-as {S′ = SubjectOn triples earlier x kind want i} {Y′ = SubjectAt triples (at - 1) kind want i} a
           (λ y s. record { at = at - 1; met = at-first l; taken = s .taken; state = s .state }) (λ y s. s))) (λ y s. s) (λ y h. absurd h);
@@ -55,7 +60,8 @@ module _ {triples earlier : List ℕ} {x kind want i : ℕ} {t₁ q₁ : List �
       left = λ y s. ⊎-elim (λ e. inl (a .more y e)) (λ r. split y r (met-split (r .met))) (f .left y s);
     }
       where
-        split : (y : ℕ) → (r : SubjectOn triples earlier at kind want i y) → (r .at ≡ at - 1) ⊎ Met earlier (getD earlier (at - 1) 0) (r .at) → Marked 1 t₃ y ⊎ SubjectOn triples earlier (getD earlier (at - 1) 0) kind want i y
+        split : (y : ℕ) → (r : SubjectOn triples earlier at kind want i y) → (r .at ≡ at - 1) ⊎ Met earlier (getD earlier (at - 1) 0) (r .at)
+            → Marked 1 t₃ y ⊎ SubjectOn triples earlier (getD earlier (at - 1) 0) kind want i y
         split y r (inl e) = inl (a .all y (subst (λ k. SubjectAt triples k kind want i y) e (record { taken = r .taken; state = r .state })))
         split y r (inr m) = inr (record { at = r .at; met = m; taken = r .taken; state = r .state })
 
@@ -72,7 +78,8 @@ module _ {triples earlier : List ℕ} {x kind want i : ℕ} {t₁ q₁ : List �
 -- ---- a leaf
 
 module _ {triples earlier : List ℕ} {x kind want i m : ℕ} {t₁ q₁ : List ℕ} {k₁ : ℕ} where
-  pub leaf-none : (kind ≡ 0 → ⊥) → 3 ≤ kind → (kind < 5 → want ≡ m → ⊥) → Table 1 maxStates t₁ q₁ k₁ → Adds 1 maxStates (LeafBack triples earlier x kind want i m) (LeafBack triples earlier x kind want i m) t₁ q₁ k₁ t₁ q₁ k₁
+  pub leaf-none : (kind ≡ 0 → ⊥) → 3 ≤ kind → (kind < 5 → want ≡ m → ⊥) → Table 1 maxStates t₁ q₁ k₁
+      → Adds 1 maxStates (LeafBack triples earlier x kind want i m) (LeafBack triples earlier x kind want i m) t₁ q₁ k₁ t₁ q₁ k₁
   leaf-none z l n t = adds-none t none
     where
       none : (y : ℕ) → LeafBack triples earlier x kind want i m y → ⊥
@@ -81,7 +88,8 @@ module _ {triples earlier : List ℕ} {x kind want i m : ℕ} {t₁ q₁ : List 
       none y (labels g h e s) = n (omega arith) e
 
   module _ {t₂ q₂ : List ℕ} {k₂ : ℕ} where
-    pub leaf-stay : kind ≡ 0 → Adds 1 maxStates (λ y. y ≡ state i m) (λ y. y ≡ state i m) t₁ q₁ k₁ t₂ q₂ k₂ → Adds 1 maxStates (LeafBack triples earlier x kind want i m) (LeafBack triples earlier x kind want i m) t₁ q₁ k₁ t₂ q₂ k₂
+    pub leaf-stay : kind ≡ 0 → Adds 1 maxStates (λ y. y ≡ state i m) (λ y. y ≡ state i m) t₁ q₁ k₁ t₂ q₂ k₂
+        → Adds 1 maxStates (LeafBack triples earlier x kind want i m) (LeafBack triples earlier x kind want i m) t₁ q₁ k₁ t₂ q₂ k₂
     leaf-stay e a = adds-same a (λ y p. stays e p) back
       where
         back : (y : ℕ) → LeafBack triples earlier x kind want i m y → y ≡ state i m
@@ -89,7 +97,8 @@ module _ {triples earlier : List ℕ} {x kind want i m : ℕ} {t₁ q₁ : List 
         back y (steps g h s) = absurd (omega arith)
         back y (labels g h f p) = p
 
-    pub leaf-step : (kind ≡ 0 → ⊥) → kind < 3 → Adds 1 maxStates (SubjectOn triples earlier x kind want i) (SubjectOn triples earlier x kind want i) t₁ q₁ k₁ t₂ q₂ k₂ → Adds 1 maxStates (LeafBack triples earlier x kind want i m) (LeafBack triples earlier x kind want i m) t₁ q₁ k₁ t₂ q₂ k₂
+    pub leaf-step : (kind ≡ 0 → ⊥) → kind < 3 → Adds 1 maxStates (SubjectOn triples earlier x kind want i) (SubjectOn triples earlier x kind want i)
+        t₁ q₁ k₁ t₂ q₂ k₂ → Adds 1 maxStates (LeafBack triples earlier x kind want i m) (LeafBack triples earlier x kind want i m) t₁ q₁ k₁ t₂ q₂ k₂
     leaf-step z l a = adds-same a (λ y s. steps (omega arith) (omega arith) s) back
       where
         back : (y : ℕ) → LeafBack triples earlier x kind want i m y → SubjectOn triples earlier x kind want i y
@@ -97,7 +106,8 @@ module _ {triples earlier : List ℕ} {x kind want i m : ℕ} {t₁ q₁ : List 
         back y (steps g h s) = s
         back y (labels g h f p) = absurd (omega arith)
 
-    pub leaf-label : 3 ≤ kind → kind < 5 → want ≡ m → Adds 1 maxStates (λ y. y ≡ state i m) (λ y. y ≡ state i m) t₁ q₁ k₁ t₂ q₂ k₂ → Adds 1 maxStates (LeafBack triples earlier x kind want i m) (LeafBack triples earlier x kind want i m) t₁ q₁ k₁ t₂ q₂ k₂
+    pub leaf-label : 3 ≤ kind → kind < 5 → want ≡ m → Adds 1 maxStates (λ y. y ≡ state i m) (λ y. y ≡ state i m) t₁ q₁ k₁ t₂ q₂ k₂
+        → Adds 1 maxStates (LeafBack triples earlier x kind want i m) (LeafBack triples earlier x kind want i m) t₁ q₁ k₁ t₂ q₂ k₂
     leaf-label l h e a = adds-same a (λ y p. labels l (omega arith) e p) back
       where
         back : (y : ℕ) → LeafBack triples earlier x kind want i m y → y ≡ state i m
@@ -185,7 +195,8 @@ leaf-kind (steps g h s) = omega arith
 leaf-kind (labels g h e s) = omega arith
 
 module _ {triples earlier last tree next wanted table : List ℕ} {i j m : ℕ} {q₁ : List ℕ} {k₁ : ℕ} where
-  pub part-turns : {t₂ q₂ : List ℕ} {k₂ : ℕ} → Led (AliveAt table m) (getD next i 0) (partOf tree i) → Adds 1 maxStates (λ y. y ≡ state i m) (λ y. y ≡ state i m) table q₁ k₁ t₂ q₂ k₂
+  pub part-turns : {t₂ q₂ : List ℕ} {k₂ : ℕ} → Led (AliveAt table m) (getD next i 0) (partOf tree i)
+      → Adds 1 maxStates (λ y. y ≡ state i m) (λ y. y ≡ state i m) table q₁ k₁ t₂ q₂ k₂
       → Adds 1 maxStates (PartBack triples earlier last tree next wanted table i j m) (PartBack triples earlier last tree next wanted table i j m) table q₁ k₁ t₂ q₂ k₂
   part-turns l a = adds-same a (λ y e. turns l e) back
     where
@@ -204,7 +215,9 @@ module _ {triples earlier last tree next wanted table : List ℕ} {i j m : ℕ} 
   pub part-leaf : {t₂ q₂ : List ℕ} {k₂ : ℕ} → (Led (AliveAt table m) (getD next i 0) (partOf tree i) → ⊥) → getD next i 0 ≡ j → (kind : ℕ) → kind ≡ kindOf tree i
       → Adds 1 maxStates (LeafBack triples earlier (getD last m 0) kind (getD wanted i 0) i m) (LeafBack triples earlier (getD last m 0) kind (getD wanted i 0) i m) table q₁ k₁ t₂ q₂ k₂
       → Adds 1 maxStates (PartBack triples earlier last tree next wanted table i j m) (PartBack triples earlier last tree next wanted table i j m) table q₁ k₁ t₂ q₂ k₂
-  part-leaf {t₂} {q₂} {k₂} l e kind k a = adds-same (subst (λ x. Adds 1 maxStates (LeafBack triples earlier (getD last m 0) x (getD wanted i 0) i m) (LeafBack triples earlier (getD last m 0) x (getD wanted i 0) i m) table q₁ k₁ t₂ q₂ k₂) k a) (λ y b. leaves e b) back
+  part-leaf {t₂} {q₂} {k₂} l e kind k a = adds-same
+      (subst (λ x. Adds 1 maxStates (LeafBack triples earlier (getD last m 0) x (getD wanted i 0) i m)
+      (LeafBack triples earlier (getD last m 0) x (getD wanted i 0) i m) table q₁ k₁ t₂ q₂ k₂) k a) (λ y b. leaves e b) back
     where
       back : (y : ℕ) → PartBack triples earlier last tree next wanted table i j m y → LeafBack triples earlier (getD last m 0) (kindOf tree i) (getD wanted i 0) i m y
       back y (leaves f b) = b

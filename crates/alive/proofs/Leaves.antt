@@ -20,7 +20,8 @@ use Rattle.walk.specs.Parts.{leafBy}
 -- A leaf of this kind, which wants this number, joins n to m.
 pub data LeafJoins (L : Lists) (kind want n m : ℕ) : Type 0 where
   rests : kind ≡ 0 → n < L .nodes → n ≡ m → LeafJoins L kind want n m
-  goes : 1 ≤ kind → kind ≤ 2 → (k : ℕ) → k < L .edges → subjectAt (L .triples) k ≡ n → objectAt (L .triples) k ≡ m → takes kind want (predicateAt (L .triples) k) ≡ true → LeafJoins L kind want n m
+  goes : 1 ≤ kind → kind ≤ 2 → (k : ℕ) → k < L .edges → subjectAt (L .triples) k ≡ n → objectAt (L .triples) k ≡ m
+      → takes kind want (predicateAt (L .triples) k) ≡ true → LeafJoins L kind want n m
   is-at : 3 ≤ kind → kind ≤ 4 → n < L .nodes → want ≡ n → n ≡ m → LeafJoins L kind want n m
 
 -- ---- it is what its expression joins
@@ -63,14 +64,16 @@ module _ (L : Lists) (i : ℕ) where
         at : (e : Expr) → leafAt L i ≡ e → Joins (numbered L) e n m
         at e p = subst (λ x. Joins (numbered L) x n m) p j
 
-        go : Dec (kindOf (L .tree) i ≡ 0) → Dec (kindOf (L .tree) i ≡ 1) → Dec (kindOf (L .tree) i ≡ 2) → Dec (kindOf (L .tree) i ≡ 3) → LeafJoins L (kindOf (L .tree) i) (getD (L .wanted) i 0) n m
+        go : Dec (kindOf (L .tree) i ≡ 0) → Dec (kindOf (L .tree) i ≡ 1) → Dec (kindOf (L .tree) i ≡ 2) → Dec (kindOf (L .tree) i ≡ 3)
+            → LeafJoins L (kindOf (L .tree) i) (getD (L .wanted) i 0) n m
         go (yes e) b c d = let (h, p) = at stay (is-stay e) in rests e h p
         go (no x) (yes e) c d =
             let (p, t) = at anyStep (is-any e) in
             goes (omega arith) (omega arith) (t .at) (t .inside) (t .subject) (t .object) (takes-any (kindOf (L .tree) i) (getD (L .wanted) i 0) (predicateAt (L .triples) (t .at)) e)
         go (no x) (no y) (yes e) d =
             let (p, w, t) = at (step (i ∷ [])) (is-step e) in
-            goes (omega arith) (omega arith) (t .at) (t .inside) (t .subject) (t .object) (takes-named (kindOf (L .tree) i) (getD (L .wanted) i 0) (predicateAt (L .triples) (t .at)) e (t .predicate ∙ w))
+            goes (omega arith) (omega arith) (t .at) (t .inside) (t .subject) (t .object)
+            (takes-named (kindOf (L .tree) i) (getD (L .wanted) i 0) (predicateAt (L .triples) (t .at)) e (t .predicate ∙ w))
         go (no x) (no y) (no z) (yes e) = let (h, w, p) = at (atIri (i ∷ [])) (is-iri e) in is-at (omega arith) (omega arith) h (sym w) p
         go (no x) (no y) (no z) (no u) = let (h, w, p) = at (atLiteral (i ∷ [])) (is-literal (omega arith)) in is-at (omega arith) (omega arith) h (sym w) p
 
@@ -86,7 +89,8 @@ module _ (L : Lists) (i : ℕ) where
         go (yes e) = subst (λ x. Joins (numbered L) x n m) (sym (is-any e)) (predicateAt (L .triples) k, triple)
         go (no e) =
             let e′ : kindOf (L .tree) i ≡ 2 = omega arith in
-            subst (λ x. Joins (numbered L) x n m) (sym (is-step e′)) (predicateAt (L .triples) k, named-takes (kindOf (L .tree) i) (getD (L .wanted) i 0) (predicateAt (L .triples) k) e′ t, triple)
+            subst (λ x. Joins (numbered L) x n m) (sym (is-step e′))
+            (predicateAt (L .triples) k, named-takes (kindOf (L .tree) i) (getD (L .wanted) i 0) (predicateAt (L .triples) k) e′ t, triple)
     says-leaf (is-at l h b w p) = go (ℕ-discrete (kindOf (L .tree) i) 3)
       where
         go : Dec (kindOf (L .tree) i ≡ 3) → Joins (numbered L) (leafAt L i) n m

@@ -105,12 +105,14 @@ module _ {L : Lists} {links heads rest : List ℕ} (f : ListsFit L) (d : LinksLi
     from-body : 5 ≤ kindOf (L .tree) i → j ≡ i - 1 → (e : ℕ) × Met rest (getD heads j 0) e × (e / 3 ≡ i)
     from-body k q =
         let p : (i * 3 + 1) / 3 ≡ i = omega arith in
-        found i j (i * 3 + 1) h (omega arith) p (subst (λ x. 5 ≤ kindOf (L .tree) x → objectAt links (i * 3 + 1) ≡ x - 1) p (d .objects (i * 3 + 1) (omega arith) .body (omega arith)) k ∙ sym q)
+        found i j (i * 3 + 1) h (omega arith) p (subst (λ x. 5 ≤ kindOf (L .tree) x → objectAt links (i * 3 + 1) ≡ x - 1) p
+        (d .objects (i * 3 + 1) (omega arith) .body (omega arith)) k ∙ sym q)
 
     from-first : 7 ≤ kindOf (L .tree) i → j ≡ firstNumber (L .tree) i → (e : ℕ) × Met rest (getD heads j 0) e × (e / 3 ≡ i)
     from-first k q =
         let p : (i * 3 + 2) / 3 ≡ i = omega arith in
-        found i j (i * 3 + 2) h (omega arith) p (subst (λ x. 7 ≤ kindOf (L .tree) x → objectAt links (i * 3 + 2) ≡ firstNumber (L .tree) x) p (d .objects (i * 3 + 2) (omega arith) .first (omega arith)) k ∙ sym q)
+        found i j (i * 3 + 2) h (omega arith) p (subst (λ x. 7 ≤ kindOf (L .tree) x → objectAt links (i * 3 + 2) ≡ firstNumber (L .tree) x) p
+        (d .objects (i * 3 + 2) (omega arith) .first (omega arith)) k ∙ sym q)
 
     abbrev Way : Part → Type 0
     Way p = Touches (getD (L .next) i 0) p j → (e : ℕ) × Met rest (getD heads j 0) e × (e / 3 ≡ i)

@@ -52,7 +52,8 @@ module _ {L : Lists} (f : ListsFit L) where
       subst (λ x. AliveIn L x m) (state-part j m (state j m) (omega arith) refl)
       (subst (λ x. AliveIn L (partAt (state j m)) x) (state-node j m (state j m) (omega arith) refl) (s .alive))
 
-  led-alive : (i m : ℕ) → i < L .parts → m < L .nodes → (B : ℕ → Type 0) → ((j : ℕ) → j ≤ L .parts → B j → AliveIn L j m) → Led B (getD (L .next) i 0) (partOf (L .tree) i) → AliveIn L i m
+  led-alive : (i m : ℕ) → i < L .parts → m < L .nodes → (B : ℕ → Type 0) → ((j : ℕ) → j ≤ L .parts → B j → AliveIn L j m)
+      → Led B (getD (L .next) i 0) (partOf (L .tree) i) → AliveIn L i m
   led-alive i m l h B up x = go (partOf (L .tree) i) refl x
     where
       own : (p : Part) → partOf (L .tree) i ≡ p → (c : ℕ) → Child p c → c ≤ L .parts
@@ -116,7 +117,8 @@ module _ {L : Lists} (f : ListsFit L) where
           other : kindOf (L .tree) i ≤ 8 → ⊥
           other k = not-leaf (L .tree) i (omega arith) k e
 
-  pub back-part : {last earlier table table′ : List ℕ} → ByObject (L .triples) (L .edges) last earlier → ((x : ℕ) → Marked 1 table x → Marked 1 table′ x) → (s i y : ℕ) → nodeAt s < maxNodes → i < L .parts
+  pub back-part : {last earlier table table′ : List ℕ} → ByObject (L .triples) (L .edges) last earlier
+      → ((x : ℕ) → Marked 1 table x → Marked 1 table′ x) → (s i y : ℕ) → nodeAt s < maxNodes → i < L .parts
       → BackAt L table s i y → PartBack (L .triples) earlier last (L .tree) (L .next) (L .wanted) table′ i (partAt s) (nodeAt s) y
   back-part {last} {earlier} {table} {table′} b up s i y d l (leads n e p j q) = leaves p (joins-back {L = L} b d (leaf-says L i n (nodeAt s) (leaf-kind i l e) j) q)
   back-part {last} {earlier} {table} {table′} b up s i y d l (BackAt.turns x w q) =

@@ -103,7 +103,8 @@ Touches after (either left right) j = (j ≡ left) ⊎ (j ≡ right)
 -- it has parts, s is of one of these or of what comes after, and they make it alive at the node of s.
 pub data BackAt (L : Lists) (table : List ℕ) (s i y : ℕ) : Type 0 where
   leads : (n : ℕ) → partOf (L .tree) i ≡ leaf → getD (L .next) i 0 ≡ partAt s → Joins (numbered L) (leafAt L i) n (nodeAt s) → y ≡ state i n → BackAt L table s i y
-  turns : Led (AliveAt table (nodeAt s)) (getD (L .next) i 0) (partOf (L .tree) i) → Touches (getD (L .next) i 0) (partOf (L .tree) i) (partAt s) → y ≡ state i (nodeAt s) → BackAt L table s i y
+  turns : Led (AliveAt table (nodeAt s)) (getD (L .next) i 0) (partOf (L .tree) i) → Touches (getD (L .next) i 0) (partOf (L .tree) i) (partAt s)
+      → y ≡ state i (nodeAt s) → BackAt L table s i y
 
 pub record BackTo (L : Lists) (table : List ℕ) (s y : ℕ) : Type 0 where
   pub part : ℕ

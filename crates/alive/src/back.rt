@@ -54,7 +54,8 @@ fn mark_subjects(
     tail: usize,
 ) -> usize
     requires { ⌜ Chain (now triples) (now earlier) x × ((i < maxParts) × Table 1 maxStates (now alive) (now queue) tail) ⌝ }
-    ensures { λ r. ⌜ AddsOnly 1 maxStates (SubjectOn (now (triples .entry)) (now (earlier .entry)) x kind want i) (now (alive .entry)) (now (queue .entry)) tail (now (alive .exit)) (now (queue .exit)) r ⌝ }
+    ensures { λ r. ⌜ AddsOnly 1 maxStates (SubjectOn (now (triples .entry)) (now (earlier .entry)) x kind want i) (now (alive .entry))
+        (now (queue .entry)) tail (now (alive .exit)) (now (queue .exit)) r ⌝ }
 {
     let mut end = tail;
     let mut at = x;
@@ -79,7 +80,8 @@ fn mark_leaf(
     tail: usize,
 ) -> usize
     requires { ⌜ Chain (now triples) (now earlier) x × (((i < maxParts) × (m < maxNodes)) × Table 1 maxStates (now alive) (now queue) tail) ⌝ }
-    ensures { λ r. ⌜ AddsOnly 1 maxStates (LeafBack (now (triples .entry)) (now (earlier .entry)) x kind want i m) (now (alive .entry)) (now (queue .entry)) tail (now (alive .exit)) (now (queue .exit)) r ⌝ }
+    ensures { λ r. ⌜ AddsOnly 1 maxStates (LeafBack (now (triples .entry)) (now (earlier .entry)) x kind want i m) (now (alive .entry))
+        (now (queue .entry)) tail (now (alive .exit)) (now (queue .exit)) r ⌝ }
 {
     if kind == kinds::STAY {
         return mark(i, m, alive, queue, tail);
@@ -144,8 +146,11 @@ pub fn mark_part(
     queue: &mut [u32],
     tail: usize,
 ) -> usize
-    requires { ⌜ (Chain (now triples) (now earlier) (getD (now last) m 0) × (maxNodes ≤ length (now last))) × ((PartReady (now tree) (now next) i × (i < length (now wanted))) × ((m < maxNodes) × Table 1 maxStates (now alive) (now queue) tail)) ⌝ }
-    ensures { λ r. ⌜ AddsOnly 1 maxStates (PartBack (now (triples .entry)) (now (earlier .entry)) (now (last .entry)) (now (tree .entry)) (now (next .entry)) (now (wanted .entry)) (now (alive .entry)) i j m) (now (alive .entry)) (now (queue .entry)) tail (now (alive .exit)) (now (queue .exit)) r ⌝ }
+    requires { ⌜ (Chain (now triples) (now earlier) (getD (now last) m 0) × (maxNodes ≤ length (now last)))
+        × ((PartReady (now tree) (now next) i × (i < length (now wanted))) × ((m < maxNodes) × Table 1 maxStates (now alive) (now queue) tail)) ⌝ }
+    ensures { λ r. ⌜ AddsOnly 1 maxStates (PartBack (now (triples .entry)) (now (earlier .entry)) (now (last .entry)) (now (tree .entry))
+        (now (next .entry)) (now (wanted .entry)) (now (alive .entry)) i j m) (now (alive .entry)) (now (queue .entry)) tail (now (alive .exit))
+        (now (queue .exit)) r ⌝ }
 {
     if turns_alive(tree, next, i, m, &alive[..]) {
         return mark(i, m, alive, queue, tail);

@@ -62,8 +62,14 @@ fn mark_back(
     queue: &mut [u32],
     tail: usize,
 ) -> usize
-    requires { ⌜ (ListsFit (lists sizes (now triples) (now tree) (now next) (now wanted)) × (ByObject (now triples) (sizes .edges) (now last) (now earlier) × Caused (lists sizes (now triples) (now tree) (now next) (now wanted)) (now heads) (now rest))) × ((AllAlive (lists sizes (now triples) (now tree) (now next) (now wanted)) (now alive) × ((s < maxStates) × (Marked 1 (now alive) s))) × Table 1 maxStates (now alive) (now queue) tail) ⌝ }
-    ensures { λ r. ⌜ Adds 1 maxStates (StateAlive (lists sizes (now (triples .entry)) (now (tree .entry)) (now (next .entry)) (now (wanted .entry)))) (BackTo (lists sizes (now (triples .entry)) (now (tree .entry)) (now (next .entry)) (now (wanted .entry))) (now (alive .entry)) s) (now (alive .entry)) (now (queue .entry)) tail (now (alive .exit)) (now (queue .exit)) r ⌝ }
+    requires { ⌜ (ListsFit (lists sizes (now triples) (now tree) (now next) (now wanted))
+        × (ByObject (now triples) (sizes .edges) (now last) (now earlier)
+        × Caused (lists sizes (now triples) (now tree) (now next) (now wanted)) (now heads) (now rest)))
+        × ((AllAlive (lists sizes (now triples) (now tree) (now next) (now wanted)) (now alive) × ((s < maxStates) × (Marked 1 (now alive) s)))
+        × Table 1 maxStates (now alive) (now queue) tail) ⌝ }
+    ensures { λ r. ⌜ Adds 1 maxStates (StateAlive (lists sizes (now (triples .entry)) (now (tree .entry)) (now (next .entry)) (now (wanted .entry))))
+        (BackTo (lists sizes (now (triples .entry)) (now (tree .entry)) (now (next .entry)) (now (wanted .entry))) (now (alive .entry)) s)
+        (now (alive .entry)) (now (queue .entry)) tail (now (alive .exit)) (now (queue .exit)) r ⌝ }
 {
     let j = part_at(s);
     let m = node_at(s);
@@ -104,7 +110,9 @@ fn mark_all(
     alive: &mut [u8],
     queue: &mut [u32],
 )
-    requires { ⌜ (ListsFit (lists sizes (now triples) (now tree) (now next) (now wanted)) × (ByObject (now triples) (sizes .edges) (now last) (now earlier) × Caused (lists sizes (now triples) (now tree) (now next) (now wanted)) (now heads) (now rest))) × Unmarked 1 maxStates (now alive) (now queue) ⌝ }
+    requires { ⌜ (ListsFit (lists sizes (now triples) (now tree) (now next) (now wanted))
+        × (ByObject (now triples) (sizes .edges) (now last) (now earlier)
+        × Caused (lists sizes (now triples) (now tree) (now next) (now wanted)) (now heads) (now rest))) × Unmarked 1 maxStates (now alive) (now queue) ⌝ }
     ensures { λ _. ⌜ Living (lists sizes (now (triples .entry)) (now (tree .entry)) (now (next .entry)) (now (wanted .entry))) (now (alive .exit)) ⌝ }
 {
     let mut tail = mark_ends(sizes.nodes, sizes.parts, alive, queue);
@@ -142,7 +150,8 @@ pub fn mark_alive(
     alive: &mut [u8],
     queue: &mut [u32],
 )
-    requires { ⌜ (ListsFit (lists sizes (now triples) (now tree) (now next) (now wanted)) × ByObject (now triples) (sizes .edges) (now last) (now earlier)) × Unmarked 1 maxStates (now alive) (now queue) ⌝ }
+    requires { ⌜ (ListsFit (lists sizes (now triples) (now tree) (now next) (now wanted))
+        × ByObject (now triples) (sizes .edges) (now last) (now earlier)) × Unmarked 1 maxStates (now alive) (now queue) ⌝ }
     ensures { λ _. ⌜ Living (lists sizes (now (triples .entry)) (now (tree .entry)) (now (next .entry)) (now (wanted .entry))) (now (alive .exit)) ⌝ }
 {
     let mut links = [0u16; MAX_LINKS * 3];

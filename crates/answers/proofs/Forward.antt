@@ -42,16 +42,22 @@ module _ {stamp : ℕ} where
   -- ---- one triple, and a range of them
 
   module _ {triples : List ℕ} {kind want to : ℕ} {t₁ q₁ : List ℕ} {k₁ : ℕ} where
-    pub object-none : {k : ℕ} (b : Bool) → not b ≡ true → b ≡ takes kind want (predicateAt triples k) → Table stamp maxStates t₁ q₁ k₁ → Adds stamp maxStates (ObjectAt triples k kind want to) (ObjectAt triples k kind want to) t₁ q₁ k₁ t₁ q₁ k₁
+    pub object-none : {k : ℕ} (b : Bool) → not b ≡ true → b ≡ takes kind want (predicateAt triples k) → Table stamp maxStates t₁ q₁ k₁
+        → Adds stamp maxStates (ObjectAt triples k kind want to) (ObjectAt triples k kind want to) t₁ q₁ k₁ t₁ q₁ k₁
     object-none b n e t = adds-none t (λ y s. true-false (e ∙ s .taken) (not-true b n))
 
-    pub object-one : {k : ℕ} {t₂ q₂ : List ℕ} {k₂ : ℕ} → takes kind want (predicateAt triples k) ≡ true → Adds stamp maxStates (λ y. y ≡ state to (objectAt triples k)) (λ y. y ≡ state to (objectAt triples k)) t₁ q₁ k₁ t₂ q₂ k₂ → Adds stamp maxStates (ObjectAt triples k kind want to) (ObjectAt triples k kind want to) t₁ q₁ k₁ t₂ q₂ k₂
+    pub object-one : {k : ℕ} {t₂ q₂ : List ℕ} {k₂ : ℕ} → takes kind want (predicateAt triples k) ≡ true
+        → Adds stamp maxStates (λ y. y ≡ state to (objectAt triples k)) (λ y. y ≡ state to (objectAt triples k)) t₁ q₁ k₁ t₂ q₂ k₂
+        → Adds stamp maxStates (ObjectAt triples k kind want to) (ObjectAt triples k kind want to) t₁ q₁ k₁ t₂ q₂ k₂
     object-one e a = adds-same a (λ y p. record { taken = e; state = p }) (λ y s. s .state)
 
-    pub objects-start : (lo : ℕ) → Table stamp maxStates t₁ q₁ k₁ → Adds stamp maxStates (ObjectIn triples lo lo kind want to) (ObjectIn triples lo lo kind want to) t₁ q₁ k₁ t₁ q₁ k₁
+    pub objects-start : (lo : ℕ) → Table stamp maxStates t₁ q₁ k₁
+        → Adds stamp maxStates (ObjectIn triples lo lo kind want to) (ObjectIn triples lo lo kind want to) t₁ q₁ k₁ t₁ q₁ k₁
     objects-start lo t = adds-none t (λ y s. let a = s .above in let b = s .below in omega arith)
 
-    pub objects-again : {lo k : ℕ} {t₂ q₂ : List ℕ} {k₂ : ℕ} {t₃ q₃ : List ℕ} {k₃ : ℕ} → lo ≤ k → Adds stamp maxStates (ObjectIn triples lo k kind want to) (ObjectIn triples lo k kind want to) t₁ q₁ k₁ t₂ q₂ k₂ → Adds stamp maxStates (ObjectAt triples k kind want to) (ObjectAt triples k kind want to) t₂ q₂ k₂ t₃ q₃ k₃
+    pub objects-again : {lo k : ℕ} {t₂ q₂ : List ℕ} {k₂ : ℕ} {t₃ q₃ : List ℕ} {k₃ : ℕ} → lo ≤ k
+        → Adds stamp maxStates (ObjectIn triples lo k kind want to) (ObjectIn triples lo k kind want to) t₁ q₁ k₁ t₂ q₂ k₂
+        → Adds stamp maxStates (ObjectAt triples k kind want to) (ObjectAt triples k kind want to) t₂ q₂ k₂ t₃ q₃ k₃
         → Adds stamp maxStates (ObjectIn triples lo (k + 1) kind want to) (ObjectIn triples lo (k + 1) kind want to) t₁ q₁ k₁ t₃ q₃ k₃
     objects-again {lo} {k} l a b = adds-both a b
         (λ y s. let h = s .below in record { at = s .at; above = s .above; below = omega arith; taken = s .taken; state = s .state })
@@ -65,13 +71,16 @@ module _ {stamp : ℕ} where
             let p : s .at ≡ k = omega arith in
             inr (subst (λ x. ObjectAt triples x kind want to y) p (record { taken = s .taken; state = s .state }))
 
-    pub objects-done : {lo k hi : ℕ} {t₂ q₂ : List ℕ} {k₂ : ℕ} → k ≡ hi → Adds stamp maxStates (ObjectIn triples lo k kind want to) (ObjectIn triples lo k kind want to) t₁ q₁ k₁ t₂ q₂ k₂ → Adds stamp maxStates (ObjectIn triples lo hi kind want to) (ObjectIn triples lo hi kind want to) t₁ q₁ k₁ t₂ q₂ k₂
+    pub objects-done : {lo k hi : ℕ} {t₂ q₂ : List ℕ} {k₂ : ℕ} → k ≡ hi
+        → Adds stamp maxStates (ObjectIn triples lo k kind want to) (ObjectIn triples lo k kind want to) t₁ q₁ k₁ t₂ q₂ k₂
+        → Adds stamp maxStates (ObjectIn triples lo hi kind want to) (ObjectIn triples lo hi kind want to) t₁ q₁ k₁ t₂ q₂ k₂
     objects-done {lo} {k} {hi} {t₂} {q₂} {k₂} e a = subst (λ x. Adds stamp maxStates (ObjectIn triples lo x kind want to) (ObjectIn triples lo x kind want to) t₁ q₁ k₁ t₂ q₂ k₂) e a
 
   -- ---- a leaf
 
   module _ {triples : List ℕ} {lo hi kind want to n : ℕ} {t₁ q₁ : List ℕ} {k₁ : ℕ} where
-    pub onward-none : (kind ≡ 0 → ⊥) → 3 ≤ kind → (want ≡ n → ⊥) → Table stamp maxStates t₁ q₁ k₁ → Adds stamp maxStates (LeafOnward triples lo hi kind want to n) (LeafOnward triples lo hi kind want to n) t₁ q₁ k₁ t₁ q₁ k₁
+    pub onward-none : (kind ≡ 0 → ⊥) → 3 ≤ kind → (want ≡ n → ⊥) → Table stamp maxStates t₁ q₁ k₁
+        → Adds stamp maxStates (LeafOnward triples lo hi kind want to n) (LeafOnward triples lo hi kind want to n) t₁ q₁ k₁ t₁ q₁ k₁
     onward-none z l w t = adds-none t none
       where
         none : (y : ℕ) → LeafOnward triples lo hi kind want to n y → ⊥
@@ -80,7 +89,8 @@ module _ {stamp : ℕ} where
         none y (labels g h e s) = w e
 
     module _ {t₂ q₂ : List ℕ} {k₂ : ℕ} where
-      pub onward-stay : kind ≡ 0 → Adds stamp maxStates (λ y. y ≡ state to n) (λ y. y ≡ state to n) t₁ q₁ k₁ t₂ q₂ k₂ → Adds stamp maxStates (LeafOnward triples lo hi kind want to n) (LeafOnward triples lo hi kind want to n) t₁ q₁ k₁ t₂ q₂ k₂
+      pub onward-stay : kind ≡ 0 → Adds stamp maxStates (λ y. y ≡ state to n) (λ y. y ≡ state to n) t₁ q₁ k₁ t₂ q₂ k₂
+          → Adds stamp maxStates (LeafOnward triples lo hi kind want to n) (LeafOnward triples lo hi kind want to n) t₁ q₁ k₁ t₂ q₂ k₂
       onward-stay e a = adds-same a (λ y p. stays e p) back
         where
           back : (y : ℕ) → LeafOnward triples lo hi kind want to n y → y ≡ state to n
@@ -88,7 +98,8 @@ module _ {stamp : ℕ} where
           back y (steps g h s) = absurd (omega arith)
           back y (labels g h f p) = p
 
-      pub onward-step : (kind ≡ 0 → ⊥) → kind < 3 → Adds stamp maxStates (ObjectIn triples lo hi kind want to) (ObjectIn triples lo hi kind want to) t₁ q₁ k₁ t₂ q₂ k₂ → Adds stamp maxStates (LeafOnward triples lo hi kind want to n) (LeafOnward triples lo hi kind want to n) t₁ q₁ k₁ t₂ q₂ k₂
+      pub onward-step : (kind ≡ 0 → ⊥) → kind < 3 → Adds stamp maxStates (ObjectIn triples lo hi kind want to) (ObjectIn triples lo hi kind want to)
+          t₁ q₁ k₁ t₂ q₂ k₂ → Adds stamp maxStates (LeafOnward triples lo hi kind want to n) (LeafOnward triples lo hi kind want to n) t₁ q₁ k₁ t₂ q₂ k₂
       onward-step z l a = adds-same a (λ y s. steps (omega arith) (omega arith) s) back
         where
           back : (y : ℕ) → LeafOnward triples lo hi kind want to n y → ObjectIn triples lo hi kind want to y
@@ -96,7 +107,8 @@ module _ {stamp : ℕ} where
           back y (steps g h s) = s
           back y (labels g h f p) = absurd (omega arith)
 
-      pub onward-label : 3 ≤ kind → kind < 5 → want ≡ n → Adds stamp maxStates (λ y. y ≡ state to n) (λ y. y ≡ state to n) t₁ q₁ k₁ t₂ q₂ k₂ → Adds stamp maxStates (LeafOnward triples lo hi kind want to n) (LeafOnward triples lo hi kind want to n) t₁ q₁ k₁ t₂ q₂ k₂
+      pub onward-label : 3 ≤ kind → kind < 5 → want ≡ n → Adds stamp maxStates (λ y. y ≡ state to n) (λ y. y ≡ state to n) t₁ q₁ k₁ t₂ q₂ k₂
+          → Adds stamp maxStates (LeafOnward triples lo hi kind want to n) (LeafOnward triples lo hi kind want to n) t₁ q₁ k₁ t₂ q₂ k₂
       onward-label l h e a = adds-same a (λ y p. labels l (omega arith) e p) back
         where
           back : (y : ℕ) → LeafOnward triples lo hi kind want to n y → y ≡ state to n
@@ -107,25 +119,35 @@ module _ {stamp : ℕ} where
   -- ---- a part that has parts
 
   module _ (tree table : List ℕ) (i after n : ℕ) {t₁ q₁ : List ℕ} {k₁ : ℕ} where
-    pub test-none : kindOf tree i ≡ 5 → (AliveAt table n (i - 1) → ⊥) → Table stamp maxStates t₁ q₁ k₁ → Adds stamp maxStates (PartsOnward table after n (partOf tree i)) (PartsOnward table after n (partOf tree i)) t₁ q₁ k₁ t₁ q₁ k₁
+    pub test-none : kindOf tree i ≡ 5 → (AliveAt table n (i - 1) → ⊥) → Table stamp maxStates t₁ q₁ k₁
+        → Adds stamp maxStates (PartsOnward table after n (partOf tree i)) (PartsOnward table after n (partOf tree i)) t₁ q₁ k₁ t₁ q₁ k₁
     test-none k a t = adds-none t (λ y x. a (to-part tree table i after n (test (i - 1)) (kind-test tree i k) y x .0))
 
     module _ {t₂ q₂ : List ℕ} {k₂ : ℕ} where
-      pub test-one : kindOf tree i ≡ 5 → AliveAt table n (i - 1) → Adds stamp maxStates (λ y. y ≡ state after n) (λ y. y ≡ state after n) t₁ q₁ k₁ t₂ q₂ k₂ → Adds stamp maxStates (PartsOnward table after n (partOf tree i)) (PartsOnward table after n (partOf tree i)) t₁ q₁ k₁ t₂ q₂ k₂
-      test-one k a d = adds-same d (λ y e. from-part tree table i after n (test (i - 1)) (kind-test tree i k) y (a, e)) (λ y x. to-part tree table i after n (test (i - 1)) (kind-test tree i k) y x .1)
+      pub test-one : kindOf tree i ≡ 5 → AliveAt table n (i - 1)
+          → Adds stamp maxStates (λ y. y ≡ state after n) (λ y. y ≡ state after n) t₁ q₁ k₁ t₂ q₂ k₂
+          → Adds stamp maxStates (PartsOnward table after n (partOf tree i)) (PartsOnward table after n (partOf tree i)) t₁ q₁ k₁ t₂ q₂ k₂
+      test-one k a d =
+          adds-same d (λ y e. from-part tree table i after n (test (i - 1)) (kind-test tree i k) y (a, e))
+          (λ y x. to-part tree table i after n (test (i - 1)) (kind-test tree i k) y x .1)
 
-      pub sequence-one : kindOf tree i ≡ 7 → Adds stamp maxStates (λ y. y ≡ state (firstNumber tree i) n) (λ y. y ≡ state (firstNumber tree i) n) t₁ q₁ k₁ t₂ q₂ k₂ → Adds stamp maxStates (PartsOnward table after n (partOf tree i)) (PartsOnward table after n (partOf tree i)) t₁ q₁ k₁ t₂ q₂ k₂
-      sequence-one k d = adds-same d (λ y e. from-part tree table i after n (chain (firstNumber tree i) (i - 1)) (kind-chain tree i k) y e) (λ y x. to-part tree table i after n (chain (firstNumber tree i) (i - 1)) (kind-chain tree i k) y x)
+      pub sequence-one : kindOf tree i ≡ 7 → Adds stamp maxStates (λ y. y ≡ state (firstNumber tree i) n) (λ y. y ≡ state (firstNumber tree i) n) t₁
+          q₁ k₁ t₂ q₂ k₂ → Adds stamp maxStates (PartsOnward table after n (partOf tree i)) (PartsOnward table after n (partOf tree i)) t₁ q₁ k₁ t₂ q₂ k₂
+      sequence-one k d =
+          adds-same d (λ y e. from-part tree table i after n (chain (firstNumber tree i) (i - 1)) (kind-chain tree i k) y e)
+          (λ y x. to-part tree table i after n (chain (firstNumber tree i) (i - 1)) (kind-chain tree i k) y x)
 
       module _ {t₃ q₃ : List ℕ} {k₃ : ℕ} where
-        pub star-two : kindOf tree i ≡ 6 → Adds stamp maxStates (λ y. y ≡ state after n) (λ y. y ≡ state after n) t₁ q₁ k₁ t₂ q₂ k₂ → Adds stamp maxStates (λ y. y ≡ state (i - 1) n) (λ y. y ≡ state (i - 1) n) t₂ q₂ k₂ t₃ q₃ k₃
+        pub star-two : kindOf tree i ≡ 6 → Adds stamp maxStates (λ y. y ≡ state after n) (λ y. y ≡ state after n) t₁ q₁ k₁ t₂ q₂ k₂
+            → Adds stamp maxStates (λ y. y ≡ state (i - 1) n) (λ y. y ≡ state (i - 1) n) t₂ q₂ k₂ t₃ q₃ k₃
             → Adds stamp maxStates (PartsOnward table after n (partOf tree i)) (PartsOnward table after n (partOf tree i)) t₁ q₁ k₁ t₃ q₃ k₃
         star-two k a b = adds-both a b
             (λ y e. from-part tree table i after n (repeat (i - 1)) (kind-repeat tree i k) y (inl e))
             (λ y e. from-part tree table i after n (repeat (i - 1)) (kind-repeat tree i k) y (inr e))
             (λ y x. to-part tree table i after n (repeat (i - 1)) (kind-repeat tree i k) y x)
 
-        pub union-two : kindOf tree i ≡ 8 → Adds stamp maxStates (λ y. y ≡ state (firstNumber tree i) n) (λ y. y ≡ state (firstNumber tree i) n) t₁ q₁ k₁ t₂ q₂ k₂ → Adds stamp maxStates (λ y. y ≡ state (i - 1) n) (λ y. y ≡ state (i - 1) n) t₂ q₂ k₂ t₃ q₃ k₃
+        pub union-two : kindOf tree i ≡ 8 → Adds stamp maxStates (λ y. y ≡ state (firstNumber tree i) n) (λ y. y ≡ state (firstNumber tree i) n) t₁ q₁
+            k₁ t₂ q₂ k₂ → Adds stamp maxStates (λ y. y ≡ state (i - 1) n) (λ y. y ≡ state (i - 1) n) t₂ q₂ k₂ t₃ q₃ k₃
             → Adds stamp maxStates (PartsOnward table after n (partOf tree i)) (PartsOnward table after n (partOf tree i)) t₁ q₁ k₁ t₃ q₃ k₃
         union-two k a b = adds-both a b
             (λ y e. from-part tree table i after n (either (firstNumber tree i) (i - 1)) (kind-either tree i k) y (inl e))
@@ -182,8 +204,16 @@ module _ {L : Lists} (f : ListsFit L) where
     own′ : (p : Part) → partOf (L .tree) i′ ≡ p → (c : ℕ) → Child p c → c ≤ L .parts
     own′ p e c y = let z = f .query .before i′ c l (subst (λ q. Child q c) (sym e) y) in omega arith
 
-    by-step : (p : Part) → partOf (L .tree) i′ ≡ p → (j m y : ℕ) → y ≡ state j m → StepBy (numbered L) (partOf (L .tree)) (leafAt L) (listed (L .next)) (L .parts) (AliveIn L) p i′ n′ j m → StepFrom L s y
-    by-step p e j m y q x = record { part = j; node = m; step = step-at j m (l, subst (λ r. StepBy (numbered L) (partOf (L .tree)) (leafAt L) (listed (L .next)) (L .parts) (AliveIn L) r i′ n′ j m) (sym e) x); state = q }
+    by-step : (p : Part) → partOf (L .tree) i′ ≡ p → (j m y : ℕ) → y ≡ state j m
+        → StepBy (numbered L) (partOf (L .tree)) (leafAt L) (listed (L .next)) (L .parts) (AliveIn L) p i′ n′ j m → StepFrom L s y
+    by-step p e j m y q x =
+        record {
+          part = j;
+          node = m;
+          step = step-at j m
+              (l, subst (λ r. StepBy (numbered L) (partOf (L .tree)) (leafAt L) (listed (L .next)) (L .parts) (AliveIn L) r i′ n′ j m) (sym e) x);
+          state = q;
+        }
 
     pub parts-step : (y : ℕ) → PartsOnward table (getD (L .next) i′ 0) n′ (partOf (L .tree) i′) y → StepFrom L s y
     parts-step y x = go (partOf (L .tree) i′) refl x
@@ -206,7 +236,8 @@ module _ {L : Lists} (f : ListsFit L) where
         into : (p : Part) → partOf (L .tree) i′ ≡ p → PartsOnward table (getD (L .next) i′ 0) n′ p y → PartsOnward table (getD (L .next) i′ 0) n′ (partOf (L .tree) i′) y
         into p e x = subst (λ q. PartsOnward table (getD (L .next) i′ 0) n′ q y) (sym e) x
 
-        go : (p : Part) → partOf (L .tree) i′ ≡ p → StepBy (numbered L) (partOf (L .tree)) (leafAt L) (listed (L .next)) (L .parts) (AliveIn L) p i′ n′ (r .part) (r .node) → PartsOnward table (getD (L .next) i′ 0) n′ (partOf (L .tree) i′) y
+        go : (p : Part) → partOf (L .tree) i′ ≡ p → StepBy (numbered L) (partOf (L .tree)) (leafAt L) (listed (L .next)) (L .parts) (AliveIn L) p i′
+            n′ (r .part) (r .node) → PartsOnward table (getD (L .next) i′ 0) n′ (partOf (L .tree) i′) y
         go leaf e x = absurd (not-leaf (L .tree) i′ k (f .query .kinds i′ l) e)
         go (test c) e (q, p, x) = into (test c) e (v .alive c n′ (own′ (test c) e c refl) h .1 x, same (getD (L .next) i′ 0) q p)
         go (repeat c) e (p, inl (q, x)) = into (repeat c) e (inl (same (getD (L .next) i′ 0) q p))
@@ -231,13 +262,19 @@ module _ {L : Lists} (f : ListsFit L) where
         nodes = λ k x y. let a = f .graph .objects k (range .exactly k .0 (x, y) .0) in let c = f .graph .few-nodes in omega arith;
       }
 
-      pub leaf-step-from : {kind : ℕ} → kind ≡ kindOf (L .tree) i′ → kindOf (L .tree) i′ < 5 → (y : ℕ) → LeafOnward (L .triples) lo hi kind (getD (L .wanted) i′ 0) (getD (L .next) i′ 0) n′ y → StepFrom L s y
+      pub leaf-step-from : {kind : ℕ} → kind ≡ kindOf (L .tree) i′ → kindOf (L .tree) i′ < 5 → (y : ℕ)
+          → LeafOnward (L .triples) lo hi kind (getD (L .wanted) i′ 0) (getD (L .next) i′ 0) n′ y → StepFrom L s y
       leaf-step-from is k y x =
           let (m, e, j) = onward-joins {L = L} range h (subst (λ z. LeafOnward (L .triples) lo hi z (getD (L .wanted) i′ 0) (getD (L .next) i′ 0) n′ y) is x) in
           by-step leaf (is-leaf (L .tree) i′ (λ z. ⊥) 0 k) (getD (L .next) i′ 0) m y e (refl, says-leaf L i′ n′ m j)
 
-      pub step-from-leaf : {kind : ℕ} → kind ≡ kindOf (L .tree) i′ → kindOf (L .tree) i′ < 5 → (y : ℕ) → StepFrom L s y → LeafOnward (L .triples) lo hi kind (getD (L .wanted) i′ 0) (getD (L .next) i′ 0) n′ y
-      step-from-leaf is k y r = subst (λ z. LeafOnward (L .triples) lo hi z (getD (L .wanted) i′ 0) (getD (L .next) i′ 0) n′ y) (sym is) (go (subst (λ p. StepBy (numbered L) (partOf (L .tree)) (leafAt L) (listed (L .next)) (L .parts) (AliveIn L) p i′ n′ (r .part) (r .node)) (is-leaf (L .tree) i′ (λ z. ⊥) 0 k) (at-step (r .part) (r .node) (r .step) .1)))
+      pub step-from-leaf : {kind : ℕ} → kind ≡ kindOf (L .tree) i′ → kindOf (L .tree) i′ < 5 → (y : ℕ) → StepFrom L s y
+          → LeafOnward (L .triples) lo hi kind (getD (L .wanted) i′ 0) (getD (L .next) i′ 0) n′ y
+      step-from-leaf is k y r =
+          subst (λ z. LeafOnward (L .triples) lo hi z (getD (L .wanted) i′ 0) (getD (L .next) i′ 0) n′ y) (sym is)
+          (go (subst (λ p. StepBy (numbered L) (partOf (L .tree)) (leafAt L) (listed (L .next)) (L .parts) (AliveIn L) p i′ n′ (r .part) (r .node))
+          (is-leaf (L .tree) i′ (λ z. ⊥) 0 k) (at-step (r .part) (r .node) (r .step) .1)))
         where
-          go : (r .part ≡ getD (L .next) i′ 0) × Joins (numbered L) (leafAt L i′) n′ (r .node) → LeafOnward (L .triples) lo hi (kindOf (L .tree) i′) (getD (L .wanted) i′ 0) (getD (L .next) i′ 0) n′ y
+          go : (r .part ≡ getD (L .next) i′ 0) × Joins (numbered L) (leafAt L i′) n′ (r .node)
+              → LeafOnward (L .triples) lo hi (kindOf (L .tree) i′) (getD (L .wanted) i′ 0) (getD (L .next) i′ 0) n′ y
           go (e, x) = joins-onward {L = L} range (leaf-says L i′ n′ (r .node) k x) (r .state ∙ ap (λ z. state z (r .node)) e)

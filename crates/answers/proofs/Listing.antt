@@ -66,7 +66,8 @@ module _ {seen : List ℕ} {part stamp start named : ℕ} {pairs₀ : List ℕ} 
           ∙ s .are;
     }
 
-    pub ends-add : e < named → k < maxPairs → k < length pairs → Marked stamp seen (state part e) → {key : ℕ} → key ≡ pairKey start e → Ends seen part stamp start named pairs₀ k₀ (set pairs k key) (k + 1) (e + 1)
+    pub ends-add : e < named → k < maxPairs → k < length pairs → Marked stamp seen (state part e) → {key : ℕ} → key ≡ pairKey start e
+        → Ends seen part stamp start named pairs₀ k₀ (set pairs k key) (k + 1) (e + 1)
     ends-add l g r h {key} is = subst (λ x. Ends seen part stamp start named pairs₀ k₀ (set pairs k x) (k + 1) (e + 1)) (sym is) (record {
       within = omega arith;
       few = omega arith;
@@ -115,7 +116,8 @@ module _ (seen : List ℕ) (part stamp start : ℕ) where
       none y = elim y [ ]
   in-ends (suc f) e x m = go (has stamp seen (state part e)) refl (in-ends f (suc e) x)
     where
-      hit : Marked stamp seen (state part e) → (x ∈ endsFrom seen part stamp start (suc e) f → EndIn (suc e) f x) → x ∈ ((pairKey start e) ∷ endsFrom seen part stamp start (suc e) f) → EndIn e (suc f) x
+      hit : Marked stamp seen (state part e) → (x ∈ endsFrom seen part stamp start (suc e) f → EndIn (suc e) f x)
+          → x ∈ ((pairKey start e) ∷ endsFrom seen part stamp start (suc e) f) → EndIn e (suc f) x
       hit h rec (here p) = record { end = e; from = omega arith; upto = omega arith; stamped = h; number = p }
       hit h rec (there n) = later (rec n)
 
@@ -130,7 +132,8 @@ module _ (seen : List ℕ) (part stamp start : ℕ) where
       rest : (r .end ≡ e → ⊥) → EndIn (suc e) f x
       rest n = let a = r .from in let b = r .upto in record { end = r .end; from = omega arith; upto = omega arith; stamped = r .stamped; number = r .number }
 
-      go : (b : Bool) → has stamp seen (state part e) ≡ b → Dec (r .end ≡ e) → ((r .end ≡ e → ⊥) → x ∈ endsFrom seen part stamp start (suc e) f) → x ∈ endsFrom seen part stamp start e (suc f)
+      go : (b : Bool) → has stamp seen (state part e) ≡ b → Dec (r .end ≡ e) → ((r .end ≡ e → ⊥) → x ∈ endsFrom seen part stamp start (suc e) f)
+          → x ∈ endsFrom seen part stamp start e (suc f)
       go true h (yes p) rec = subst (λ xs. x ∈ xs) (sym (ends-hit seen part stamp start e f h)) (here (r .number ∙ ap (λ y. pairKey start y) p))
       go true h (no p) rec = subst (λ xs. x ∈ xs) (sym (ends-hit seen part stamp start e f h)) (there (rec p))
       go false h (yes p) rec = absurd (true-false (ap (λ y. has stamp seen (state part y)) (sym p) ∙ r .stamped) h)
@@ -160,7 +163,8 @@ module _ {L : Lists} (f : ListsFit L) {named : ℕ} (fit : named ≤ L .nodes) w
   reached-alive (onward {j = j} {k = k} {m = m} {o = o} r s) a = reached-alive r (alive-saturated (numbered L) (partOf (L .tree)) (leafAt L) (listed (L .next)) (L .parts) .back j k m o s a)
 
   -- A start at which the root is not alive has no pair.
-  pub listed-dead : {pairs table : List ℕ} {v k : ℕ} → Living L table → v < named → (Marked 1 table (state (L .parts - 1) v) → ⊥) → ListedBelow L named (pairKey v 0) pairs k → ListedBelow L named (pairKey (v + 1) 0) pairs k
+  pub listed-dead : {pairs table : List ℕ} {v k : ℕ} → Living L table → v < named → (Marked 1 table (state (L .parts - 1) v) → ⊥)
+      → ListedBelow L named (pairKey v 0) pairs k → ListedBelow L named (pairKey (v + 1) 0) pairs k
   listed-dead {v = v} t l dead b = record { few = b .few; are = list-skip (PairIn L named) (omega arith) (b .are) none }
     where
       none : (x : ℕ) → PairIn L named x → pairKey v 0 ≤ x → x < pairKey (v + 1) 0 → ⊥
@@ -208,7 +212,8 @@ module _ {L : Lists} (f : ListsFit L) {named : ℕ} (fit : named ≤ L .nodes) w
     added b = list-append (PairIn L named) (omega arith) b (ends-ascend seen (L .parts) stamp v named 0) sound complete
 
     -- The pairs of one start more.
-    pub listed-from : {pairs : List ℕ} (pairs′ : List ℕ) {k : ℕ} (r : Pairs) → ListedBelow L named (pairKey v 0) pairs k → EndsAre r (endsFrom seen (L .parts) stamp v 0 named) pairs k pairs′ → ListedUpTo r L named (pairKey (v + 1) 0) pairs′
+    pub listed-from : {pairs : List ℕ} (pairs′ : List ℕ) {k : ℕ} (r : Pairs) → ListedBelow L named (pairKey v 0) pairs k
+        → EndsAre r (endsFrom seen (L .parts) stamp v 0 named) pairs k pairs′ → ListedUpTo r L named (pairKey (v + 1) 0) pairs′
     listed-from pairs′ (Listed n) b (h, e) = record { few = h; are = subst (ListOf _<_ (λ x. PairIn L named x × (x < pairKey (v + 1) 0))) (sym e) (added (b .are)) }
     listed-from pairs′ TooMany b h = list-over (PairIn L named) (added (b .are)) h
 

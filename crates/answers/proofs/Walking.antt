@@ -43,7 +43,8 @@ module _ {L : Lists} (f : ListsFit L) {v : ℕ} where
       }
 
 module _ {L : Lists} (f : ListsFit L) {v stamp : ℕ} where
-  pub walk-start : {t₁ q₁ t₂ q₂ : List ℕ} {k₂ : ℕ} → v < L .nodes → Adds stamp maxStates (λ y. y ≡ state (L .parts - 1) v) (λ y. y ≡ state (L .parts - 1) v) t₁ q₁ 0 t₂ q₂ k₂ → Walking L v stamp t₂ q₂ 0 k₂
+  pub walk-start : {t₁ q₁ t₂ q₂ : List ℕ} {k₂ : ℕ} → v < L .nodes
+      → Adds stamp maxStates (λ y. y ≡ state (L .parts - 1) v) (λ y. y ≡ state (L .parts - 1) v) t₁ q₁ 0 t₂ q₂ k₂ → Walking L v stamp t₂ q₂ 0 k₂
   walk-start {t₁} {q₁} {t₂} {q₂} {k₂} h a = record {
     within = omega arith;
     marks = a .after;
@@ -53,7 +54,8 @@ module _ {L : Lists} (f : ListsFit L) {v stamp : ℕ} where
   }
 
   module _ {t₂ q₂ : List ℕ} {head k₂ : ℕ} (g : Walking L v stamp t₂ q₂ head k₂) (l : head < k₂) where
-    pub walk-again : {t₃ q₃ : List ℕ} {k₃ : ℕ} → Adds stamp maxStates (StepFrom L (getD q₂ head 0)) (StepFrom L (getD q₂ head 0)) t₂ q₂ k₂ t₃ q₃ k₃ → Walking L v stamp t₃ q₃ (head + 1) k₃
+    pub walk-again : {t₃ q₃ : List ℕ} {k₃ : ℕ} → Adds stamp maxStates (StepFrom L (getD q₂ head 0)) (StepFrom L (getD q₂ head 0)) t₂ q₂ k₂ t₃ q₃ k₃
+        → Walking L v stamp t₃ q₃ (head + 1) k₃
     walk-again {t₃} {q₃} {k₃} a = record {
       within = let z = a .longer in omega arith;
       marks = a .after;
@@ -86,8 +88,17 @@ module _ {L : Lists} (f : ListsFit L) {v stamp : ℕ} where
         let (k, c, w) = g .marks .listed (state j m) (state-inside j m (omega arith) (omega arith)) e in
         let u = state-part j m (getD queue k 0) (omega arith) w in
         let x = state-node j m (getD queue k 0) (omega arith) w in
-        let (y, z) = step-in f b s in
-        (y, z, g .closed k (omega arith) (state i n) (record { part = i; node = n; step = subst (λ d. StepIn L d (nodeAt (getD queue k 0)) i n) (sym u) (subst (λ d. StepIn L j d i n) (sym x) s); state = refl }))
+        let (y, z) = step-in f b s in (
+          y,
+          z,
+          g .closed k (omega arith) (state i n)
+              (record {
+                part = i;
+                node = n;
+                step = subst (λ d. StepIn L d (nodeAt (getD queue k 0)) i n) (sym u) (subst (λ d. StepIn L j d i n) (sym x) s);
+                state = refl;
+              }),
+        )
 
     only : (i n : ℕ) → i ≤ L .parts → n < L .nodes → Marked stamp seen (state i n) → ReachedIn L v i n
     only i n a b e =

@@ -60,7 +60,8 @@ pub fn joined_pairs(
     seen: &mut [u16],
     pairs: &mut [u32],
 ) -> Pairs
-    requires { ⌜ YesReady (lists sizes (now triples) (now tree) (now next) (now wanted)) (now last) (now earlier) (now alive) (now queue) × PairsReady (lists sizes (now triples) (now tree) (now next) (now wanted)) named (now first) (now seen) (now pairs) ⌝ }
+    requires { ⌜ YesReady (lists sizes (now triples) (now tree) (now next) (now wanted)) (now last) (now earlier) (now alive) (now queue)
+        × PairsReady (lists sizes (now triples) (now tree) (now next) (now wanted)) named (now first) (now seen) (now pairs) ⌝ }
     ensures { λ r. ⌜ PairsAre r (lists sizes (now (triples .entry)) (now (tree .entry)) (now (next .entry)) (now (wanted .entry))) named (now (pairs .exit)) ⌝ }
 {
     chain_by_object(triples, sizes.nodes, sizes.edges, last, earlier);

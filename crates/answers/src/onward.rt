@@ -111,8 +111,10 @@ fn visit_parts(
     queue: &mut [u32],
     tail: usize,
 ) -> usize
-    requires { ⌜ (PartReady (now tree) (now next) i × (5 ≤ kindOf (now tree) i)) × (((n < maxNodes) × (maxStates ≤ length (now alive))) × Table stamp maxStates (now seen) (now queue) tail) ⌝ }
-    ensures { λ r. ⌜ AddsOnly stamp maxStates (PartsOnward (now (alive .entry)) (getD (now (next .entry)) i 0) n (partOf (now (tree .entry)) i)) (now (seen .entry)) (now (queue .entry)) tail (now (seen .exit)) (now (queue .exit)) r ⌝ }
+    requires { ⌜ (PartReady (now tree) (now next) i × (5 ≤ kindOf (now tree) i))
+        × (((n < maxNodes) × (maxStates ≤ length (now alive))) × Table stamp maxStates (now seen) (now queue) tail) ⌝ }
+    ensures { λ r. ⌜ AddsOnly stamp maxStates (PartsOnward (now (alive .entry)) (getD (now (next .entry)) i 0) n (partOf (now (tree .entry)) i))
+        (now (seen .entry)) (now (queue .entry)) tail (now (seen .exit)) (now (queue .exit)) r ⌝ }
 {
     let kind = kind_of(tree, i);
     let left = first_number(tree, i);
@@ -149,8 +151,12 @@ pub fn visit_onward(
     queue: &mut [u32],
     tail: usize,
 ) -> usize
-    requires { ⌜ (ListsFit (lists sizes (now triples) (now tree) (now next) (now wanted)) × BySubject (now triples) (sizes .edges) (now first)) × ((Living (lists sizes (now triples) (now tree) (now next) (now wanted)) (now alive) × StateIn sizes s) × Table stamp maxStates (now seen) (now queue) tail) ⌝ }
-    ensures { λ r. ⌜ AddsOnly stamp maxStates (StepFrom (lists sizes (now (triples .entry)) (now (tree .entry)) (now (next .entry)) (now (wanted .entry))) s) (now (seen .entry)) (now (queue .entry)) tail (now (seen .exit)) (now (queue .exit)) r ⌝ }
+    requires { ⌜ (ListsFit (lists sizes (now triples) (now tree) (now next) (now wanted)) × BySubject (now triples) (sizes .edges) (now first))
+        × ((Living (lists sizes (now triples) (now tree) (now next) (now wanted)) (now alive) × StateIn sizes s)
+        × Table stamp maxStates (now seen) (now queue) tail) ⌝ }
+    ensures { λ r. ⌜ AddsOnly stamp maxStates (StepFrom
+        (lists sizes (now (triples .entry)) (now (tree .entry)) (now (next .entry)) (now (wanted .entry))) s) (now (seen .entry)) (now (queue .entry))
+        tail (now (seen .exit)) (now (queue .exit)) r ⌝ }
 {
     let i = part_at(s);
     let n = node_at(s);

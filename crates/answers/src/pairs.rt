@@ -37,7 +37,9 @@ fn walk(
     seen: &mut [u16],
     queue: &mut [u32],
 )
-    requires { ⌜ (ListsFit (lists sizes (now triples) (now tree) (now next) (now wanted)) × BySubject (now triples) (sizes .edges) (now first)) × ((Living (lists sizes (now triples) (now tree) (now next) (now wanted)) (now alive) × (start < sizes .nodes)) × Unmarked stamp maxStates (now seen) (now queue)) ⌝ }
+    requires { ⌜ (ListsFit (lists sizes (now triples) (now tree) (now next) (now wanted)) × BySubject (now triples) (sizes .edges) (now first))
+        × ((Living (lists sizes (now triples) (now tree) (now next) (now wanted)) (now alive) × (start < sizes .nodes))
+        × Unmarked stamp maxStates (now seen) (now queue)) ⌝ }
     ensures { λ _. ⌜ Walked (lists sizes (now (triples .entry)) (now (tree .entry)) (now (next .entry)) (now (wanted .entry))) start stamp (now (seen .exit)) ⌝ }
 {
     let root = sizes.parts - 1;
@@ -108,8 +110,13 @@ fn list_from(
     pairs: &mut [u32],
     k: usize,
 ) -> Pairs
-    requires { ⌜ (ListsFit (lists sizes (now triples) (now tree) (now next) (now wanted)) × BySubject (now triples) (sizes .edges) (now first)) × ((Living (lists sizes (now triples) (now tree) (now next) (now wanted)) (now alive) × ((start < named) × (named ≤ sizes .nodes))) × (Unmarked (start + 1) maxStates (now seen) (now queue) × (ListedBelow (lists sizes (now triples) (now tree) (now next) (now wanted)) named (pairKey start 0) (now pairs) k × (maxPairs ≤ length (now pairs))))) ⌝ }
-    ensures { λ r. ⌜ ListedUpTo r (lists sizes (now (triples .entry)) (now (tree .entry)) (now (next .entry)) (now (wanted .entry))) named (pairKey (start + 1) 0) (now (pairs .exit)) × Unmarked (start + 2) maxStates (now (seen .exit)) (now (queue .exit)) ⌝ }
+    requires { ⌜ (ListsFit (lists sizes (now triples) (now tree) (now next) (now wanted)) × BySubject (now triples) (sizes .edges) (now first))
+        × ((Living (lists sizes (now triples) (now tree) (now next) (now wanted)) (now alive) × ((start < named) × (named ≤ sizes .nodes)))
+        × (Unmarked (start + 1) maxStates (now seen) (now queue)
+        × (ListedBelow (lists sizes (now triples) (now tree) (now next) (now wanted)) named (pairKey start 0) (now pairs) k
+        × (maxPairs ≤ length (now pairs))))) ⌝ }
+    ensures { λ r. ⌜ ListedUpTo r (lists sizes (now (triples .entry)) (now (tree .entry)) (now (next .entry)) (now (wanted .entry))) named
+        (pairKey (start + 1) 0) (now (pairs .exit)) × Unmarked (start + 2) maxStates (now (seen .exit)) (now (queue .exit)) ⌝ }
 {
     let root = sizes.parts - 1;
     if !is_marked(alive, root, start) {
@@ -146,7 +153,9 @@ pub fn list_pairs(
     queue: &mut [u32],
     pairs: &mut [u32],
 ) -> Pairs
-    requires { ⌜ (ListsFit (lists sizes (now triples) (now tree) (now next) (now wanted)) × BySubject (now triples) (sizes .edges) (now first)) × ((Living (lists sizes (now triples) (now tree) (now next) (now wanted)) (now alive) × (named ≤ sizes .nodes)) × (Unmarked 1 maxStates (now seen) (now queue) × (maxPairs ≤ length (now pairs)))) ⌝ }
+    requires { ⌜ (ListsFit (lists sizes (now triples) (now tree) (now next) (now wanted)) × BySubject (now triples) (sizes .edges) (now first))
+        × ((Living (lists sizes (now triples) (now tree) (now next) (now wanted)) (now alive) × (named ≤ sizes .nodes))
+        × (Unmarked 1 maxStates (now seen) (now queue) × (maxPairs ≤ length (now pairs)))) ⌝ }
     ensures { λ r. ⌜ PairsAre r (lists sizes (now (triples .entry)) (now (tree .entry)) (now (next .entry)) (now (wanted .entry))) named (now (pairs .exit)) ⌝ }
 {
     let mut k = 0;

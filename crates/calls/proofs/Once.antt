@@ -57,7 +57,8 @@ back [] (c ∷ cs) e = e
 back (b ∷ bs) [] e = e
 
 -- from what is true of each to what is true of each two
-paired : {R S : Lent → Lent → Type 0} {P : Lent → Type 0} → ((b c : Lent) → R b c → P b → P c → S b c) → (bs cs : List Lent) → Each₂ R bs cs → Each P bs → Each P cs → Each₂ S bs cs
+paired : {R S : Lent → Lent → Type 0} {P : Lent → Type 0} → ((b c : Lent) → R b c → P b → P c → S b c) → (bs cs : List Lent) → Each₂ R bs cs
+    → Each P bs → Each P cs → Each₂ S bs cs
 paired f [] [] e k m = tt
 paired f (b ∷ bs) (c ∷ cs) e k m = (f b c (e .0) (k .0) (m .0), paired f bs cs (e .1) (k .1) (m .1))
 paired f [] (c ∷ cs) e k m = e
@@ -86,7 +87,8 @@ written-alike [] (b ∷ bs) cs e k m = absurd k
 -- ---- the theorem
 
 module _ {A : Type 0} {Refuses : A → Type 0} {Gives : A → List (List ℕ) → Type 0} (fixed : Fixed Refuses Gives) {r s : A} {lists lists₂ buffers buffers₂ : List Lent} where
-  outcome-once : SameLengths lists lists₂ → AlikeAfter buffers buffers₂ → Outcome Refuses Gives r lists → Outcome Refuses Gives s lists₂ → Same Refuses Gives r s lists lists₂ buffers buffers₂
+  outcome-once : SameLengths lists lists₂ → AlikeAfter buffers buffers₂ → Outcome Refuses Gives r lists → Outcome Refuses Gives s lists₂
+      → Same Refuses Gives r s lists lists₂ buffers buffers₂
   outcome-once e z (refuses x k) (refuses y m) = record { answer = fixed .one-refusal x y; fronts = both-kept k m; list-contents = kept-alike lists lists₂ e k m; buffer-contents = z }
   outcome-once e z (refuses x k) (gives gs y m) = absurd (fixed .not-both x y)
   outcome-once e z (gives fs x k) (refuses y m) = absurd (fixed .not-both y x)

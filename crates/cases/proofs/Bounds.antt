@@ -42,7 +42,9 @@ module _ (P : Pack) (wf : Resolved P) where
           λ i. (c i, vs i)
 
   few-triples : length (facts P) ≤ maxCoreTriples → ¬ Over maxCoreTriples (CoreTriple P)
-  few-triples h o = listed-few (λ x m. m) h (over-carried (CoreTriple P) (λ f. f ∈ facts P) (λ t f. triple (t .0) (t .1) (t .2) ≡ f) (λ t g. (triple (t .0) (t .1) (t .2), given-iff P wf _ .1 g, refl)) one o)
+  few-triples h o =
+      listed-few (λ x m. m) h (over-carried (CoreTriple P) (λ f. f ∈ facts P) (λ t f. triple (t .0) (t .1) (t .2) ≡ f)
+      (λ t g. (triple (t .0) (t .1) (t .2), given-iff P wf _ .1 g, refl)) one o)
     where
       one : (t u : Node × ℕ × Node) (f : Fact) → triple (t .0) (t .1) (t .2) ≡ f → triple (u .0) (u .1) (u .2) ≡ f → t ≡ u
       one t u f d e =

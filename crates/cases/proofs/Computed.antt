@@ -11,7 +11,28 @@ use Prim.Native.Nat.{ℕ, _≤_}
 use Rattle.pack.proofs.Accepted.{WellFormed, well-formed}
 use Rattle.cases.proofs.Bounds.{is-term, not-large, not-many}
 use Rattle.cases.proofs.Run.{asked, graphOf, isTerm, listed, ofPack, onPack, onQuery, onTerm, onlyIf, refusesAs, run, shortLists, shownClash, smallCore, unless, unlessClash, withGraph}
-use Rattle.cases.specs.Says.{Call, Outcome, Says, answer, ask, ask-gives, ask-refused, build, build-gives, build-refused, check, is-fine, is-refused, read, read-gives, read-refused, refused, refuses, spell, spelled}
+use Rattle.cases.specs.Says.{
+  Call,
+  Outcome,
+  Says,
+  answer,
+  ask,
+  ask-gives,
+  ask-refused,
+  build,
+  build-gives,
+  build-refused,
+  check,
+  is-fine,
+  is-refused,
+  read,
+  read-gives,
+  read-refused,
+  refused,
+  refuses,
+  spell,
+  spelled,
+}
 use Rattle.construct.proofs.Accepted.{accepted-formed, none-obey, some-obeys}
 use Rattle.construct.specs.Outcome.{Gives, Refuses, counted, mixed-kinds, not-accepted, refusedAs, two-objects}
 use Rattle.construct.specs.declared.Constructed.{Constructed}
@@ -53,7 +74,8 @@ Right s c none = Unit
 Right s c (some o) = Says s c o
 
 module _ (s : Text) (c : Call) where
-  on-pack : (refusal : ℕ → Outcome) (x : Checked) (f : Pack → Option Outcome) → ((k : ℕ) → x ≡ stopped k → Says s c (refusal k)) → ((P : Pack) → x ≡ accepted P → Right s c (f P))
+  on-pack : (refusal : ℕ → Outcome) (x : Checked) (f : Pack → Option Outcome) → ((k : ℕ) → x ≡ stopped k → Says s c (refusal k))
+      → ((P : Pack) → x ≡ accepted P → Right s c (f P))
       → Right s c (onPack refusal x f)
   on-pack refusal (stopped k) f a b = a k refl
   on-pack refusal (accepted P) f a b = b P refl
@@ -66,7 +88,8 @@ module _ (s : Text) (c : Call) where
   only-if true o f = f tt
   only-if false o f = tt
 
-  on-clash : (P : Pack) (x : Option Clash) (o : Option Outcome) → ((d : Clash) → x ≡ some d → Says s c (refuses (shownClash P d))) → (x ≡ none → Right s c o) → Right s c (unlessClash P x o)
+  on-clash : (P : Pack) (x : Option Clash) (o : Option Outcome) → ((d : Clash) → x ≡ some d → Says s c (refuses (shownClash P d)))
+      → (x ≡ none → Right s c o) → Right s c (unlessClash P x o)
   on-clash P none o a b = b refl
   on-clash P (some d) o a b = a d refl
 

@@ -5,7 +5,26 @@ use mathlib.Core.Path.{_≡_, refl, sym, ap, _∙_}
 use native.Mathlib.Omega.{arith}
 use Prim.Native.Nat.{ℕ}
 use Rattle.pack.proofs.Accepted.{well-formed, zero-accepted}
-use Rattle.cases.specs.Says.{Call, Outcome, Says, answer, ask-gives, ask-refused, build-gives, build-refused, graph, iri, is-fine, is-refused, read-gives, read-refused, refused, refuses, spelled, term}
+use Rattle.cases.specs.Says.{
+  Call,
+  Outcome,
+  Says,
+  answer,
+  ask-gives,
+  ask-refused,
+  build-gives,
+  build-refused,
+  graph,
+  iri,
+  is-fine,
+  is-refused,
+  read-gives,
+  read-refused,
+  refused,
+  refuses,
+  spelled,
+  term,
+}
 use Rattle.construct.proofs.Once.{not-given, one-records, one-refusal}
 use Rattle.meaning.proofs.Lists.Places.{inside}
 use Rattle.meaning.specs.Limits.{unused}
@@ -34,7 +53,8 @@ not-zero {pack} {c = c} u (reads P d vs w b e) =
     let l = inside (P .setting .constructors) d (b .term .constructor) (b .term .listed) in
     omega arith
 
-refused-or-read : {X : Type 0} {pack t : Text} {k c : ℕ} {values : List ℕ} → ReadBackAnswers pack t (unreadAs k) → ReadBackAnswers pack t (record { refusal = 0; constructor = c; values = values }) → X
+refused-or-read : {X : Type 0} {pack t : Text} {k c : ℕ} {values : List ℕ} → ReadBackAnswers pack t (unreadAs k)
+    → ReadBackAnswers pack t (record { refusal = 0; constructor = c; values = values }) → X
 refused-or-read x y = absurd (not-zero (ap (λ (r : ReadBack). r .constructor) (answers-once y x)) y)
 
 -- ---- one outcome

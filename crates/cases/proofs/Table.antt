@@ -13,13 +13,52 @@ use Rattle.cases.proofs.Run.{isTerm, run, smallCore}
 use Rattle.cases.specs.Says.{Call, Outcome, Says, answer, ask, build, check, fine, graph, iri, read, refused, refuses, spell, term}
 use Rattle.construct.specs.Outcome.{clashing, refusedAs}
 use Rattle.grammar.specs.Grammar.{stars}
-use Rattle.grammar.specs.Parse.{run as readRun, joined as joinedParts, parts, withStars, closed, label, name, leaf, atomOf as readAtom, stepBy, sequenceBy, unionBy, atomAt, parse, whole, expressionOf}
+use Rattle.grammar.specs.Parse.{
+  run as readRun,
+  joined as joinedParts,
+  parts,
+  withStars,
+  closed,
+  label,
+  name,
+  leaf,
+  atomOf as readAtom,
+  stepBy,
+  sequenceBy,
+  unionBy,
+  atomAt,
+  parse,
+  whole,
+  expressionOf,
+}
 use Rattle.meaning.proofs.Computed.Certain.{walkBuilt, pairRecords}
 use Rattle.meaning.proofs.Computed.Evaluate.{answersYes}
 use Rattle.meaning.proofs.Model.Clash.{firstClash}
 use Rattle.meaning.proofs.Model.Listing.{nodeNumbers, nodeRecords, tripleRecords}
 use Rattle.meaning.proofs.Model.Refusals.{mixedKinds?}
-use Rattle.meaning.proofs.Sample.Packs.{shapeRecord, constructorOf, atomOf, termOf, rowOf, ruleOf, sampleValues, firstDecidesSecond, sampleTypes, sampleShapes, sampleConstructors, sampleRules, romanRow, sampleWith, withRows, withRules, sample, rowTwice, twoNames, nameIsIri, secondType}
+use Rattle.meaning.proofs.Sample.Packs.{
+  shapeRecord,
+  constructorOf,
+  atomOf,
+  termOf,
+  rowOf,
+  ruleOf,
+  sampleValues,
+  firstDecidesSecond,
+  sampleTypes,
+  sampleShapes,
+  sampleConstructors,
+  sampleRules,
+  romanRow,
+  sampleWith,
+  withRows,
+  withRules,
+  sample,
+  rowTwice,
+  twoNames,
+  nameIsIri,
+  secondType,
+}
 use Rattle.meaning.specs.Ascii.{ascii}
 use Rattle.meaning.specs.Limits.{unused}
 use Rattle.meaning.proofs.Lists.Members.{map-each}
@@ -187,7 +226,9 @@ cases =
 -- ---- the theorem
 
 computed : map (λ (c : Case). run (c .call) (c .pack)) cases ≡ map (λ (c : Case). some (c .outcome)) cases
-unfolding checking encode smallCore isTerm firstClash nodeNumbers mixedKinds? nodeRecords tripleRecords shapeOf walkBuilt answersYes pairRecords plain? spellingBy iriBy slashed joined unreserved hexDigit spelledByte segment split findBy findAllBy argumentsBy readFromBy readBackBy expressionOf whole parse unionBy sequenceBy stepBy atomAt readAtom leaf name label closed withStars parts joinedParts readRun stars
+unfolding checking encode smallCore isTerm firstClash nodeNumbers mixedKinds? nodeRecords tripleRecords shapeOf walkBuilt answersYes pairRecords
+    plain? spellingBy iriBy slashed joined unreserved hexDigit spelledByte segment split findBy findAllBy argumentsBy readFromBy readBackBy expressionOf
+    whole parse unionBy sequenceBy stepBy atomAt readAtom leaf name label closed withStars parts joinedParts readRun stars
 computed = refl
 
 -- Each case says what is so.

@@ -44,7 +44,8 @@ module _ {s counts numbers rows : List ℕ} (l : PackLoaded s counts numbers row
     pub is-pack : IsPack counts numbers rows
     is-pack = record { pack = l .pack; given = given }
 
-    pub accepts : badSize s ≡ false → duplicates (l .pack) ≡ false → prefixClash (l .pack) ≡ false → dangling (l .pack) ≡ false → (r : Checked) → r .refusal ≡ 0 → r .counts ≡ counts → CheckedAs s r numbers rows
+    pub accepts : badSize s ≡ false → duplicates (l .pack) ≡ false → prefixClash (l .pack) ≡ false → dangling (l .pack) ≡ false → (r : Checked)
+        → r .refusal ≡ 0 → r .counts ≡ counts → CheckedAs s r numbers rows
     accepts size a b d r z e = record {
       first = z ∙ accepted-number s size (l .pack) (l .is) a b d;
       loaded = λ q. subst (λ (k : List ℕ). Accepted s k numbers rows) (sym e) (record {

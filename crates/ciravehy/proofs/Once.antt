@@ -43,25 +43,33 @@ module _ (pack : Text) (nodes nodes₂ triples triples₂ rows rows₂ heads hea
       (same-report (s .answer) refl (x .refusal) (y .refusal) (x .report) (y .report), s)
 
 module _ (pack query : Text) (nodes nodes₂ triples triples₂ rows rows₂ heads heads₂ alive alive₂ queue queue₂ : Contents) {result result₂ : ℕ} {report report₂ : List ℕ} where
-  pub decides-once : SameLengths (graphLists nodes triples) (graphLists nodes₂ triples₂) → SameLengths (YesOrNo.buffers rows heads alive queue) (YesOrNo.buffers rows₂ heads₂ alive₂ queue₂)
+  pub decides-once : SameLengths (graphLists nodes triples) (graphLists nodes₂ triples₂)
+      → SameLengths (YesOrNo.buffers rows heads alive queue) (YesOrNo.buffers rows₂ heads₂ alive₂ queue₂)
       → (x : Decides pack query result nodes triples rows heads alive queue report) (y : Decides pack query result₂ nodes₂ triples₂ rows₂ heads₂ alive₂ queue₂ report₂)
       → SameReport result result₂ report report₂
-      × Same (YesOrNo.Refuses pack query) (YesOrNo.Gives pack query) (x .answer) (y .answer) (graphLists nodes triples) (graphLists nodes₂ triples₂) (YesOrNo.buffers rows heads alive queue) (YesOrNo.buffers rows₂ heads₂ alive₂ queue₂)
+      × Same (YesOrNo.Refuses pack query) (YesOrNo.Gives pack query) (x .answer) (y .answer) (graphLists nodes triples) (graphLists nodes₂ triples₂)
+      (YesOrNo.buffers rows heads alive queue) (YesOrNo.buffers rows₂ heads₂ alive₂ queue₂)
   decides-once e f x y =
       let s = yes-no.answers-once pack query (x .answer) (y .answer) nodes nodes₂ triples triples₂ rows rows₂ heads heads₂ alive alive₂ queue queue₂ e f (x .answers) (y .answers) in
       (same-report (ap (λ (a : YesNo). a .graph) (s .answer)) (ap (λ (a : YesNo). number (a .yes)) (s .answer)) (x .refusal) (y .refusal) (x .report) (y .report), s)
 
-module _ (pack query : Text) (nodes nodes₂ triples triples₂ list list₂ rows rows₂ heads heads₂ alive alive₂ queue queue₂ seen seen₂ : Contents) {result result₂ : ℕ} {report report₂ : List ℕ} where
+module _ (pack query : Text) (nodes nodes₂ triples triples₂ list list₂ rows rows₂ heads heads₂ alive alive₂ queue queue₂ seen seen₂ : Contents)
+    {result result₂ : ℕ} {report report₂ : List ℕ} where
   pub finds-once : SameLengths (Pairs.lists nodes triples list) (Pairs.lists nodes₂ triples₂ list₂)
       → SameLengths (Pairs.buffers rows heads alive queue seen) (Pairs.buffers rows₂ heads₂ alive₂ queue₂ seen₂)
-      → (x : Finds pack query result nodes triples list rows heads alive queue seen report) (y : Finds pack query result₂ nodes₂ triples₂ list₂ rows₂ heads₂ alive₂ queue₂ seen₂ report₂)
+      → (x : Finds pack query result nodes triples list rows heads alive queue seen report)
+      (y : Finds pack query result₂ nodes₂ triples₂ list₂ rows₂ heads₂ alive₂ queue₂ seen₂ report₂)
       → SameReport result result₂ report report₂
-      × Same (Pairs.Refuses pack query) (Pairs.Gives pack query) (x .answer) (y .answer) (Pairs.lists nodes triples list) (Pairs.lists nodes₂ triples₂ list₂) (Pairs.buffers rows heads alive queue seen) (Pairs.buffers rows₂ heads₂ alive₂ queue₂ seen₂)
+      × Same (Pairs.Refuses pack query) (Pairs.Gives pack query) (x .answer) (y .answer) (Pairs.lists nodes triples list)
+      (Pairs.lists nodes₂ triples₂ list₂) (Pairs.buffers rows heads alive queue seen) (Pairs.buffers rows₂ heads₂ alive₂ queue₂ seen₂)
   finds-once e f x y =
-      let s = pairs.answers-once pack query (x .answer) (y .answer) nodes nodes₂ triples triples₂ list list₂ rows rows₂ heads heads₂ alive alive₂ queue queue₂ seen seen₂ e f (x .answers) (y .answers) in
+      let s =
+      pairs.answers-once pack query (x .answer) (y .answer) nodes nodes₂ triples triples₂ list list₂ rows rows₂ heads heads₂ alive alive₂ queue queue₂
+      seen seen₂ e f (x .answers) (y .answers) in
       (same-report (ap (λ (a : PairAnswer). a .graph) (s .answer)) (ap (λ (a : PairAnswer). a .pairs) (s .answer)) (x .refusal) (y .refusal) (x .report) (y .report), s)
 
-pub reads-once : {pack text : Text} {result result₂ : ℕ} {report report₂ : List ℕ} → Reads pack text result report → Reads pack text result₂ report₂ → (result ≡ result₂) × (report ≡ report₂)
+pub reads-once : {pack text : Text} {result result₂ : ℕ} {report report₂ : List ℕ} → Reads pack text result report → Reads pack text result₂ report₂
+    → (result ≡ result₂) × (report ≡ report₂)
 reads-once x y =
     let e = readback.answers-once (x .answers) (y .answers) in
     (x .refusal ∙ (λ i. e i .refusal) ∙ sym (y .refusal), x .report ∙ (λ i. e i .constructor ∷ e i .values) ∙ sym (y .report))

@@ -66,7 +66,8 @@ pub extern "C" fn ciravehy_pairs(
     seen: &mut [u16],
     report: &mut [u16; REPORT_LENGTH],
 ) -> u8
-    ensures { λ r. ⌜ Finds (now (pack .entry)) (now (query .entry)) r (lent nodes) (lent triples) (lent pairs) (lent rows) (lent heads) (lent alive) (lent queue) (lent seen) (now (report .exit)) ⌝ }
+    ensures { λ r. ⌜ Finds (now (pack .entry)) (now (query .entry)) r (lent nodes) (lent triples) (lent pairs) (lent rows) (lent heads) (lent alive)
+        (lent queue) (lent seen) (now (report .exit)) ⌝ }
 {
     let found = find_pairs(
         pack,

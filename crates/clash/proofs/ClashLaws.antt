@@ -94,7 +94,8 @@ module _ {P : Pack} {table : List (List ℕ)} {nodes triples masks : List ℕ} (
 
   module _ (b : ℕ) (clear : Cleared table triples masks b) (c : TwoObjects P) (x : Placing c) where
     -- the lower of the two keys has a neighbour that the search has seen
-    seen : (o o′ : ℕ) → o < placeRoom → o′ < placeRoom → o < o′ → tripleKey (x .s) (c .predicate) o ∈ triples → tripleKey (x .s) (c .predicate) o′ ∈ triples → tripleKey (x .s) (c .predicate) o′ < b → ⊥
+    seen : (o o′ : ℕ) → o < placeRoom → o′ < placeRoom → o < o′ → tripleKey (x .s) (c .predicate) o ∈ triples
+        → tripleKey (x .s) (c .predicate) o′ ∈ triples → tripleKey (x .s) (c .predicate) o′ < b → ⊥
     unfolding tripleKey
     seen o o′ lo lo′ l m m′ u =
         let i = x .s in

@@ -47,7 +47,12 @@ module _ {pack : Text} {r : Constructed} where
   -- a graph of so many nodes and triples, counted so
   counted-graph : {fronts : List (List ℕ)} (P : Pack) (n t : ℕ) → r ≡ counted n t → HasGraph pack P n t fronts → Gives pack r fronts
   counted-graph {fronts} P n t q h =
-      record { of = P; has = subst (λ (z : ℕ × ℕ). HasGraph pack P (z .0) (z .1) fronts) (λ i. (sym q i .nodes, sym q i .triples)) h; counts = q ∙ (λ i. counted (sym q i .nodes) (sym q i .triples)) }
+      record {
+        of = P;
+        has = subst (λ (z : ℕ × ℕ). HasGraph pack P (z .0) (z .1) fronts) (λ i. (sym q i .nodes, sym q i .triples)) h;
+        counts = q
+            ∙ (λ i. counted (sym q i .nodes) (sym q i .triples));
+      }
 
 module _ {pack : Text} {r : Constructed} {nodes nodes′ triples triples′ : List ℕ} where
   -- 3 to 8
@@ -77,7 +82,8 @@ module _ {pack : Text} {r : Constructed} {nodes nodes′ triples triples′ : Li
     heads-answer (small n c) = core-answer n c
 
   -- 3 to 7
-  pub checked-answer : {c : Checked} {numbers rows : List ℕ} → CheckedAs pack c numbers rows → (c .refusal ≡ 0 → ⊥) → r ≡ refusedAs (c .refusal) → nodes′ ≡ nodes → triples′ ≡ triples
+  pub checked-answer : {c : Checked} {numbers rows : List ℕ} → CheckedAs pack c numbers rows → (c .refusal ≡ 0 → ⊥) → r ≡ refusedAs (c .refusal)
+      → nodes′ ≡ nodes → triples′ ≡ triples
       → Constructs pack r (nodes becomes nodes′) (triples becomes triples′) × (r .refusal ≡ 0 → SettingLoaded pack (c .counts) numbers)
   checked-answer {c} k n q x y = (
     refused-answer (c .refusal) (refused-before pack (c .refusal) (k .first) n) n q x y,

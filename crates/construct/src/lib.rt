@@ -65,7 +65,8 @@ fn from_core(
     triples: &mut [u16],
 ) -> Constructed
     requires { ⌜ CoreGiven shapes arities (now keys) (now edges) (now masks) × (nodeListLength ≤ length (now nodes)) × (tripleListLength ≤ length (now triples)) ⌝ }
-    ensures { λ r. ⌜ OfCore shapes arities (now (keys .entry)) (now (edges .entry)) (now (masks .entry)) (λ P. FromCore P r (now (nodes .entry)) (now (nodes .exit)) (now (triples .entry)) (now (triples .exit))) ⌝ }
+    ensures { λ r. ⌜ OfCore shapes arities (now (keys .entry)) (now (edges .entry)) (now (masks .entry))
+        (λ P. FromCore P r (now (nodes .entry)) (now (nodes .exit)) (now (triples .entry)) (now (triples .exit))) ⌝ }
 {
     let mut flags = [0u16; MEMBER_SETS];
     let mut places = [0u16; MEMBER_SETS];
@@ -109,8 +110,10 @@ fn from_heads(
     nodes: &mut [u16],
     triples: &mut [u16],
 ) -> Constructed
-    requires { ⌜ HeadsGiven counts (now numbers) found (now heads) × (headsLength ≤ length (now heads)) × (nodeListLength ≤ length (now nodes)) × (tripleListLength ≤ length (now triples)) ⌝ }
-    ensures { λ r. ⌜ OfHeads counts (now (numbers .entry)) found (now (heads .entry)) (λ P. FromHeads P r (now (nodes .entry)) (now (nodes .exit)) (now (triples .entry)) (now (triples .exit))) ⌝ }
+    requires { ⌜ HeadsGiven counts (now numbers) found (now heads) × (headsLength ≤ length (now heads)) × (nodeListLength ≤ length (now nodes))
+        × (tripleListLength ≤ length (now triples)) ⌝ }
+    ensures { λ r. ⌜ OfHeads counts (now (numbers .entry)) found (now (heads .entry))
+        (λ P. FromHeads P r (now (nodes .entry)) (now (nodes .exit)) (now (triples .entry)) (now (triples .exit))) ⌝ }
 {
     let shapes = shape_table(counts, numbers);
     let each = found.counts;
@@ -173,7 +176,8 @@ pub fn construct(
     rows: &mut [u16],
     heads: &mut [u64],
 ) -> PackGraph
-    requires { ⌜ (nodeListLength ≤ length (now nodes)) × (tripleListLength ≤ length (now triples)) × (rowsLength ≤ length (now rows)) × (headsLength ≤ length (now heads)) × (settingLength ≤ length (now numbers)) ⌝ }
+    requires { ⌜ (nodeListLength ≤ length (now nodes)) × (tripleListLength ≤ length (now triples)) × (rowsLength ≤ length (now rows))
+        × (headsLength ≤ length (now heads)) × (settingLength ≤ length (now numbers)) ⌝ }
     ensures { λ r. ⌜ Constructs (now (pack .entry)) (r .graph) (lent nodes) (lent triples) × LoadedIf (now (pack .entry)) r (now (numbers .exit)) ⌝ }
 {
     let checked = check(pack, numbers, rows);

@@ -37,7 +37,9 @@ Proper P (literalNode v) = v < maxValues
 
 -- ---- equal keys, equal nodes
 
-iri-key : (c : ℕ) (vs : List ℕ) → length vs ≤ maxArguments → Bytes vs → (keyOf (iriNode c vs) ≡ c * termRoom + packed vs * maxValues ^ (maxArguments - length vs)) × (packed vs * maxValues ^ (maxArguments - length vs) < termRoom)
+iri-key : (c : ℕ) (vs : List ℕ) → length vs ≤ maxArguments → Bytes vs
+    → (keyOf (iriNode c vs) ≡ c * termRoom + packed vs * maxValues ^ (maxArguments - length vs))
+    × (packed vs * maxValues ^ (maxArguments - length vs) < termRoom)
 unfolding keyOf
 iri-key c vs h b = (rw (packed-padded vs h), padded-lt (length vs) h (packed vs) (packed-lt vs b))
 

@@ -66,7 +66,8 @@ marked-start {X} d none i R = (inl, back)
     back (inl h) = h
     back (inr x) = absurd (none (i, R) x)
 
-marked-then : {X Y Z : ℕ × Target → Type 0} (d₀ d d′ : List ℕ) → ((y : ℕ × Target) → (X y ⊎ Y y) ↔ Z y) → TypesMarked X d₀ d → TypesMarked Y d d′ → TypesMarked Z d₀ d′
+marked-then : {X Y Z : ℕ × Target → Type 0} (d₀ d d′ : List ℕ) → ((y : ℕ × Target) → (X y ⊎ Y y) ↔ Z y) → TypesMarked X d₀ d → TypesMarked Y d d′
+    → TypesMarked Z d₀ d′
 marked-then {X} {Y} {Z} d₀ d d′ both f g i R = (λ h. forth (g i R .0 h), λ h. g i R .1 (back h))
   where
     forth : (R ∈ₜ setOfMask (getD d i 0)) ⊎ Y (i, R) → (R ∈ₜ setOfMask (getD d₀ i 0)) ⊎ Z (i, R)

@@ -43,7 +43,8 @@ module _ {rules : List (List ℕ)} {count : ℕ} {heads counts : List ℕ} where
     pub nodes-over : {m : ℕ} {d d′ : List ℕ} → SetGrown (Nodes rules count heads counts) 0 m d d′ → maxIris < rankOf firstLiteral (take m d′) → Over maxIris (CoreIri P)
     nodes-over {m} {d′ = d′} g l = let n = node-list g in iris-over b (take m d′) (n .ascending) (λ y i. n .members y .0 i) l
 
-  pub nodes-listed : {m : ℕ} {d d′ : List ℕ} → SetGrown (Nodes rules count heads counts) 0 m d d′ → rankOf firstLiteral (take m d′) ≤ maxIris → NodeKeysListed m rules count heads counts d d′
+  pub nodes-listed : {m : ℕ} {d d′ : List ℕ} → SetGrown (Nodes rules count heads counts) 0 m d d′ → rankOf firstLiteral (take m d′) ≤ maxIris
+      → NodeKeysListed m rules count heads counts d d′
   nodes-listed {m} {d′ = d′} g l = record {
     grown = g;
     list = λ P h b. node-list P h b g;

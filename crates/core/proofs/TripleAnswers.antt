@@ -34,7 +34,8 @@ use Rattle.meaning.proofs.Lists.Ordered.{<-strict}
 use native.Mathlib.Nat.{le-refl}
 
 -- a key's parts
-parts-one : (s p o s′ p′ o′ : ℕ) → p < predicateRoom → p′ < predicateRoom → o < placeRoom → o′ < placeRoom → tripleKey s p o ≡ tripleKey s′ p′ o′ → (s ≡ s′) × (p ≡ p′) × (o ≡ o′)
+parts-one : (s p o s′ p′ o′ : ℕ) → p < predicateRoom → p′ < predicateRoom → o < placeRoom → o′ < placeRoom → tripleKey s p o ≡ tripleKey s′ p′ o′
+    → (s ≡ s′) × (p ≡ p′) × (o ≡ o′)
 unfolding tripleKey
 parts-one s p o s′ p′ o′ a b c d e = (omega arith, omega arith, omega arith)
 

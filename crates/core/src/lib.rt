@@ -36,7 +36,8 @@ pub fn core(
     triples: &mut [u64],
     masks: &mut [u16],
 ) -> Outcome
-    requires { ⌜ CodesFit shapes × HeadsFit rules count (now heads) counts × (length (now nodes) ≡ maxCoreNodes) × (length (now triples) ≡ maxCoreTriples) × (maxCoreNodes ≤ length (now masks)) × (now masks ≡ zeros (length (now masks))) ⌝ }
+    requires { ⌜ CodesFit shapes × HeadsFit rules count (now heads) counts × (length (now nodes) ≡ maxCoreNodes)
+        × (length (now triples) ≡ maxCoreTriples) × (maxCoreNodes ≤ length (now masks)) × (now masks ≡ zeros (length (now masks))) ⌝ }
     ensures { λ r. ⌜ CoreAnswer r shapes rules count (now (heads .entry)) counts (now (nodes .exit)) (now (triples .exit)) (now (masks .exit)) ⌝ }
 {
     let listed = crate::nodes::nodes(rules, count, heads, counts, nodes);

@@ -50,7 +50,8 @@ fn add_match(
 
 // Adds those of all matches of one rule.
 fn add_rule(head: Head, keys: &[u64], nodes: &[u64], triples: &mut [u64], n: usize) -> Counted
-    requires { ⌜ HeadFits head × KeysFit head (now keys) × InOrder _<_ (now nodes) × (length (now nodes) ≤ maxCoreNodes) × (n ≤ length (now triples)) × InOrder _<_ (take n (now triples)) ⌝ }
+    requires { ⌜ HeadFits head × KeysFit head (now keys) × InOrder _<_ (now nodes) × (length (now nodes) ≤ maxCoreNodes) × (n ≤ length (now triples))
+        × InOrder _<_ (take n (now triples)) ⌝ }
     ensures { λ r. ⌜ Adding r (FromKeys (λ k y. y ∈ tripleKeys (now (nodes .entry)) head k) (now (keys .entry))) n (now (triples .entry)) (now (triples .exit)) ⌝ }
 {
     let mut near = [0usize; 3];

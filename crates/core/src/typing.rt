@@ -93,7 +93,8 @@ fn round(
     masks: &mut [u16],
 ) -> bool
     requires { ⌜ CodesFit (now shapes) × AllTriplesFit (now triples) × (length (now triples) ≤ maxCoreTriples) × (maxCoreNodes ≤ length (now masks)) ⌝ }
-    ensures { λ r. ⌜ SpreadRoundShown (now (shapes .entry)) (now (triples .entry)) r (now (passed .entry)) (now (passed .exit)) (now (masks .entry)) (now (masks .exit)) × Progress maskRoom r (now (masks .entry)) (now (masks .exit)) ⌝ }
+    ensures { λ r. ⌜ SpreadRoundShown (now (shapes .entry)) (now (triples .entry)) r (now (passed .entry)) (now (passed .exit)) (now (masks .entry))
+        (now (masks .exit)) × Progress maskRoom r (now (masks .entry)) (now (masks .exit)) ⌝ }
 {
     let mut changed = false;
     for i in 0..triples.len() {
@@ -135,7 +136,9 @@ pub fn typing(
     triples: &[u64],
     masks: &mut [u16],
 )
-    requires { ⌜ CodesFit shapes × HeadsFit rules count (now heads) counts × InOrder _<_ (now nodes) × (length (now nodes) ≤ maxCoreNodes) × KnownRules (now nodes) rules count (now heads) counts × AllTriplesFit (now triples) × (length (now triples) ≤ maxCoreTriples) × (maxCoreNodes ≤ length (now masks)) × (now masks ≡ zeros (length (now masks))) ⌝ }
+    requires { ⌜ CodesFit shapes × HeadsFit rules count (now heads) counts × InOrder _<_ (now nodes) × (length (now nodes) ≤ maxCoreNodes)
+        × KnownRules (now nodes) rules count (now heads) counts × AllTriplesFit (now triples) × (length (now triples) ≤ maxCoreTriples)
+        × (maxCoreNodes ≤ length (now masks)) × (now masks ≡ zeros (length (now masks))) ⌝ }
     ensures { λ _. ⌜ TypesAnswer shapes rules count (now (heads .entry)) counts (now (nodes .entry)) (now (triples .entry)) (now (masks .exit)) ⌝ }
 {
     mark_rules(rules, count, heads, counts, nodes, masks);

@@ -28,7 +28,8 @@ module _ (q : ℕ) where
       first e rest (here p) = (here p, subst (λ y. originOf y ≡ q) (sym p) e)
       first e rest (there i) = let r = rest i in (there (r .0), r .1)
 
-      go : (b : Bool) → eqb (originOf x) q ≡ b → k ∈ cond b (x ∷ group q xs) (group q xs) → (k ∈ group q xs → (k ∈ xs) × (originOf k ≡ q)) → (k ∈ (x ∷ xs)) × (originOf k ≡ q)
+      go : (b : Bool) → eqb (originOf x) q ≡ b → k ∈ cond b (x ∷ group q xs) (group q xs) → (k ∈ group q xs → (k ∈ xs) × (originOf k ≡ q))
+          → (k ∈ (x ∷ xs)) × (originOf k ≡ q)
       go true e i rest = first (eqb-true (originOf x) q e) rest i
       go false e i rest = let r = rest i in (there (r .0), r .1)
 

@@ -37,7 +37,8 @@ module _ (P : Pack) (not-7 : dangling P ≡ false) where
 -- ---- the numbers of a pack, as they are lent
 
 -- a body's part of the numbers
-pub held-part : {A : Type 0} {N : A → List ℕ → Type 0} (w : ℕ) {xs : List A} {at : ℕ} {numbers : List ℕ} → RecordsHeld N w xs at numbers → RecordsHeld N w xs 0 (take (length xs * w) (drop at numbers))
+pub held-part : {A : Type 0} {N : A → List ℕ → Type 0} (w : ℕ) {xs : List A} {at : ℕ} {numbers : List ℕ} → RecordsHeld N w xs at numbers
+    → RecordsHeld N w xs 0 (take (length xs * w) (drop at numbers))
 held-part {A} {N} w {xs} {at} {numbers} h = record {
   each = λ i x e. subst (N x) (sym (part (drop at numbers) i (length xs) (inside xs i x e))) (h .each i x e);
 }

@@ -80,7 +80,8 @@ module _ {rows : List ℕ} {mask first k rest c : ℕ} (p : Keying rows mask fir
   pub keying-room : k * maxValues + (maxValues - 1) < 18446744073709551616
   keying-room = omega (arith, below-more c k (maxValues - 1) (p .low-key) (omega arith), below-le (c + 1) maxColumns (omega (arith, h)), below-columns)
 
-  next : (b : Bool) → eqb (rest % 2) 0 ≡ b → foldl step k (named b (low (getD rows (first + c) 0)) (chosen (rest / 2) (drop (c + 1) (columnsAt rows first)))) ≡ columnsKey mask (columnsAt rows first)
+  next : (b : Bool) → eqb (rest % 2) 0 ≡ b → foldl step k
+      (named b (low (getD rows (first + c) 0)) (chosen (rest / 2) (drop (c + 1) (columnsAt rows first)))) ≡ columnsKey mask (columnsAt rows first)
   unfolding chosen
   next b e =
       let q : drop c (columnsAt rows first) ≡ low (getD rows (first + c) 0) ∷ drop (c + 1) (columnsAt rows first) =

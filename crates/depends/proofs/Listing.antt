@@ -115,7 +115,8 @@ pub record Rows (d : Dependency) (rows lefts rights : List ℕ) (count n i : ℕ
   pub rights-long : length rights ≡ maxRows
   pub listed : (rs : List Row) → RowsHeld rs rows → Even rs → Listing d rs lefts rights n i
 
-pub rows-start : (d : Dependency) (rows lefts rights : List ℕ) (count : ℕ) → count ≡ length rows / rowWidth → length rows ≤ rowsLength → length lefts ≡ maxRows → length rights ≡ maxRows
+pub rows-start : (d : Dependency) (rows lefts rights : List ℕ) (count : ℕ) → count ≡ length rows / rowWidth → length rows ≤ rowsLength
+    → length lefts ≡ maxRows → length rights ≡ maxRows
     → Rows d rows lefts rights count 0 0
 unfolding ofRelation
 rows-start d rows lefts rights count e l h g = record {

@@ -11,7 +11,43 @@ use Prim.Native.Nat.{ℕ, zero, suc, _≤_}
 use Rattle.meaning.specs.Limits.{maxNameBytes}
 use Rattle.meaning.specs.Pack.{Text}
 use Rattle.meaning.specs.Query.{Expr, stay, step, anyStep, atIri, atLiteral, nested, sequence, union}
-use Rattle.grammar.specs.Grammar.{Level, aUnion, aSequence, aStep, anAtom, bar, slash, asterisk, underscore, roundOpen, roundClose, squareOpen, squareClose, angleOpen, angleClose, quote, letter, other, stars, All, none, also, Reads, one-sequence, more-sequences, one-step, more-steps, starred, a-name, an-any, a-stay, a-group, a-test, an-iri, a-literal}
+use Rattle.grammar.specs.Grammar.{
+  Level,
+  aUnion,
+  aSequence,
+  aStep,
+  anAtom,
+  bar,
+  slash,
+  asterisk,
+  underscore,
+  roundOpen,
+  roundClose,
+  squareOpen,
+  squareClose,
+  angleOpen,
+  angleClose,
+  quote,
+  letter,
+  other,
+  stars,
+  All,
+  none,
+  also,
+  Reads,
+  one-sequence,
+  more-sequences,
+  one-step,
+  more-steps,
+  starred,
+  a-name,
+  an-any,
+  a-stay,
+  a-group,
+  a-test,
+  an-iri,
+  a-literal,
+}
 use Rattle.grammar.specs.Parse.{Out, bad, ok, first, run, joined, parts, withStars, closed, label, name, leaf, atomOf, stepBy, sequenceBy, unionBy, atomAt, parse}
 use Rattle.grammar.proofs.Bytes.{run-all, all-stars}
 
@@ -36,7 +72,8 @@ going-ends {sep} {f} {read} {e} {r} g h = g .is ∙ stops (g .turns)
     stops zero = refl
     stops (suc k) = rw h
 
-pub going-bad : {sep : ℕ} {f : Expr → Expr → Expr} {read : Text → Out} {e : Expr} {r : Text} {o : Out} → Going sep f read e r o → (s : Text) → r ≡ sep ∷ s → read s ≡ bad → o ≡ bad
+pub going-bad : {sep : ℕ} {f : Expr → Expr → Expr} {read : Text → Out} {e : Expr} {r : Text} {o : Out} → Going sep f read e r o → (s : Text)
+    → r ≡ sep ∷ s → read s ≡ bad → o ≡ bad
 unfolding parts joined
 going-bad {sep} {f} {read} {e} {r} g s p q = g .is ∙ turn (g .turns) (let z = ap length p in let w = g .enough in omega arith)
   where
@@ -77,7 +114,14 @@ module _ (d : ℕ) (o : Out) where
   unfolding atomOf leaf
   name-atom [] r none lo hi h = absurd (omega arith)
   name-atom (c ∷ t) r (also e a) lo hi h =
-      rw (not-letter c roundOpen e refl, not-letter c squareOpen e refl, not-letter c angleOpen e refl, not-letter c quote e refl, not-letter c underscore e refl, name-reads (c ∷ t) r (also e a) lo hi h)
+      rw (
+        not-letter c roundOpen e refl,
+        not-letter c squareOpen e refl,
+        not-letter c angleOpen e refl,
+        not-letter c quote e refl,
+        not-letter c underscore e refl,
+        name-reads (c ∷ t) r (also e a) lo hi h,
+      )
 
   any-atom : (r : Text) → atomOf d (underscore ∷ r) o ≡ ok anyStep r
   unfolding atomOf leaf
@@ -95,7 +139,8 @@ module _ (d : ℕ) (o : Out) where
   unfolding atomOf
   stay-atom r = rw (eqb·suc-zero d)
 
-  group-atom : (s r : Text) (e : Expr) → eqb (first (s ++ roundClose ∷ r)) roundClose ≡ false → o ≡ ok e (roundClose ∷ r) → atomOf (suc d) (roundOpen ∷ (s ++ roundClose ∷ r)) o ≡ ok e r
+  group-atom : (s r : Text) (e : Expr) → eqb (first (s ++ roundClose ∷ r)) roundClose ≡ false → o ≡ ok e (roundClose ∷ r)
+      → atomOf (suc d) (roundOpen ∷ (s ++ roundClose ∷ r)) o ≡ ok e r
   unfolding atomOf closed
   group-atom s r e h p = rw (eqb·suc-zero d, h, p)
 

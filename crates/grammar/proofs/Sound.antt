@@ -7,7 +7,41 @@ use mathlib.Core.List.{[], _∷_, _++_, append-assoc}
 use mathlib.Core.Path.{_≡_, refl, sym, ap, subst, _∙_}
 use native.Mathlib.Omega.{arith}
 use Prim.Native.Nat.{ℕ, zero, suc, _<_}
-use Rattle.grammar.specs.Grammar.{Level, aUnion, aSequence, aStep, anAtom, bar, slash, asterisk, underscore, roundOpen, roundClose, squareOpen, squareClose, angleOpen, angleClose, quote, letter, other, stars, All, Reads, one-sequence, more-sequences, one-step, more-steps, starred, a-name, an-any, a-stay, a-group, a-test, an-iri, a-literal}
+use Rattle.grammar.specs.Grammar.{
+  Level,
+  aUnion,
+  aSequence,
+  aStep,
+  anAtom,
+  bar,
+  slash,
+  asterisk,
+  underscore,
+  roundOpen,
+  roundClose,
+  squareOpen,
+  squareClose,
+  angleOpen,
+  angleClose,
+  quote,
+  letter,
+  other,
+  stars,
+  All,
+  Reads,
+  one-sequence,
+  more-sequences,
+  one-step,
+  more-steps,
+  starred,
+  a-name,
+  an-any,
+  a-stay,
+  a-group,
+  a-test,
+  an-iri,
+  a-literal,
+}
 use Rattle.grammar.specs.Parse.{atomAt, atomOf, bad, closed, first, joined, label, leaf, name, noByte, ok, Out, parse, parts, run, sequenceBy, stepBy, unionBy, withStars}
 use Rattle.meaning.specs.Limits.{maxNameBytes}
 use Rattle.meaning.specs.Pack.{Text}
@@ -65,7 +99,8 @@ stars-found d s (ok a s′) part e r h =
     let q : stars k a ≡ e = cc in
     let w : drop k s′ ≡ r = cc in (
       t ++ replicate k asterisk,
-      z ∙ ap (λ (y : Text). t ++ y) (sym (take-append-drop k s′) ∙ ap (λ (y : Text). y ++ drop k s′) (stars-take s′) ∙ ap (λ (y : Text). replicate k asterisk ++ y) w) ∙ sym (append-assoc t (replicate k asterisk) r),
+      z ∙ ap (λ (y : Text). t ++ y) (sym (take-append-drop k s′) ∙ ap (λ (y : Text). y ++ drop k s′) (stars-take s′)
+          ∙ ap (λ (y : Text). replicate k asterisk ++ y) w) ∙ sym (append-assoc t (replicate k asterisk) r),
       subst (λ (y : Expr). Reads aStep d (t ++ replicate k asterisk) y) q (starred k x),
     )
 
@@ -122,11 +157,15 @@ leaf-found d s e r h = angle (eqb (first s) angleOpen) refl h
         (underscore ∷ [], uncons s underscore (eqb-true _ _ q) (lit< tt) ∙ ap (λ (y : Text). underscore ∷ y) w, subst (λ (y : Expr). Reads anAtom d (underscore ∷ []) y) v an-any)
     wild false q h = name-found d s e r h
 
-    quoted : (b : Bool) → eqb (first s) quote ≡ b → cond b (label quote atLiteral (drop 1 s)) (cond (eqb (first s) underscore) (ok anyStep (drop 1 s)) (name s)) ≡ ok e r → Found anAtom d s e r
+    quoted : (b : Bool) → eqb (first s) quote ≡ b
+        → cond b (label quote atLiteral (drop 1 s)) (cond (eqb (first s) underscore) (ok anyStep (drop 1 s)) (name s)) ≡ ok e r → Found anAtom d s e r
     quoted true q h = label-found quote quote d (lit< tt) (lit< tt) atLiteral (λ t a. a-literal a) s (eqb-true _ _ q) e r h
     quoted false q h = wild (eqb (first s) underscore) refl h
 
-    angle : (b : Bool) → eqb (first s) angleOpen ≡ b → cond b (label angleClose atIri (drop 1 s)) (cond (eqb (first s) quote) (label quote atLiteral (drop 1 s)) (cond (eqb (first s) underscore) (ok anyStep (drop 1 s)) (name s))) ≡ ok e r → Found anAtom d s e r
+    angle : (b : Bool) → eqb (first s) angleOpen ≡ b
+        → cond b (label angleClose atIri (drop 1 s))
+        (cond (eqb (first s) quote) (label quote atLiteral (drop 1 s)) (cond (eqb (first s) underscore) (ok anyStep (drop 1 s)) (name s))) ≡ ok e r
+        → Found anAtom d s e r
     angle true q h = label-found angleOpen angleClose d (lit< tt) (lit< tt) atIri (λ t a. an-iri a) s (eqb-true _ _ q) e r h
     angle false q h = quoted (eqb (first s) quote) refl h
 
@@ -146,7 +185,8 @@ closed-found opens mark d f s lo lm q rule (ok a s′) part e r h = go (eqb (fir
         let v : f a ≡ e = cc in
         let w : drop 1 s′ ≡ r = cc in (
           opens ∷ (t ++ mark ∷ []),
-          uncons s opens q lo ∙ ap (λ (y : Text). opens ∷ y) (z ∙ ap (λ (y : Text). t ++ y) (uncons s′ mark (eqb-true _ _ g) lm ∙ ap (λ (y : Text). mark ∷ y) w) ∙ sym (append-assoc t (mark ∷ []) r)),
+          uncons s opens q lo ∙ ap (λ (y : Text). opens ∷ y)
+              (z ∙ ap (λ (y : Text). t ++ y) (uncons s′ mark (eqb-true _ _ g) lm ∙ ap (λ (y : Text). mark ∷ y) w) ∙ sym (append-assoc t (mark ∷ []) r)),
           subst (λ (y : Expr). Reads anAtom (suc d) (opens ∷ (t ++ mark ∷ [])) y) v (rule t a x),
         )
 
@@ -186,7 +226,9 @@ atom-some d s o part e r h = round (eqb (first s) roundOpen) refl (rw (eqb·suc-
         )
     inside false g q h = closed-found roundOpen roundClose d (λ x. x) s (lit< tt) (lit< tt) q (λ t e x. a-group x) o part e r h
 
-    round : (b : Bool) → eqb (first s) roundOpen ≡ b → cond b (cond (eqb (first (drop 1 s)) roundClose) (ok stay (drop 2 s)) (closed roundClose (λ x. x) o)) (cond (eqb (first s) squareOpen) (closed squareClose nested o) (leaf s)) ≡ ok e r → Found anAtom (suc d) s e r
+    round : (b : Bool) → eqb (first s) roundOpen ≡ b
+        → cond b (cond (eqb (first (drop 1 s)) roundClose) (ok stay (drop 2 s)) (closed roundClose (λ x. x) o))
+        (cond (eqb (first s) squareOpen) (closed squareClose nested o) (leaf s)) ≡ ok e r → Found anAtom (suc d) s e r
     round true q h = inside (eqb (first (drop 1 s)) roundClose) refl (eqb-true _ _ q) h
     round false q h = square (eqb (first s) squareOpen) refl h
 

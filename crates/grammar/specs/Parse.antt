@@ -6,7 +6,27 @@ use mathlib.Core.Bool.{Bool, cond, _&&_}
 use mathlib.Core.List.{[], _∷_}
 use mathlib.Core.Option.{Option, none, some}
 use Prim.Native.Nat.{ℕ, zero, suc}
-use Rattle.grammar.specs.Grammar.{Level, aUnion, aSequence, aStep, anAtom, bar, slash, asterisk, underscore, roundOpen, roundClose, squareOpen, squareClose, angleOpen, angleClose, quote, letter, other, stars}
+use Rattle.grammar.specs.Grammar.{
+  Level,
+  aUnion,
+  aSequence,
+  aStep,
+  anAtom,
+  bar,
+  slash,
+  asterisk,
+  underscore,
+  roundOpen,
+  roundClose,
+  squareOpen,
+  squareClose,
+  angleOpen,
+  angleClose,
+  quote,
+  letter,
+  other,
+  stars,
+}
 use Rattle.meaning.specs.Limits.{maxNameBytes, maxOpenBrackets, maxQueryBytes}
 use Rattle.meaning.specs.Pack.{Text}
 use Rattle.meaning.specs.Query.{Expr, stay, step, anyStep, atIri, atLiteral, nested, sequence, union}

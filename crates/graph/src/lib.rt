@@ -33,8 +33,10 @@ pub fn build(
     records: &mut [u16],
     edges: &mut [u16],
 ) -> Built
-    requires { ⌜ CoreFits (now nodes) (now triples) (now masks) × KeysSmall (now nodes) × CodesFit shapes × (memberSets ≤ length (now flags)) × (memberSets ≤ length (now places)) × (nodeListLength ≤ length (now records)) × (tripleListLength ≤ length (now edges)) ⌝ }
-    ensures { λ r. ⌜ BuildShown shapes arities (now (nodes .entry)) (now (triples .entry)) (now (masks .entry)) (now (records .entry)) (now (records .exit)) (now (edges .entry)) (now (edges .exit)) r ⌝ }
+    requires { ⌜ CoreFits (now nodes) (now triples) (now masks) × KeysSmall (now nodes) × CodesFit shapes × (memberSets ≤ length (now flags))
+        × (memberSets ≤ length (now places)) × (nodeListLength ≤ length (now records)) × (tripleListLength ≤ length (now edges)) ⌝ }
+    ensures { λ r. ⌜ BuildShown shapes arities (now (nodes .entry)) (now (triples .entry)) (now (masks .entry)) (now (records .entry))
+        (now (records .exit)) (now (edges .entry)) (now (edges .exit)) r ⌝ }
 {
     let found = find_clash(&shapes, nodes, triples, masks);
     match found {

@@ -134,7 +134,8 @@ module _ {triples last earlier : List ℕ} {k : ℕ} (c : Chained triples last e
   unfolding earlier′ last′
   chain-again = record { begins = begins′; falls = falls′; exactly = exactly′ }
 
-pub chain-done : {triples last earlier : List ℕ} {edges k : ℕ} → Chained triples last earlier k → edges ≡ k → maxNodes ≤ length last → edges ≤ length earlier → ByObject triples edges last earlier
+pub chain-done : {triples last earlier : List ℕ} {edges k : ℕ} → Chained triples last earlier k → edges ≡ k → maxNodes ≤ length last
+    → edges ≤ length earlier → ByObject triples edges last earlier
 chain-done {triples} {last} {earlier} {edges} {k} c e h l = subst (λ n. n ≤ length earlier → ByObject triples n last earlier) (sym e) (λ g. record {
   heads = h;
   links = g;

@@ -52,7 +52,8 @@ pub record Counting (triples : List ℕ) (edges : ℕ) (first : List ℕ) (k n :
 pub count-start : {triples first : List ℕ} {edges : ℕ} → Counting triples edges first 0 0
 count-start = record { inside = omega arith; low = λ j l. absurd (omega arith); counts = λ m l. absurd (omega arith) }
 
-pub count-again : {triples first : List ℕ} {edges k n r : ℕ} → SubjectsRise triples edges → n < length first → Counting triples edges first k n → SkippedTo triples edges k n r → Counting triples edges (set first n r) r (n + 1)
+pub count-again : {triples first : List ℕ} {edges k n r : ℕ} → SubjectsRise triples edges → n < length first → Counting triples edges first k n
+    → SkippedTo triples edges k n r → Counting triples edges (set first n r) r (n + 1)
 count-again {triples} {first} {edges} {k} {n} {r} up room c s = record {
   inside = s .inside;
   low = λ j l. let z = low′ j l in omega arith;
@@ -75,7 +76,8 @@ count-again {triples} {first} {edges} {k} {n} {r} up room c s = record {
         omega arith
 
     go : (m : ℕ) → m < n + 1 → Dec (m ≡ n) → SubjectsBelow triples edges m (getD (set first n r) m 0)
-    go m l (yes p) = subst (λ x. SubjectsBelow triples edges x (getD (set first n r) x 0)) (sym p) (subst (SubjectsBelow triples edges n) (sym (getD-set-same first n r 0 room)) (record { inside = s .inside; below = low′; above = high }))
+    go m l (yes p) = subst (λ x. SubjectsBelow triples edges x (getD (set first n r) x 0)) (sym p)
+        (subst (SubjectsBelow triples edges n) (sym (getD-set-same first n r 0 room)) (record { inside = s .inside; below = low′; above = high }))
     go m l (no p) = subst (SubjectsBelow triples edges m) (sym (getD-set-other first n m r 0 p)) (c .counts m (omega arith))
 
 pub count-done : {triples first : List ℕ} {edges k n : ℕ} → maxNodes < n → maxNodes + 1 ≤ length first → Counting triples edges first k n → BySubject triples edges first

@@ -146,8 +146,10 @@ fn seed_edge(
     from: usize,
     flags: &mut [u16],
 ) -> usize
-    requires { ⌜ InOrder _<_ (now triples) × (subject < maxCoreNodes) × (p < maxPredicates) × (from ≡ keysBefore (originAt subject p) (now triples)) × (memberSets ≤ length (now flags)) × CodesFit (now shapes) ⌝ }
-    ensures { λ r. ⌜ SeedShown (now (shapes .entry)) (now (triples .entry)) subject mask p (now (flags .entry)) (now (flags .exit)) × (r ≡ keysBefore (originAt subject p + 1) (now (triples .entry))) ⌝ }
+    requires { ⌜ InOrder _<_ (now triples) × (subject < maxCoreNodes) × (p < maxPredicates) × (from ≡ keysBefore (originAt subject p) (now triples))
+        × (memberSets ≤ length (now flags)) × CodesFit (now shapes) ⌝ }
+    ensures { λ r. ⌜ SeedShown (now (shapes .entry)) (now (triples .entry)) subject mask p (now (flags .entry)) (now (flags .exit))
+        × (r ≡ keysBefore (originAt subject p + 1) (now (triples .entry))) ⌝ }
 {
     let at = after(triples, (subject * PREDICATES + p) as u64, from);
     if at != from {
@@ -166,8 +168,10 @@ fn seed_node(
     from: usize,
     flags: &mut [u16],
 ) -> usize
-    requires { ⌜ InOrder _<_ (now triples) × (subject < maxCoreNodes) × (from ≡ keysBefore (originAt subject 0) (now triples)) × (memberSets ≤ length (now flags)) × CodesFit (now shapes) ⌝ }
-    ensures { λ r. ⌜ SeedNodeShown (now (shapes .entry)) (now (triples .entry)) subject mask (now (flags .entry)) (now (flags .exit)) × (r ≡ keysBefore (originAt subject maxPredicates) (now (triples .entry))) ⌝ }
+    requires { ⌜ InOrder _<_ (now triples) × (subject < maxCoreNodes) × (from ≡ keysBefore (originAt subject 0) (now triples))
+        × (memberSets ≤ length (now flags)) × CodesFit (now shapes) ⌝ }
+    ensures { λ r. ⌜ SeedNodeShown (now (shapes .entry)) (now (triples .entry)) subject mask (now (flags .entry)) (now (flags .exit))
+        × (r ≡ keysBefore (originAt subject maxPredicates) (now (triples .entry))) ⌝ }
 {
     let mut at = from;
     for p in 0..MAX_PREDICATES {

@@ -28,13 +28,15 @@ module _ {A : Type 0} (N : A → List ℕ → Type 0) (w : ℕ) where
         let r = record-end i (length done) w (inside done i x f) in
         subst (N x) (sym (same-part w (i * w) (length done * w) out′ out r (ap (take (length done * w)) (p .is) ∙ written-before (length done * w) numbers out (omega arith)))) (h .each i x f))
         (λ f g.
-        let e : take w (drop (length done * w) out′) ≡ numbers = ap (λ (ys : List ℕ). take w (drop (length done * w) ys)) (p .is) ∙ written-there (length done * w) numbers out (omega arith) m in
+        let e : take w (drop (length done * w) out′) ≡ numbers = ap (λ (ys : List ℕ). take w (drop (length done * w) ys)) (p .is)
+        ∙ written-there (length done * w) numbers out (omega arith) m in
         let here = subst (N a) (sym e) n in
         subst (λ (j : ℕ). N x (take w (drop (j * w) out′))) (sym f) (subst (λ (y : A). N y (take w (drop (length done * w) out′))) g here));
   }
 
   -- numbers past the records may change
-  pub held-kept : {xs : List A} {at end : ℕ} {out out′ : List ℕ} → RecordsHeld N w xs at out → at + length xs * w ≤ end → take end out′ ≡ take end out → RecordsHeld N w xs at out′
+  pub held-kept : {xs : List A} {at end : ℕ} {out out′ : List ℕ} → RecordsHeld N w xs at out → at + length xs * w ≤ end → take end out′ ≡ take end out
+      → RecordsHeld N w xs at out′
   held-kept {xs} {at} {end} {out} {out′} h l e = record {
     each = λ i x f.
         let r = record-end i (length xs) w (inside xs i x f) in
@@ -45,7 +47,8 @@ module _ {A : Type 0} (N : A → List ℕ → Type 0) (w : ℕ) where
   }
 
   -- in a part of a list, and in the list
-  pub held-at : {xs : List A} (at : ℕ) {part out : List ℕ} → RecordsHeld N w xs 0 part → length xs * w ≤ length part → take (length part) (drop at out) ≡ part → RecordsHeld N w xs at out
+  pub held-at : {xs : List A} (at : ℕ) {part out : List ℕ} → RecordsHeld N w xs 0 part → length xs * w ≤ length part
+      → take (length part) (drop at out) ≡ part → RecordsHeld N w xs at out
   held-at {xs} at {part} {out} h l e = record {
     each = λ i x f.
         let r = record-end i (length xs) w (inside xs i x f) in

@@ -38,8 +38,16 @@ nil (some a) = refl
 pub no-pack : (s : List ℕ) (i : ℕ) → i < bodies → NoPart i s → unpack s ≡ none
 unfolding unpack bodyKind limitOf
 no-pack s =
-    each-at bodies (λ i. NoPart i s → unpack s ≡ none)
-    (λ e. rw e, (λ e. simp (e, nil), (λ e. simp (e, nil), (λ e. simp (e, nil), (λ e. simp (e, nil), (λ e. simp (e, nil), (λ e. simp (e, nil), (λ e. simp (e, nil), (λ e. simp (e, nil), tt)))))))))
+    each-at bodies (λ i. NoPart i s → unpack s ≡ none) (
+      λ e. rw e,
+      (
+        λ e. simp (e, nil),
+        (
+          λ e. simp (e, nil),
+          (λ e. simp (e, nil), (λ e. simp (e, nil), (λ e. simp (e, nil), (λ e. simp (e, nil), (λ e. simp (e, nil), (λ e. simp (e, nil), tt)))))),
+        ),
+      ),
+    )
 
 -- ---- rows one after another are all their numbers
 

@@ -106,7 +106,9 @@ module _ (rows : List ℕ) (relation : ℕ) (own order start : List ℕ) where
         forth k (inr m) = later (i .list .members k .0 m)
 
         same : (σ : Assignment) → CellsAre rows (r * rowWidth + 1) own σ → map (masked start σ) order ≡ map (masked start (cellOf rows (r * rowWidth + 1) own)) order
-        same σ g = map-same (masked start σ) (masked start (cellOf rows (r * rowWidth + 1) own)) order (λ v o. ap (λ x. cond (eqb (getD start v 0) unused) x (getD start v 0)) (cells-same rows (r * rowWidth + 1) own σ g v (among v o)))
+        same σ g =
+            map-same (masked start σ) (masked start (cellOf rows (r * rowWidth + 1) own)) order
+            (λ v o. ap (λ x. cond (eqb (getD start v 0) unused) x (getD start v 0)) (cells-same rows (r * rowWidth + 1) own σ g v (among v o)))
 
         back : (k : ℕ) → Early (r + 1) k → (k ≡ key) ⊎ (k ∈ take n out)
         back k x = go (ℕ-discrete (x .candidate .index) r)
@@ -117,7 +119,8 @@ module _ (rows : List ℕ) (relation : ℕ) (own order start : List ℕ) where
                 ∙ ap stacked (same (x .candidate .values) (subst (λ j. CellsAre rows (j * rowWidth + 1) own (x .candidate .values)) y (x .candidate .cells))) ∙ sym e)
             go (no d) = inr (i .list .members k .1 (sooner x d))
 
-    pub collect-more : {r′ : ℕ} → r′ ≡ r → Among order own → {firsts : List ℕ} → FirstColumns own own firsts → {c : ℕ} → Cells rows (r * rowWidth + 1) firsts c → length own ≤ c
+    pub collect-more : {r′ : ℕ} → r′ ≡ r → Among order own → {firsts : List ℕ} → FirstColumns own own firsts → {c : ℕ}
+        → Cells rows (r * rowWidth + 1) firsts c → length own ≤ c
         → {cols : List ℕ} → FirstColumns own order cols → (key : ℕ) → KeyFrom key rows (r * rowWidth + 1) order cols start → getD rows (r * rowWidth) 0 ≡ relation
         → (m : ℕ) (out′ : List ℕ) → (m ≤ n + 1) × ListOf _<_ (λ k. (k ≡ key) ⊎ (k ∈ take n out)) (take m out′) → length out′ ≡ length out
         → Collected out₀ (r′ + 1) m key out′

@@ -43,7 +43,8 @@ module _ {numbers : List ℕ} {j : ℕ} {a : Atom} (b : BlockAt atomNumbers atom
         length-drop (j * atomWidth + 2) numbers,
       )
 
-      same : (c : ℕ) → c < length (take (length (a .variables)) (drop (j * atomWidth + 2) numbers)) → getD (take (length (a .variables)) (drop (j * atomWidth + 2) numbers)) c 0 ≡ getD (a .variables) c 0
+      same : (c : ℕ) → c < length (take (length (a .variables)) (drop (j * atomWidth + 2) numbers))
+          → getD (take (length (a .variables)) (drop (j * atomWidth + 2) numbers)) c 0 ≡ getD (a .variables) c 0
       same c h =
           let l : c < length (a .variables) = omega (arith, h, long) in
           let e : j * atomWidth + 2 + c ≡ j * atomWidth + suc (suc c) = omega arith in

@@ -61,7 +61,8 @@ unfolding variablesFrom
 from-none atoms j = refl
 
 module _ {atoms : List ℕ} {count : ℕ} {vars : List ℕ} {j : ℕ} {seen : List ℕ} (m : Freshening atoms count vars j seen) where
-  pub fresh-again : j < count → (a k : ℕ) → a ≡ j * atomWidth + 2 → k ≡ getD atoms (j * atomWidth + 1) 0 → (seen′ : List ℕ) → seen′ ≡ foldl marked seen (take (a + k - a) (drop a atoms))
+  pub fresh-again : j < count → (a k : ℕ) → a ≡ j * atomWidth + 2 → k ≡ getD atoms (j * atomWidth + 1) 0 → (seen′ : List ℕ)
+      → seen′ ≡ foldl marked seen (take (a + k - a) (drop a atoms))
       → Freshening atoms count vars (j + 1) seen′
   fresh-again h a k p q seen′ e =
       let c : a + k - a ≡ k = omega arith in
@@ -69,7 +70,14 @@ module _ {atoms : List ℕ} {count : ℕ} {vars : List ℕ} {j : ℕ} {seen : Li
       let n : count - j ≡ suc (count - (j + 1)) = omega arith in
       record {
         within = omega arith;
-        is = rw (add-one, d, ← (foldl-append marked seen (variablesAt atoms j) (variablesFrom atoms (suc j) (count - suc j) ++ vars)), ← (append-assoc (variablesAt atoms j) (variablesFrom atoms (suc j) (count - suc j)) vars), ← (from-next atoms j (count - suc j)))
+        is =
+            rw (
+              add-one,
+              d,
+              ← (foldl-append marked seen (variablesAt atoms j) (variablesFrom atoms (suc j) (count - suc j) ++ vars)),
+              ← (append-assoc (variablesAt atoms j) (variablesFrom atoms (suc j) (count - suc j)) vars),
+              ← (from-next atoms j (count - suc j)),
+            )
             (rw (n, add-one) at (m .is));
       }
 
@@ -95,7 +103,8 @@ unfolding markOf
 mark-more x n = rw (ne-eqb _ _ n)
 
 module _ (v : ℕ) where
-  pub marks-small : (seen l : List ℕ) → ((getD seen v 0 ≡ unused → ⊥) → getD seen v 0 < maxValues) → (getD (foldl marked seen l) v 0 ≡ unused → ⊥) → getD (foldl marked seen l) v 0 < maxValues
+  pub marks-small : (seen l : List ℕ) → ((getD seen v 0 ≡ unused → ⊥) → getD seen v 0 < maxValues) → (getD (foldl marked seen l) v 0 ≡ unused → ⊥)
+      → getD (foldl marked seen l) v 0 < maxValues
   marks-small seen [] s b = s b
   marks-small seen (x ∷ l) s b = marks-small (marked seen x) l (λ n. go n (ℕ-discrete v x) (decLt x (length seen))) b
     where

@@ -189,7 +189,9 @@ module _ {rows : List Row} {atoms : List Atom} {vars rowN atomN : List ℕ} {cou
           λ c u. sym (row-cell (x .2) (omega (arith, long, short)) c (omega (arith, u, size, long))) ∙ d .cells c u in
           let small : (v : ℕ) → v ∈ variablesAt atomN j → d .values v < maxValues =
           λ v m. let q = ∈-index m in
-          subst (λ w. d .values w < maxValues) (q .2) (subst (λ y. y < maxValues) (cell (q .0) (q .1)) (h .values (x .0) (x .1) _ (∈-at (x .0 .cells) (q .0) (omega (arith, q .1, size, long))))) in (
+          subst (λ w. d .values w < maxValues) (q .2)
+          (subst (λ y. y < maxValues) (cell (q .0) (q .1)) (h .values (x .0) (x .1) _ (∈-at (x .0 .cells) (q .0) (omega (arith, q .1, size, long)))))
+          in (
             d .values,
             record {
               row = x .0;

@@ -37,7 +37,8 @@ from-in numbers i (suc n) j v h k m = go (ℕ-discrete j i) (λ d. from-in numbe
     go (no d) rest = Memᴰ·append-right (variablesAt numbers i) (rest d)
 
 -- a variable of two atoms occurs twice
-pub from-twice : (numbers : List ℕ) (o n i j v : ℕ) → o ≤ i → i < j → j < o + n → v ∈ variablesAt numbers i → v ∈ variablesAt numbers j → 2 ≤ times v (variablesFrom numbers o n)
+pub from-twice : (numbers : List ℕ) (o n i j v : ℕ) → o ≤ i → i < j → j < o + n → v ∈ variablesAt numbers i → v ∈ variablesAt numbers j
+    → 2 ≤ times v (variablesFrom numbers o n)
 unfolding variablesFrom
 from-twice numbers o zero i j v a b c x y = absurd (omega (arith, a, b, c))
 from-twice numbers o (suc n) i j v a b c x y = go (ℕ-discrete i o) (λ d. from-twice numbers (suc o) n i j v (omega (arith, a, d)) b (omega (arith, c)) x y)

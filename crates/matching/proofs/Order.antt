@@ -99,7 +99,8 @@ pub record Writing (j : ℕ) (ranks next₀ : List ℕ) (i : ℕ) (next : List �
 pub writing-start : (j : ℕ) (ranks next : List ℕ) → Writing j ranks next 0 next
 writing-start j ranks next = record { within = zero-le; long = refl; variables = λ k m. absurd (omega (arith, m)); earlier = λ k m. refl }
 
-pub writing-again : {j : ℕ} {ranks next₀ : List ℕ} {i : ℕ} {next : List ℕ} → Writing j ranks next₀ i next → i < length ranks → j < maxAtoms → length ranks ≤ maxColumns → length next₀ ≡ atomsLength
+pub writing-again : {j : ℕ} {ranks next₀ : List ℕ} {i : ℕ} {next : List ℕ} → Writing j ranks next₀ i next → i < length ranks → j < maxAtoms
+    → length ranks ≤ maxColumns → length next₀ ≡ atomsLength
     → Writing j ranks next₀ (i + 1) (set next (j * atomWidth + 2 + i) (getD ranks i 0 % maxVariables))
 writing-again {j} {ranks} {next₀} {i} {next} w h t s l = record {
   within = omega arith;
@@ -183,7 +184,8 @@ module _ {atoms : List ℕ} {count j : ℕ} {orders : List ℕ} (o : Ordering at
       let i = ∈-index m in
       let u : i .0 < length ranks = omega (arith, i .1, long-is) in
       let r = g .members (getD ranks (i .0) 0) .0 (∈-at ranks (i .0) u) in
-      let e : r .variable ≡ v = sym (rank-variable (getD seen (r .variable) 0) (r .variable) (small (r .variable) (r .member))) ∙ ap (λ x. x % maxVariables) (sym (r .is)) ∙ sym (at-is (i .0) u) ∙ i .2 in
+      let e : r .variable ≡ v = sym (rank-variable (getD seen (r .variable) 0) (r .variable) (small (r .variable) (r .member)))
+      ∙ ap (λ x. x % maxVariables) (sym (r .is)) ∙ sym (at-is (i .0) u) ∙ i .2 in
       subst (λ x. x ∈ own) e (r .member)
 
   back : (v : ℕ) → v ∈ own → v ∈ variablesAt next j

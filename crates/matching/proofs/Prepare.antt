@@ -32,7 +32,9 @@ module _ {rows atoms orders start : List ℕ} {count : ℕ} {out₀ : List ℕ} 
     (h : j < count) (few : count ≤ maxAtoms) (room : candidatesLength ≤ length out₀) where
   module _ (n arity kept : ℕ) (ys : List ℕ) (q : arity ≡ getD atoms (j * atomWidth + 1) 0) (q′ : kept ≡ getD orders (j * atomWidth + 1) 0)
       (w : (n ≤ length (take (j * maxRows + maxRows - j * maxRows) (drop (j * maxRows) out)))
-      × ListOf _<_ (Candidate rows (getD atoms (j * atomWidth) 0) (take (j * atomWidth + 2 + arity - (j * atomWidth + 2)) (drop (j * atomWidth + 2) atoms)) (take (j * atomWidth + 2 + kept - (j * atomWidth + 2)) (drop (j * atomWidth + 2) orders)) start) (take n ys))
+      × ListOf _<_ (Candidate rows (getD atoms (j * atomWidth) 0)
+      (take (j * atomWidth + 2 + arity - (j * atomWidth + 2)) (drop (j * atomWidth + 2) atoms))
+      (take (j * atomWidth + 2 + kept - (j * atomWidth + 2)) (drop (j * atomWidth + 2) orders)) start) (take n ys))
       (l : length ys ≡ length (take (j * maxRows + maxRows - j * maxRows) (drop (j * maxRows) out))) where
     k-is : j * maxRows + maxRows - j * maxRows ≡ maxRows
     k-is = omega arith
@@ -77,10 +79,12 @@ module _ {rows atoms orders start : List ℕ} {count : ℕ} {out₀ : List ℕ} 
         list-at i m (no d) =
             rw (
               getD-set-other counts j i n 0 d,
-              kept-front (i * maxRows) (getD counts i 0) (j * maxRows) out (ys ++ drop (j * maxRows + maxRows - j * maxRows) (drop (j * maxRows) out)) (omega (arith, m, d, p .counted i (omega (arith, m, d)))) (omega (arith, h, few, room, p .long)),
+              kept-front (i * maxRows) (getD counts i 0) (j * maxRows) out (ys ++ drop (j * maxRows + maxRows - j * maxRows) (drop (j * maxRows) out))
+                  (omega (arith, m, d, p .counted i (omega (arith, m, d)))) (omega (arith, h, few, room, p .long)),
             )
             (p .list i (omega (arith, m, d)))
 
-pub prepare-done : {rows atoms orders start : List ℕ} {count : ℕ} {out₀ : List ℕ} {j : ℕ} {out counts : List ℕ} → Preparing rows atoms orders start count out₀ j out counts → count ≤ j
+pub prepare-done : {rows atoms orders start : List ℕ} {count : ℕ} {out₀ : List ℕ} {j : ℕ} {out counts : List ℕ}
+    → Preparing rows atoms orders start count out₀ j out counts → count ≤ j
     → Prepared rows atoms orders start count out counts
 prepare-done p h = record { counted = λ i l. p .counted i (omega (arith, l, h)); list = λ i l. p .list i (omega (arith, l, h)) }

@@ -51,7 +51,8 @@ module _ {rows : List ℕ} {place : ℕ} {vs cols start : List ℕ} {c key : ℕ
   keying-cell b = b .small (c - 1) (omega (arith, i .within))
 
   -- a value's number x for the column before
-  step : (x : ℕ) → x < maxValues → ((σ : Assignment) → ColumnsAre rows place vs cols σ → masked start σ (getD vs (c - 1) 0) ≡ x) → Keying rows place vs cols start (c - 1) (key * maxValues + x)
+  step : (x : ℕ) → x < maxValues → ((σ : Assignment) → ColumnsAre rows place vs cols σ → masked start σ (getD vs (c - 1) 0) ≡ x)
+      → Keying rows place vs cols start (c - 1) (key * maxValues + x)
   step x b e = record {
     within = omega (arith, i .within);
     small =

@@ -15,7 +15,25 @@ use Rattle.meaning.specs.Ordered.{InOrder}
 use Rattle.meaning.specs.Tables.{packed}
 use Rattle.meaning.proofs.Lists.Members.{map-same}
 use Rattle.meaning.proofs.Lists.Places.{∈-at, ∈-index}
-use Rattle.matching.specs.Plan.{stacked, variablesAt, candidatesAt, Bound, AllBound, Bindings, Extends, KeyVariables, bindingOf, Plan, Solution, Reaches, RowBindings, RowBound, SpanOf, GrownTo, GrownOver}
+use Rattle.matching.specs.Plan.{
+  stacked,
+  variablesAt,
+  candidatesAt,
+  Bound,
+  AllBound,
+  Bindings,
+  Extends,
+  KeyVariables,
+  bindingOf,
+  Plan,
+  Solution,
+  Reaches,
+  RowBindings,
+  RowBound,
+  SpanOf,
+  GrownTo,
+  GrownOver,
+}
 use Rattle.matching.specs.declared.spans.Span.{Span}
 use Rattle.matching.proofs.Columns.{Small}
 use Rattle.matching.proofs.Grown.{grown-same, grown-iff, over-iff, grown-more, over-more}
@@ -46,7 +64,8 @@ pub record Bounds (atoms cands counts : List ℕ) (at : ℕ) : Type 0 where
   pub counted : getD counts at 0 ≤ maxRows
   pub rows : at * maxRows + maxRows ≤ length cands
 
-pub bounds : {atoms : List ℕ} {count : ℕ} {vars cands counts : List ℕ} {at : ℕ} → Plan atoms count vars cands counts → at ≤ count → (at ≡ count → ⊥) → Bounds atoms cands counts at
+pub bounds : {atoms : List ℕ} {count : ℕ} {vars cands counts : List ℕ} {at : ℕ} → Plan atoms count vars cands counts → at ≤ count → (at ≡ count → ⊥)
+    → Bounds atoms cands counts at
 bounds {count = count} {at = at} p h n =
     let l : at < count = omega (arith, h, n) in
     record {
@@ -135,7 +154,8 @@ module _ {atoms : List ℕ} {count : ℕ} {vars cands counts : List ℕ} (p : Pl
         back k t = go (ℕ-discrete (t .index) r)
           where
             go : Dec (t .index ≡ r) → Tried atoms count vars cands counts at env r k
-            go (yes e) = absurd (no-row (t .solution .values) (t .solution .small) (t .solution .extends) (subst (λ x. getD cands (at * maxRows + x) 0 ≡ stacked (map (t .solution .values) (variablesAt atoms at))) e (t .is)))
+            go (yes e) = absurd (no-row (t .solution .values) (t .solution .small) (t .solution .extends)
+                (subst (λ x. getD cands (at * maxRows + x) 0 ≡ stacked (map (t .solution .values) (variablesAt atoms at))) e (t .is)))
             go (no x) = record { solution = t .solution; index = t .index; before = omega (arith, t .before, x); counted = t .counted; is = t .is }
 
     module _ (h : r < getD counts at 0) {next : List ℕ} (w : RowBindings (variablesAt atoms at) (getD cands (at * maxRows + r) 0) env next) where
@@ -226,7 +246,8 @@ pub record Turn (atoms : List ℕ) (count : ℕ) (vars cands counts : List ℕ) 
   pub trying : Trying atoms count vars cands counts at env keys₀ n r m keys
 
 -- an atom is left
-module _ {atoms : List ℕ} {count : ℕ} {vars cands counts : List ℕ} (p : Plan atoms count vars cands counts) {at : ℕ} (h : at ≤ count) (not-all : at ≡ count → ⊥) {env : List ℕ} (b : Bindings env) where
+module _ {atoms : List ℕ} {count : ℕ} {vars cands counts : List ℕ} (p : Plan atoms count vars cands counts) {at : ℕ} (h : at ≤ count)
+    (not-all : at ≡ count → ⊥) {env : List ℕ} (b : Bindings env) where
   atom-left : at < count
   atom-left = omega (arith, h, not-all)
 
@@ -242,7 +263,8 @@ module _ {atoms : List ℕ} {count : ℕ} {vars cands counts : List ℕ} (p : Pl
 
 module _ {atoms : List ℕ} {count : ℕ} {vars cands counts : List ℕ} {at : ℕ} {env keys₀ : List ℕ} {n from to r m : ℕ} {keys : List ℕ}
     (t : Turn atoms count vars cands counts at env keys₀ n from to r m keys) where
-  turn : {r′ m′ : ℕ} {keys′ : List ℕ} → Trying atoms count vars cands counts at env keys₀ n r′ m′ keys′ → Turn atoms count vars cands counts at env keys₀ n from to r′ m′ keys′
+  turn : {r′ m′ : ℕ} {keys′ : List ℕ} → Trying atoms count vars cands counts at env keys₀ n r′ m′ keys′
+      → Turn atoms count vars cands counts at env keys₀ n from to r′ m′ keys′
   turn w = record { plan = t .plan; left = t .left; bindings = t .bindings; reaches = t .reaches; span = t .span; trying = w }
 
   pub turn-room : (m ≤ length keys) × InOrder _<_ (take m keys)

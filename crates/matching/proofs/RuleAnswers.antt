@@ -25,7 +25,8 @@ use Rattle.meaning.proofs.Lists.Places.{∈-at, ∈-index}
 use Rattle.meaning.proofs.Lists.Counting.{over-sub}
 
 -- the keys of a set that was empty
-pub grown-answers : (r : Heads) (keys keys′ : List ℕ) {P Q : ℕ → Type 0} → ((k : ℕ) → P k ↔ Q k) → length keys′ ≡ length keys → KeysGrown r keys 0 P keys′ → ListedOrOver r keys′ Q
+pub grown-answers : (r : Heads) (keys keys′ : List ℕ) {P Q : ℕ → Type 0} → ((k : ℕ) → P k ↔ Q k) → length keys′ ≡ length keys
+    → KeysGrown r keys 0 P keys′ → ListedOrOver r keys′ Q
 grown-answers (Listed m) keys keys′ f e g = (omega (arith, g .room, e), list-as (λ k. (⊎-elim (λ m. elim m [ ]) (f k .0), λ q. inr (f k .1 q))) (g .list))
 grown-answers Over keys keys′ f e g = rw e (over-sub (λ k. ⊎-elim (λ m. elim m [ ]) (f k .0)) (g .over))
 
@@ -69,7 +70,8 @@ module _ {rows : List Row} {atoms : List Atom} {vars rowN atomN : List ℕ} {cou
   pub few-rows : length rowN ≤ rowsLength
   few-rows = omega (arith, rows-long h, h .fewRows)
 
-  cells : (j : ℕ) → j < count → (r : ℕ) → suc r * rowWidth ≤ length rowN → getD rowN (r * rowWidth) 0 ≡ getD atomN (j * atomWidth) 0 → (c : ℕ) → c < length (variablesAt atomN j) → getD rowN (r * rowWidth + 1 + c) 0 < maxValues
+  cells : (j : ℕ) → j < count → (r : ℕ) → suc r * rowWidth ≤ length rowN → getD rowN (r * rowWidth) 0 ≡ getD atomN (j * atomWidth) 0 → (c : ℕ)
+      → c < length (variablesAt atomN j) → getD rowN (r * rowWidth + 1 + c) 0 < maxValues
   cells j l r w e c u =
       let a = atom-at h j l in
       let s = h .short (a .0) (a .1) in
@@ -87,7 +89,8 @@ module _ {rows : List Row} {atoms : List Atom} {vars rowN atomN : List ℕ} {cou
     small j l key m =
         let d = p .list j l .members key .0 m in
         rw (d .is, ← (map-long (masked start (d .values)) (variablesAt orders j)))
-        (stacked-small (map (masked start (d .values)) (variablesAt orders j)) (map-bytes (masked start (d .values)) (variablesAt orders j) (λ v n. byte (d .values) v (value d v (t .same j l v .0 n)))))
+        (stacked-small (map (masked start (d .values)) (variablesAt orders j))
+        (map-bytes (masked start (d .values)) (variablesAt orders j) (λ v n. byte (d .values) v (value d v (t .same j l v .0 n)))))
       where
         byte : (σ : Assignment) (v : ℕ) → σ v < maxValues → masked start σ v < maxValues
         byte σ v b = case-on (eqb (getD start v 0) unused) (λ e. rw e b) (λ e. rw e (g .small v (eqb-false (getD start v 0) unused e)))

@@ -16,7 +16,22 @@ ghost use Prim.Native.Nat.{_≤_, _<_, _+_, _*_};
 ghost use mathlib.Core.Logic.{_⊎_};
 ghost use Rattle.meaning.specs.Member.{_∈_};
 ghost use Rattle.meaning.specs.Ordered.{InOrder, ListOf};
-ghost use Rattle.matching.specs.Plan.{Among, KeyVariables, Bindings, columnOf, FirstColumns, ColumnsBytes, KeyFrom, RowsBytes, Candidate, AtomsBelow, AtomsBytes, SameVariables, Prepared, Unmatched};
+ghost use Rattle.matching.specs.Plan.{
+  Among,
+  KeyVariables,
+  Bindings,
+  columnOf,
+  FirstColumns,
+  ColumnsBytes,
+  KeyFrom,
+  RowsBytes,
+  Candidate,
+  AtomsBelow,
+  AtomsBytes,
+  SameVariables,
+  Prepared,
+  Unmatched,
+};
 ghost use Rattle.meaning.specs.Limits.{candidatesLength, keyWidth, maxAtoms, rowsLength, rowWidth};
 
 // The first column that has the variable; the count of the columns where none has.
@@ -104,7 +119,8 @@ fn candidates(
     start: [u16; MAX_VARIABLES],
     out: &mut [u64],
 ) -> usize
-    requires { ⌜ KeyVariables (now own) × KeyVariables (now order) × Among (now order) (now own) × Bindings start × RowsBytes (now rows) relation (length (now own)) × (length (now rows) ≤ length (now out) * rowWidth) ⌝ }
+    requires { ⌜ KeyVariables (now own) × KeyVariables (now order) × Among (now order) (now own) × Bindings start
+        × RowsBytes (now rows) relation (length (now own)) × (length (now rows) ≤ length (now out) * rowWidth) ⌝ }
     ensures { λ n. ⌜ (n ≤ length (now (out .entry))) × ListOf _<_ (Candidate (now (rows .entry)) relation (now (own .entry)) (now (order .entry)) start) (take n (now (out .exit))) ⌝ }
 {
     let firsts = columns(own, own);
@@ -137,7 +153,8 @@ pub fn all_candidates(
     start: [u16; MAX_VARIABLES],
     out: &mut [u64],
 ) -> [u16; MAX_ATOMS]
-    requires { ⌜ AtomsBelow (now atoms) count × AtomsBelow (now orders) count × SameVariables (now atoms) (now orders) count × Bindings start × AtomsBytes (now rows) (now atoms) count × (length (now rows) ≤ rowsLength) × (candidatesLength ≤ length (now out)) ⌝ }
+    requires { ⌜ AtomsBelow (now atoms) count × AtomsBelow (now orders) count × SameVariables (now atoms) (now orders) count × Bindings start
+        × AtomsBytes (now rows) (now atoms) count × (length (now rows) ≤ rowsLength) × (candidatesLength ≤ length (now out)) ⌝ }
     ensures { λ counts. ⌜ Prepared (now (rows .entry)) (now (atoms .entry)) (now (orders .entry)) start count (now (out .exit)) counts ⌝ }
 {
     let mut counts = [0u16; MAX_ATOMS];

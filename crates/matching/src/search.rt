@@ -25,7 +25,8 @@ pub fn add_heads(
     keys: &mut [u64],
     n: usize,
 ) -> Heads
-    requires { ⌜ Plan (now atoms) «atom_count» (now vars) (now cands) counts × (at ≤ «atom_count») × Bindings env × Reaches (now atoms) «atom_count» (now vars) (now cands) counts at env × (n ≤ length (now keys)) × InOrder _<_ (take n (now keys)) ⌝ }
+    requires { ⌜ Plan (now atoms) «atom_count» (now vars) (now cands) counts × (at ≤ «atom_count») × Bindings env
+        × Reaches (now atoms) «atom_count» (now vars) (now cands) counts at env × (n ≤ length (now keys)) × InOrder _<_ (take n (now keys)) ⌝ }
     ensures { λ r. ⌜ KeysGrown r (now (keys .entry)) n (Solution (now (atoms .entry)) «atom_count» (now (vars .entry)) (now (cands .entry)) counts at env) (now (keys .exit)) ⌝ }
 {
     if at == atom_count {

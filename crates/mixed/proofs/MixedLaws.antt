@@ -86,7 +86,10 @@ module _ {P : Pack} {table : List (List ℕ)} {nodes triples masks : List ℕ} (
               iriLiteral c vs (masked I (iriNode c vs) i k e .types Literal .0
               (subst T (sym (mixed-iri (keyOf (iriNode c vs)) (getD masks i 0) (iri-key-lt P (I .bounded) c vs (proper P (well I) k)))) q))
           by (literalNode v) k e q =
-              let b = some-bit (getD masks i 0 % literalWeight) (T-not-eq (getD masks i 0 % literalWeight) (subst T (sym (mixed-literal (keyOf (literalNode v)) (getD masks i 0) (literal-key v))) q)) (omega arith) in
+              let b =
+              some-bit (getD masks i 0 % literalWeight)
+              (T-not-eq (getD masks i 0 % literalWeight) (subst T (sym (mixed-literal (keyOf (literalNode v)) (getD masks i 0) (literal-key v))) q))
+              (omega arith) in
               literalTyped v (b .0) (masked I (literalNode v) i k e .types (type (b .0)) .0 (b .1))
 
   literal-mixed : (v t : ℕ) → CoreType P (literalNode v) (type t) → MixedCore nodes masks

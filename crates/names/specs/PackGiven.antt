@@ -7,7 +7,29 @@ use mathlib.Core.Path.{_≡_}
 use Prim.Native.Nat.{ℕ, _*_, _≤_, _<_}
 use Rattle.records.specs.PackHeld.{SettingNumbers}
 use Rattle.records.specs.Numbers.{NumbersOf}
-use Rattle.meaning.specs.Limits.{dependencyWidth, literalTarget, maxArguments, maxAtoms, maxColumns, maxConstructors, maxDependencies, maxHeadVariables, maxPredicates, maxRelations, maxRows, maxRules, maxShapes, maxTypes, maxValues, maxVariables, rowWidth, rowsBody, settingLength, shapeWidth, unused}
+use Rattle.meaning.specs.Limits.{
+  dependencyWidth,
+  literalTarget,
+  maxArguments,
+  maxAtoms,
+  maxColumns,
+  maxConstructors,
+  maxDependencies,
+  maxHeadVariables,
+  maxPredicates,
+  maxRelations,
+  maxRows,
+  maxRules,
+  maxShapes,
+  maxTypes,
+  maxValues,
+  maxVariables,
+  rowWidth,
+  rowsBody,
+  settingLength,
+  shapeWidth,
+  unused,
+}
 use Rattle.meaning.specs.Member.{_∈_}
 use Rattle.meaning.specs.Pack.{Atom, Constructor, Dependency, Pack, Row, Rule, ShapeRecord, type}
 use Rattle.meaning.specs.Tables.{RowsHeld, headArguments, rowNumbers}

@@ -37,7 +37,8 @@ core-flat : (arities ks ms : List ℕ) → length (flatten (coreRecords arities 
 unfolding coreRecords flatten
 core-flat arities [] ms = refl
 core-flat arities (k ∷ ks) [] = length-append (coreNumbers arities k 0) (flatten (coreRecords arities ks [])) ∙ (let a = numbers-long arities k 0 in let b = core-flat arities ks [] in omega arith)
-core-flat arities (k ∷ ks) (m ∷ ms) = length-append (coreNumbers arities k m) (flatten (coreRecords arities ks ms)) ∙ (let a = numbers-long arities k m in let b = core-flat arities ks ms in omega arith)
+core-flat arities (k ∷ ks) (m ∷ ms) = length-append (coreNumbers arities k m) (flatten (coreRecords arities ks ms))
+    ∙ (let a = numbers-long arities k m in let b = core-flat arities ks ms in omega arith)
 
 sets-flat : (js : List ℕ) → length (flatten (map setNumbers js)) ≡ length js * nodeWidth
 unfolding flatten
@@ -118,7 +119,8 @@ module _ {P : Pack} {table : List (List ℕ)} {nodes triples masks flags : List 
           let q : j ≡ slotOf (s .0) = sym (number-of-at j h) ∙ s .2 in
           there-at (s .0) (s .1) (subst (λ x. getD flags x 0 ≡ 1) q f) q
 
-  pub nodes-listed : (places out : List ℕ) (r : ℕ) (out₁ out₂ : List ℕ) → length nodes ≤ maxCoreNodes → nodeListLength ≤ length out → out₁ ≡ overwritten 0 (flatten (coreRecords arities nodes masks)) out
+  pub nodes-listed : (places out : List ℕ) (r : ℕ) (out₁ out₂ : List ℕ) → length nodes ≤ maxCoreNodes → nodeListLength ≤ length out
+      → out₁ ≡ overwritten 0 (flatten (coreRecords arities nodes masks)) out
       → SetsListed flags (length nodes) places out₁ out₂ r → NodesListed P places out out₂ r
   nodes-listed places out r out₁ out₂ few room e l = record {
     inOrder = inOrder I sets clean;
@@ -126,7 +128,8 @@ module _ {P : Pack} {table : List (List ℕ)} {nodes triples masks flags : List 
     records = coreRecords arities nodes masks ++ map setNumbers (setList flags);
     recorded = nodes-recorded I sets clean arities ar;
     counted = l .count ∙ sym (length-append (coreRecords arities nodes masks) (map setNumbers (setList flags))
-        ∙ both-counts (length (coreRecords arities nodes masks)) (length (map setNumbers (setList flags))) (length nodes) (length (setList flags)) (core-long arities nodes masks) (length-map (setList flags) setNumbers));
+        ∙ both-counts (length (coreRecords arities nodes masks)) (length (map setNumbers (setList flags))) (length nodes) (length (setList flags))
+        (core-long arities nodes masks) (length-map (setList flags) setNumbers));
     few = omega (arith, l .count, set-count flags);
     written = l .nodes ∙ ap (λ x. overwritten (length nodes * nodeWidth) sn x) e ∙ two-parts (length nodes * nodeWidth) cn sn out (core-flat arities nodes masks) fit
         ∙ ap (λ x. (cn ++ sn) ++ drop x out) (same-count (length nodes) (length (setList flags)) (length sn) r (l .count) (sets-flat (setList flags)))

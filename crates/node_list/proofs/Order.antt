@@ -255,11 +255,13 @@ module _ {P : Pack} {table : List (List ℕ)} {nodes triples masks : List ℕ} (
     nodes-recorded arities ar =
         join (map core (all-nodes .list)) (coreRecords arities nodes masks)
         (subst (λ ks. Forall₂ (NodeRecord P) (map core (all-nodes .list)) (coreRecords arities ks masks)) (all-nodes .keys)
-        (core-records arities ar (all-nodes .list) masks (all-nodes .inCore) (λ i n e. masked I n i (all-nodes .inCore n (element (all-nodes .list) i n e)) (key-at (all-nodes .list) nodes (all-nodes .keys) i n e))
+        (core-records arities ar (all-nodes .list) masks (all-nodes .inCore)
+        (λ i n e. masked I n i (all-nodes .inCore n (element (all-nodes .list) i n e)) (key-at (all-nodes .list) nodes (all-nodes .keys) i n e))
         (let h = I .held .long in let q = length-map (all-nodes .list) keyOf in let k = ap length (all-nodes .keys) in omega arith)))
         (each (setsFrom flags 0 typeSets) (λ j m. slot-in flags 0 typeSets j m))
       where
-        join : (bs : List BuiltNode) (rs : List (List ℕ)) {cs : List BuiltNode} {ss : List (List ℕ)} → Forall₂ (NodeRecord P) bs rs → Forall₂ (NodeRecord P) cs ss → Forall₂ (NodeRecord P) (bs ++ cs) (rs ++ ss)
+        join : (bs : List BuiltNode) (rs : List (List ℕ)) {cs : List BuiltNode} {ss : List (List ℕ)} → Forall₂ (NodeRecord P) bs rs
+            → Forall₂ (NodeRecord P) cs ss → Forall₂ (NodeRecord P) (bs ++ cs) (rs ++ ss)
         join [] [] Forall₂·nil y = y
         join (b ∷ bs) (r ∷ rs) (Forall₂·cons x xs) y = Forall₂·cons x (join bs rs xs y)
 

@@ -59,7 +59,9 @@ module _ (P : Pack) (b : Bounded P) (arities : List ℕ) (ar : Arities P arities
   core-record (literalNode v) x m = record {
     types = mask % literalWeight;
     weigh = λ t. m .types (type t);
-    are = sym (literal-numbers arities (firstLiteral + v) mask (omega arith)) ∙ (let e : firstLiteral + v - firstLiteral ≡ v = omega arith in λ i. 1 ∷ e i ∷ (mask % literalWeight) ∷ unused ∷ unused ∷ unused ∷ unused ∷ []);
+    are =
+        sym (literal-numbers arities (firstLiteral + v) mask (omega arith))
+        ∙ (let e : firstLiteral + v - firstLiteral ≡ v = omega arith in λ i. 1 ∷ e i ∷ (mask % literalWeight) ∷ unused ∷ unused ∷ unused ∷ unused ∷ []);
   }
   core-record (iriNode c vs) x m = record {
     types = mask % literalWeight;

@@ -128,7 +128,8 @@ module _ {flags : List ℕ} {first k node : ℕ} {out₀ places out : List ℕ} 
       go l g e (no q) = getD-set-other places (slotOf k) (slotOf l) node 0 (λ r. q (slot-one l k (omega arith) h r)) ∙ n .placed l (omega arith) e
 
   -- one step of the loop
-  pub numbering-step : (node′ : ℕ) (places′ out′ : List ℕ) → SetListed flags (slotOf k) node places places′ out out′ node′ → memberSets ≤ length places → node * nodeWidth + nodeWidth ≤ length out₀
+  pub numbering-step : (node′ : ℕ) (places′ out′ : List ℕ) → SetListed flags (slotOf k) node places places′ out out′ node′
+      → memberSets ≤ length places → node * nodeWidth + nodeWidth ≤ length out₀
       → Numbering flags first (k + 1) node′ out₀ places′ out′
   numbering-step node′ places′ out′ l long room = go (ℕ-discrete (getD flags (slotOf k) 0) 1)
     where
@@ -147,7 +148,8 @@ set-listed flags j node places out out′ e o = record { yes = λ m. (refl, refl
 pub set-skipped : (flags : List ℕ) (j node : ℕ) (places out : List ℕ) → (getD flags j 0 ≡ 1 → ⊥) → SetListed flags j node places places out out node
 set-skipped flags j node places out n = record { yes = λ e. absurd (n e); no = λ m. (refl, refl, refl) }
 
-pub numbering-done : {flags : List ℕ} {first k node : ℕ} {out₀ places out : List ℕ} → Numbering flags first k node out₀ places out → k ≡ typeSets → first ≤ maxCoreNodes → nodeListLength ≤ length out₀
+pub numbering-done : {flags : List ℕ} {first k node : ℕ} {out₀ places out : List ℕ} → Numbering flags first k node out₀ places out → k ≡ typeSets
+    → first ≤ maxCoreNodes → nodeListLength ≤ length out₀
     → SetsListed flags first places out₀ out node
 unfolding setList setsFrom
 numbering-done {flags} {first} {k} {node} {out₀} {places} {out} n e f l = record {

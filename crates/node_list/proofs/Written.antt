@@ -31,7 +31,8 @@ module _ (arities : List ℕ) (key mask : ℕ) where
   literal-numbers h = sym (rw (le-ltb key firstLiteral h) refl)
 
   pub iri-numbers : key < firstLiteral → (a b c d : ℕ) → let arity = getD arities (key / termRoom) 0 in
-      a ≡ argumentAt (ltb 0 arity) (key / maxValues ^ 3) → b ≡ argumentAt (ltb 1 arity) (key / maxValues ^ 2) → c ≡ argumentAt (ltb 2 arity) (key / maxValues) → d ≡ argumentAt (ltb 3 arity) key
+      a ≡ argumentAt (ltb 0 arity) (key / maxValues ^ 3) → b ≡ argumentAt (ltb 1 arity) (key / maxValues ^ 2)
+      → c ≡ argumentAt (ltb 2 arity) (key / maxValues) → d ≡ argumentAt (ltb 3 arity) key
       → 0 ∷ (key / termRoom) ∷ (mask % literalWeight) ∷ a ∷ b ∷ c ∷ d ∷ [] ≡ coreNumbers arities key mask
   unfolding coreNumbers iriNumbers
   iri-numbers h a b c d ea eb ec ed = rw (ea, eb, ec, ed) (sym (rw (lt-ltb key firstLiteral h) refl))

@@ -152,8 +152,10 @@ pub fn list_nodes(
     places: &mut [u16],
     out: &mut [u16],
 ) -> usize
-    requires { ⌜ KeysSmall (now nodes) × (length (now nodes) ≤ maxCoreNodes) × (length (now nodes) ≤ length (now masks)) × (memberSets ≤ length (now flags)) × (memberSets ≤ length (now places)) × (nodeListLength ≤ length (now out)) ⌝ }
-    ensures { λ r. ⌜ NodesShown arities (now (nodes .entry)) (now (masks .entry)) (now (flags .entry)) (now (places .exit)) (now (out .entry)) (now (out .exit)) r × SetPlaces (now (flags .entry)) (length (now (nodes .entry))) (now (places .exit)) ⌝ }
+    requires { ⌜ KeysSmall (now nodes) × (length (now nodes) ≤ maxCoreNodes) × (length (now nodes) ≤ length (now masks))
+        × (memberSets ≤ length (now flags)) × (memberSets ≤ length (now places)) × (nodeListLength ≤ length (now out)) ⌝ }
+    ensures { λ r. ⌜ NodesShown arities (now (nodes .entry)) (now (masks .entry)) (now (flags .entry)) (now (places .exit)) (now (out .entry))
+        (now (out .exit)) r × SetPlaces (now (flags .entry)) (length (now (nodes .entry))) (now (places .exit)) ⌝ }
 {
     list_core(arities, nodes, masks, out);
     list_sets(flags, nodes.len(), places, out)

@@ -7,5 +7,7 @@ use Rattle.pack.specs.Records.{atom, atoms, constructor, dependency, hea
 use Rattle.pack.specs.Unpack.{body, readAll, records, unpack}
 
 unfoldable pub checking : Unit {0}
-unfolding word lengthOf startOf bodyOf badSize byte byteIn bytes sized prefixByte value relation dependency name targetOf multiplicityOf shape constructor tuple atom atoms term headOf rule row records readAll body unpack firstTrue onPack checkBy wellFormed firstRefusal duplicates prefixClash dangling agree broken
+unfolding word lengthOf startOf bodyOf badSize byte byteIn bytes sized prefixByte value relation dependency name targetOf multiplicityOf shape
+    constructor tuple atom atoms term headOf rule row records readAll body unpack firstTrue onPack checkBy wellFormed firstRefusal duplicates prefixClash
+    dangling agree broken
 checking = tt

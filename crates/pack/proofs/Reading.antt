@@ -249,7 +249,8 @@ module _ {A : Type 0} (make : ℕ → List ℕ → A) (ok : ℕ → Bool) (most 
           let f : q .rest ≡ left s d = ap (λ (x : Read Pair). x .rest) p in
           rw (a, b, f)
 
-      reads-as : (o : Option (Read ℕ)) → next o (λ n. _>>=_ (sized ok 1 most) (λ xs. give (pair n xs))) ≡ some (record { got = pair (t .number) (textAt s (t .start) (t .len)); rest = left s d })
+      reads-as : (o : Option (Read ℕ)) → next o (λ n. _>>=_ (sized ok 1 most) (λ xs. give (pair n xs))) ≡ some
+          (record { got = pair (t .number) (textAt s (t .start) (t .len)); rest = left s d })
           → next o (λ n. _>>=_ (sized ok 1 most) (λ xs. give (make n xs))) ≡ some (record { got = make (t .number) (textAt s (t .start) (t .len)); rest = left s d })
       reads-as none e = absurd (let z : _≡_ {A = ℕ} 0 1 = cc in omega arith)
       reads-as (some q) e = after-as (q .got) (sized ok 1 most (q .rest)) e

@@ -4,7 +4,28 @@ use mathlib.Core.Bool.{Bool, true, cond, _||_}
 use mathlib.Core.List.{List, [], _∷_}
 use Prim.Native.Nat.{ℕ, zero, suc}
 use Rattle.meaning.specs.Limits.{maxValueBytes, maxColumns, maxNameBytes, literalTarget, maxArguments, maxPrefixBytes, maxAtoms, maxVariables}
-use Rattle.meaning.specs.Pack.{Text, Target, Literal, type, Multiplicity, one, optional, anyNumber, atLeastOne, ShapeRecord, Row, Atom, Term, Head, hasType, linksTo, linksToValue, Rule, Dependency, Constructor}
+use Rattle.meaning.specs.Pack.{
+  Text,
+  Target,
+  Literal,
+  type,
+  Multiplicity,
+  one,
+  optional,
+  anyNumber,
+  atLeastOne,
+  ShapeRecord,
+  Row,
+  Atom,
+  Term,
+  Head,
+  hasType,
+  linksTo,
+  linksToValue,
+  Rule,
+  Dependency,
+  Constructor,
+}
 use Rattle.meaning.specs.Tests.{within, elem}
 use Rattle.pack.specs.Readers.{Reader, give, only, _>>=_, byte, byteIn, sized}
 

@@ -53,7 +53,8 @@ pairs-again found before k i h l j =
     two : drop (i * 2) before ≡ getD before (i * 2) 0 ∷ getD before (suc (i * 2)) 0 ∷ drop ((i + 1) * 2) before
     two =
         drop-cons before (i * 2) 0 (omega arith)
-        ∙ ap (λ z. getD before (i * 2) 0 ∷ z) (drop-cons before (suc (i * 2)) 0 (omega arith) ∙ ap (λ n. getD before (suc (i * 2)) 0 ∷ drop n before) (let z : suc (suc (i * 2)) ≡ (i + 1) * 2 = omega arith in z))
+        ∙ ap (λ z. getD before (i * 2) 0 ∷ z) (drop-cons before (suc (i * 2)) 0 (omega arith)
+        ∙ ap (λ n. getD before (suc (i * 2)) 0 ∷ drop n before) (let z : suc (suc (i * 2)) ≡ (i + 1) * 2 = omega arith in z))
 
 -- the first i pairs are written
 pub record Publishing (found : List ℕ) (i : ℕ) (before now : List ℕ) : Type 0 where
@@ -64,7 +65,8 @@ pub publishing-start : {found before : List ℕ} → Publishing found 0 before b
 unfolding flatten
 publishing-start = record { long = refl; is = refl }
 
-pub publishing-again : {found before now : List ℕ} {k i u v : ℕ} → k ≤ length found → k * pairWidth ≤ length before → i < k → Publishing found i before now → u ≡ pairFrom (getD found i 0) → v ≡ pairTo (getD found i 0)
+pub publishing-again : {found before now : List ℕ} {k i u v : ℕ} → k ≤ length found → k * pairWidth ≤ length before → i < k
+    → Publishing found i before now → u ≡ pairFrom (getD found i 0) → v ≡ pairTo (getD found i 0)
     → Publishing found (i + 1) before (set (set now (2 * i) u) (2 * i + 1) v)
 publishing-again {found} {before} {now} {k} {i} {u} {v} h l j p a b = record {
   long = length-set (set now (2 * i) u) (2 * i + 1) v ∙ length-set now (2 * i) u ∙ p .long;

@@ -35,7 +35,9 @@ pub fn publish(
     pairs: &mut [u16],
 )
     requires { ⌜ CanCopy (count * nodeWidth) (now points) (now nodes) × CanCopy (edges * tripleWidth) (now links) (now triples) × PairsFit k (now found) (now pairs) ⌝ }
-    ensures { λ _. ⌜ (now (nodes .exit) ≡ overlaid (count * nodeWidth) (now (points .entry)) (now (nodes .entry))) × (now (triples .exit) ≡ overlaid (edges * tripleWidth) (now (links .entry)) (now (triples .entry))) × (now (pairs .exit) ≡ withPairs k (now (found .entry)) (now (pairs .entry))) ⌝ }
+    ensures { λ _. ⌜ (now (nodes .exit) ≡ overlaid (count * nodeWidth) (now (points .entry)) (now (nodes .entry)))
+        × (now (triples .exit) ≡ overlaid (edges * tripleWidth) (now (links .entry)) (now (triples .entry)))
+        × (now (pairs .exit) ≡ withPairs k (now (found .entry)) (now (pairs .entry))) ⌝ }
 {
     copy_front(points, count * NODE_WIDTH, nodes);
     copy_front(links, edges * TRIPLE_WIDTH, triples);

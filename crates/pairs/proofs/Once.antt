@@ -26,7 +26,8 @@ use Rattle.spelling.specs.Iri.{plain}
 
 -- ---- the front of the pair list is as long as the count says
 
-pair-flat : {σ : Spelling} {P : Pack} {e : Expr} {bs : List BuiltNode} (rs : List (List ℕ)) → ((r : List ℕ) → r ∈ rs → PairRecord σ P e bs r) → length (flatten rs) ≡ length rs * pairWidth
+pair-flat : {σ : Spelling} {P : Pack} {e : Expr} {bs : List BuiltNode} (rs : List (List ℕ)) → ((r : List ℕ) → r ∈ rs → PairRecord σ P e bs r)
+    → length (flatten rs) ≡ length rs * pairWidth
 unfolding flatten
 pair-flat [] h = refl
 pair-flat (r ∷ rs) h = let l = length-append r (flatten rs) in let m = pair-flat rs (λ q i. h q (there i)) in omega (arith, ap length (h r (here refl) .are))
@@ -49,7 +50,8 @@ module _ {pack query : Text} {r s : PairAnswer} where
   not-both : {gs : List (List ℕ)} → Refuses pack query r → Gives pack query s gs → ⊥
   not-both (before-12 x a) h = prepared.not-both x (h .asked)
   not-both (too-many e i P o n w x q a) h =
-      h .few (subst (λ (z : Pack × Expr). TooManyPairs (plain (z .0)) (z .0) (z .1)) (λ k. (accepted-once pack o (h .asked .graph .has .is) k, one-expression query e (h .asked .expression) i (h .asked .is) k)) x)
+      h .few (subst (λ (z : Pack × Expr). TooManyPairs (plain (z .0)) (z .0) (z .1))
+      (λ k. (accepted-once pack o (h .asked .graph .has .is) k, one-expression query e (h .asked .expression) i (h .asked .is) k)) x)
 
   module _ {fs gs : List (List ℕ)} (g : Gives pack query r fs) (h : Gives pack query s gs) where
     pub one-list : g .records ≡ h .records
@@ -72,5 +74,6 @@ fixed pack query = record { one-refusal = one-refusal; not-both = not-both; one-
 pub answers-once : (pack query : Text) (r s : PairAnswer) (nodes nodes₂ triples triples₂ pairs pairs₂ rows rows₂ heads heads₂ alive alive₂ queue queue₂ seen seen₂ : Contents)
     → SameLengths (lists nodes triples pairs) (lists nodes₂ triples₂ pairs₂) → SameLengths (buffers rows heads alive queue seen) (buffers rows₂ heads₂ alive₂ queue₂ seen₂)
     → PairsAnswers pack query r nodes triples pairs rows heads alive queue seen → PairsAnswers pack query s nodes₂ triples₂ pairs₂ rows₂ heads₂ alive₂ queue₂ seen₂
-    → Same (Refuses pack query) (Gives pack query) r s (lists nodes triples pairs) (lists nodes₂ triples₂ pairs₂) (buffers rows heads alive queue seen) (buffers rows₂ heads₂ alive₂ queue₂ seen₂)
+    → Same (Refuses pack query) (Gives pack query) r s (lists nodes triples pairs) (lists nodes₂ triples₂ pairs₂)
+    (buffers rows heads alive queue seen) (buffers rows₂ heads₂ alive₂ queue₂ seen₂)
 answers-once pack query r s nodes nodes₂ triples triples₂ pairs pairs₂ rows rows₂ heads heads₂ alive alive₂ queue queue₂ seen seen₂ = call-once (fixed pack query)

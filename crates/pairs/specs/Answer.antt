@@ -20,7 +20,8 @@ use Rattle.spelling.specs.Iri.{plain}
 -- 2, then 3 to 11, then 12; the pair count is then 0
 pub data Refuses (pack query : Text) (r : PairAnswer) : Type 0 where
   before-12 : Prepared.Refuses pack query (r .graph) → r .pairs ≡ 0 → Refuses pack query r
-  too-many : (e : Expr) → IsQuery query e → (P : Pack) → firstRefusal pack ≡ accepted P → ¬ TooLarge P → SomeObeys P → TooManyPairs (plain P) P e → r .graph ≡ refusedAs 12 → r .pairs ≡ 0
+  too-many : (e : Expr) → IsQuery query e → (P : Pack) → firstRefusal pack ≡ accepted P → ¬ TooLarge P → SomeObeys P → TooManyPairs (plain P) P e
+      → r .graph ≡ refusedAs 12 → r .pairs ≡ 0
       → Refuses pack query r
 
 -- The graph, and the pairs: "exactly the pairs of named nodes that the query joins in every such graph", ascending; their

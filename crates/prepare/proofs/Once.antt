@@ -16,7 +16,8 @@ use Rattle.pack.specs.Checked.{accepted, firstRefusal}
 use Rattle.prepare.specs.Prepared.{Gives, Refuses, no-graph, no-query}
 
 -- an expression, and a pack that some graph obeys
-pub not-asked : {pack query : Text} {r : Constructed} → Refuses pack query r → (e : Expr) → IsQuery query e → {P : Pack} → firstRefusal pack ≡ accepted P → ¬ TooLarge P → SomeObeys P → ⊥
+pub not-asked : {pack query : Text} {r : Constructed} → Refuses pack query r → (e : Expr) → IsQuery query e → {P : Pack}
+    → firstRefusal pack ≡ accepted P → ¬ TooLarge P → SomeObeys P → ⊥
 not-asked (no-query x q) e i a n o = x e i
 not-asked (no-graph f j u) e i a n o = not-refused a n o u
 

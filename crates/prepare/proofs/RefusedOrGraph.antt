@@ -32,13 +32,15 @@ pub not-0 : {g : Constructed} → g ≡ refusedAs 2 → g .refusal ≡ 0 → ⊥
 not-0 q z = let w = ap (λ (c : Constructed). c .refusal) q in omega arith
 
 -- 3 to 11, or the graph
-pub built : {pack query : Text} {tree : List ℕ} {g : Constructed} {n : ℕ} (nodes triples : Contents) → HoldsQuery query tree n → maxQueryBytes ≤ length tree → Constructs pack g nodes triples
+pub built : {pack query : Text} {tree : List ℕ} {g : Constructed} {n : ℕ} (nodes triples : Contents) → HoldsQuery query tree n
+    → maxQueryBytes ≤ length tree → Constructs pack g nodes triples
     → Prepares pack query tree (record { graph = g; parts = n }) nodes triples
 built nodes triples h l (refuses x k) = refuses (no-graph (h .expression) (h .query) x) k
 built nodes triples h l (gives fs G w) = gives fs (record { graph = G; held = h; room = let a = h .few in let b = h .query .fits in omega arith }) w
 
 -- the node list has room for its nodes
-pub roomy : {pack : Text} {g : Constructed} (nodes triples : Contents) → Constructs pack g nodes triples → g .refusal ≡ 0 → nodeListLength ≤ length (nodes .after) → Roomy (nodes .after) (g .nodes)
+pub roomy : {pack : Text} {g : Constructed} (nodes triples : Contents) → Constructs pack g nodes triples → g .refusal ≡ 0
+    → nodeListLength ≤ length (nodes .after) → Roomy (nodes .after) (g .nodes)
 roomy nodes triples (refuses x k) z l = absurd (refuses-some x z)
 roomy nodes triples (gives fs G w) z l = record { room = l; few = let h = G .has .graph .few-nodes in omega arith }
 
@@ -50,7 +52,8 @@ module _ {pack query : Text} where
   some-number (no-graph e i x) z = refuses-some x z
 
   module _ {tree : List ℕ} {p : Prepared} (nodes triples : Contents) where
-    pub as-readied : Prepares pack query tree p nodes triples → p .graph .refusal ≡ 0 → (fronts : List (List ℕ)) × Readied pack query tree p fronts × Written fronts (graphLists nodes triples)
+    pub as-readied : Prepares pack query tree p nodes triples → p .graph .refusal ≡ 0 → (fronts : List (List ℕ)) × Readied pack query tree p fronts
+        × Written fronts (graphLists nodes triples)
     as-readied (refuses x k) z = absurd (some-number x z)
     as-readied (gives fs G w) z = (fs, G, w)
 

@@ -33,7 +33,8 @@ store q t i n j v o e lt mv wi g h = record {
 }
 
 -- How long a run is that ends at j.
-run-size : (p : ℕ → Bool) (q : Text) (i j : ℕ) → i ≤ length q → j ≡ i + run p (drop i q) → (run p (drop i q) ≡ j - i) × (j ≤ length q) × (length (take (j - i) (drop i q)) ≡ j - i)
+run-size : (p : ℕ → Bool) (q : Text) (i j : ℕ) → i ≤ length q → j ≡ i + run p (drop i q) → (run p (drop i q) ≡ j - i) × (j ≤ length q)
+    × (length (take (j - i) (drop i q)) ≡ j - i)
 run-size p q i j le e =
     let r = run-le p (drop i q) in
     let d = length-drop i q in
@@ -53,7 +54,8 @@ label-no mark f q i j e h =
     let w : first (drop k (drop i q)) ≡ getD q j noByte = ap first (drop-drop k i q) ∙ first-drop q (i + k) ∙ ap (λ (x : ℕ). getD q x noByte) (sym e) in
     rw (w, ne-eqb (getD q j noByte) mark h)
 
-label-yes : (mark : ℕ) (f : Text → Expr) (q : Text) (i j : ℕ) → i ≤ length q → j ≡ i + run (other mark) (drop i q) → getD q j noByte ≡ mark → label mark f (drop i q) ≡ ok (f (take (j - i) (drop i q))) (drop (j + 1) q)
+label-yes : (mark : ℕ) (f : Text → Expr) (q : Text) (i j : ℕ) → i ≤ length q → j ≡ i + run (other mark) (drop i q) → getD q j noByte ≡ mark
+    → label mark f (drop i q) ≡ ok (f (take (j - i) (drop i q))) (drop (j + 1) q)
 unfolding label
 label-yes mark f q i j le e h =
     let k = run (other mark) (drop i q) in
@@ -83,9 +85,11 @@ module _ (q t : List ℕ) (i n kind mark j : ℕ) (is : j ≡ i + run (class kin
         let w = getD-within q j m (h ∙ r) lt in
         store q t i n (j + 1) v (labelled kind (drop i q)) (f (take (j - i) (drop i q))) (omega (arith, rd, z)) (omega arith) (omega arith)
         (told ∙ label-yes m f q i j (rd .within) same (h ∙ r))
-        (λ x. rule (take (j - i) (drop i q)) (run-at q i j (omega (arith, rd, z)) (omega (arith, rd, z)) (z .2)) (x ∙ u ∙ ap (λ (y : ℕ). part y i (j - i)) p ∙ ap (λ (y : ℕ). part k i y) (sym (z .2))))
+        (λ x. rule (take (j - i) (drop i q)) (run-at q i j (omega (arith, rd, z)) (omega (arith, rd, z)) (z .2))
+        (x ∙ u ∙ ap (λ (y : ℕ). part y i (j - i)) p ∙ ap (λ (y : ℕ). part k i y) (sym (z .2))))
 
-  pub label-stored : (v : ℕ) → CanRead q t i n → Kind kind mark → getD q j noByte ≡ mark → v ≡ part kind i (j - i) → Reading q t (set t n v) i n true (j + 1) (n + 1) (labelled kind (drop i q))
+  pub label-stored : (v : ℕ) → CanRead q t i n → Kind kind mark → getD q j noByte ≡ mark → v ≡ part kind i (j - i)
+      → Reading q t (set t n v) i n true (j + 1) (n + 1) (labelled kind (drop i q))
   unfolding labelled class
   label-stored v rd (_⊎_.inl (p, r)) h u = label-kept v rd h u 3 angleClose (lit< tt) atIri (λ s a x. h-iri a x) p r
       (is ∙ ap (λ (x : ℕ). i + run (class x) (drop i q)) p) (ap (λ (x : ℕ). labelled x (drop i q)) p)

@@ -1,4 +1,4 @@
 mod LeafLaws
 mod PartLaws
 pub mod TreeLaws
-mod Whole
+mod WholeText

@@ -40,7 +40,8 @@ module _ {q t t′ : List ℕ} {i n : ℕ} {good : Bool} {j m : ℕ} {o : Out} (
   is-stored e = subst (λ (b : Bool). Tells b q t′ i n j m o) e (r .tells)
 
 -- The same reading, with what was kept before it.
-pub since : {q t t₁ t′ : List ℕ} {i n : ℕ} {good : Bool} {j m : ℕ} {o : Out} → ((x : ℕ) → x < n → getD t₁ x 0 ≡ getD t x 0) → Reading q t₁ t′ i n good j m o → Reading q t t′ i n good j m o
+pub since : {q t t₁ t′ : List ℕ} {i n : ℕ} {good : Bool} {j m : ℕ} {o : Out} → ((x : ℕ) → x < n → getD t₁ x 0 ≡ getD t x 0)
+    → Reading q t₁ t′ i n good j m o → Reading q t t′ i n good j m o
 since k r = record { kept = λ x h. r .kept x h ∙ k x h; tells = r .tells }
 
 -- ---- parts and separators
@@ -123,17 +124,27 @@ Steps q t₀ t i n d j m = Partly q t₀ t i n j m slash sequence (parse aStep d
 module _ (d : ℕ) {q t t₁ : List ℕ} {i n : ℕ} {good : Bool} {j m : ℕ} where
   pub union-refused : Reading q t t₁ i n good j m (parse aSequence d (drop i q)) → good ≡ false → Reading q t t₁ i n false 0 0 (parse aUnion d (drop i q))
   unfolding parse unionBy
-  union-refused r e = refuse q t t₁ i n (parse aUnion d (drop i q)) (r .kept) (ap (λ (o : Out). parts (length (drop i q)) bar union (parse aSequence d) o) (is-bad r e) ∙ none-more (length (drop i q)) bar union (parse aSequence d))
+  union-refused r e =
+      refuse q t t₁ i n (parse aUnion d (drop i q)) (r .kept)
+      (ap (λ (o : Out). parts (length (drop i q)) bar union (parse aSequence d) o) (is-bad r e)
+      ∙ none-more (length (drop i q)) bar union (parse aSequence d))
 
   pub union-start : Reading q t t₁ i n good j m (parse aSequence d (drop i q)) → good ≡ true → Sequences q t₁ t₁ i n d j m
-  union-start r e = partly-start q t t₁ i n j m bar union (parse aSequence d) (parse aUnion d (drop i q)) (parse aSequence d (drop i q)) good r e (λ x h l. union-starts d (drop i q) x (drop j q) h l)
+  union-start r e =
+      partly-start q t t₁ i n j m bar union (parse aSequence d) (parse aUnion d (drop i q)) (parse aSequence d (drop i q)) good r e
+      (λ x h l. union-starts d (drop i q) x (drop j q) h l)
 
   pub sequence-refused : Reading q t t₁ i n good j m (parse aStep d (drop i q)) → good ≡ false → Reading q t t₁ i n false 0 0 (parse aSequence d (drop i q))
   unfolding parse sequenceBy
-  sequence-refused r e = refuse q t t₁ i n (parse aSequence d (drop i q)) (r .kept) (ap (λ (o : Out). parts (length (drop i q)) slash sequence (parse aStep d) o) (is-bad r e) ∙ none-more (length (drop i q)) slash sequence (parse aStep d))
+  sequence-refused r e =
+      refuse q t t₁ i n (parse aSequence d (drop i q)) (r .kept)
+      (ap (λ (o : Out). parts (length (drop i q)) slash sequence (parse aStep d) o) (is-bad r e)
+      ∙ none-more (length (drop i q)) slash sequence (parse aStep d))
 
   pub sequence-start : Reading q t t₁ i n good j m (parse aStep d (drop i q)) → good ≡ true → Steps q t₁ t₁ i n d j m
-  sequence-start r e = partly-start q t t₁ i n j m slash sequence (parse aStep d) (parse aSequence d (drop i q)) (parse aStep d (drop i q)) good r e (λ x h l. sequence-starts d (drop i q) x (drop j q) h l)
+  sequence-start r e =
+      partly-start q t t₁ i n j m slash sequence (parse aStep d) (parse aSequence d (drop i q)) (parse aStep d (drop i q)) good r e
+      (λ x h l. sequence-starts d (drop i q) x (drop j q) h l)
 
 -- ---- an atom and its stars
 
@@ -142,7 +153,8 @@ module _ (d : ℕ) {q t t₁ : List ℕ} {i n : ℕ} {good : Bool} {j m : ℕ} (
   unfolding withStars
   step-refused e = refuse q t t₁ i n (parse aStep d (drop i q)) (r .kept) (step-stars d (drop i q) ∙ ap withStars (is-bad r e))
 
-  pub step-read : good ≡ true → (p : ℕ) → p ≡ j + run (class 6) (drop j q) → (t₂ : List ℕ) → StarsPut t₁ t₂ m (p - j) → Reading q t t₂ i n true p (m + (p - j)) (parse aStep d (drop i q))
+  pub step-read : good ≡ true → (p : ℕ) → p ≡ j + run (class 6) (drop j q) → (t₂ : List ℕ) → StarsPut t₁ t₂ m (p - j)
+      → Reading q t t₂ i n true p (m + (p - j)) (parse aStep d (drop i q))
   unfolding withStars class
   step-read e p w t₂ u =
       let s = is-stored r e in
@@ -207,12 +219,15 @@ module _ (d : ℕ) {q t : List ℕ} {i n : ℕ} where
   pub no-square : {c : ℕ} → c ≡ getD q i noByte → c ≡ squareOpen → d ≡ 0 → Reading q t t i n false 0 0 (parse anAtom d (drop i q))
   no-square e h z = refuse q t t i n (parse anAtom d (drop i q)) (λ x l. refl) (plain-atom q i d bad (λ o. square-none q i d o (sym e ∙ h) z))
 
-  pub stay-read : {v : ℕ} → CanRead q t i n → getD q i noByte ≡ roundOpen → (d ≡ 0 → ⊥) → getD q (i + 1) noByte ≡ roundClose → v ≡ part 0 0 0 → Reading q t (set t n v) i n true (i + 2) (n + 1) (parse anAtom d (drop i q))
+  pub stay-read : {v : ℕ} → CanRead q t i n → getD q i noByte ≡ roundOpen → (d ≡ 0 → ⊥) → getD q (i + 1) noByte ≡ roundClose → v ≡ part 0 0 0
+      → Reading q t (set t n v) i n true (i + 2) (n + 1) (parse anAtom d (drop i q))
   stay-read {v} rd h z w u =
       let a = getD-within q (i + 1) roundClose w (lit< tt) in
-      store q t i n (i + 2) v (parse anAtom d (drop i q)) stay (omega (arith, rd)) (omega arith) (omega arith) (plain-atom q i d (ok stay (drop (i + 2) q)) (λ o. atom-stay q i d o h z w)) (λ y. h-stay (y ∙ u))
+      store q t i n (i + 2) v (parse anAtom d (drop i q)) stay (omega (arith, rd)) (omega arith) (omega arith)
+      (plain-atom q i d (ok stay (drop (i + 2) q)) (λ o. atom-stay q i d o h z w)) (λ y. h-stay (y ∙ u))
 
-  pub leaf-read : {t₁ : List ℕ} {good : Bool} {j m c : ℕ} → Reading q t t₁ i n good j m (leaf (drop i q)) → c ≡ getD q i noByte → (c ≡ roundOpen → ⊥) → (c ≡ squareOpen → ⊥) → Reading q t t₁ i n good j m (parse anAtom d (drop i q))
+  pub leaf-read : {t₁ : List ℕ} {good : Bool} {j m c : ℕ} → Reading q t t₁ i n good j m (leaf (drop i q)) → c ≡ getD q i noByte → (c ≡ roundOpen → ⊥)
+      → (c ≡ squareOpen → ⊥) → Reading q t t₁ i n good j m (parse anAtom d (drop i q))
   leaf-read {t₁} {good} {j} {m} r e h z = reread q t t₁ i i n good j m (leaf (drop i q)) (parse anAtom d (drop i q)) r (omega arith)
       (sym (plain-atom q i d (leaf (drop i q)) (λ o. atom-leaf q i d o (λ y. h (e ∙ y)) (λ y. z (e ∙ y)))))
 
@@ -252,10 +267,19 @@ module _ (i d : ℕ) {mark : ℕ} (fn : Expr → Expr) (lt : mark < noByte) {q t
       let fw = s .few in
       record {
         kept = r .kept;
-        tells = record { expr = s .expr; gives = closed-gives e w ∙ ap (λ (x : Expr). ok x (drop (j + 1) q)) (same (s .expr)); holds = s .holds; moved = omega arith; within = omega arith; few = omega arith };
+        tells =
+            record {
+              expr = s .expr;
+              gives = closed-gives e w ∙ ap (λ (x : Expr). ok x (drop (j + 1) q)) (same (s .expr));
+              holds = s .holds;
+              moved = omega arith;
+              within = omega arith;
+              few = omega arith;
+            };
       }
 
-  pub test-read : good ≡ true → getD q j noByte ≡ mark → ((a : Expr) → fn a ≡ nested a) → (v : ℕ) → v ≡ part 5 0 0 → m < length t₁ → Reading q t (set t₁ m v) i n true (j + 1) (m + 1) (parse anAtom d (drop i q))
+  pub test-read : good ≡ true → getD q j noByte ≡ mark → ((a : Expr) → fn a ≡ nested a) → (v : ℕ) → v ≡ part 5 0 0 → m < length t₁
+      → Reading q t (set t₁ m v) i n true (j + 1) (m + 1) (parse anAtom d (drop i q))
   test-read e w same v u room =
       let s = is-stored r e in
       let y = getD-within q j mark w lt in

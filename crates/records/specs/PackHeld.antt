@@ -4,7 +4,24 @@ use mathlib.Core.List.{List, [], _∷_}
 use mathlib.Core.Option.{some}
 use mathlib.Core.Path.{_≡_}
 use Prim.Native.Nat.{ℕ, _*_}
-use Rattle.meaning.specs.Limits.{constructorWidth, constructorsAt, dependenciesAt, dependencyWidth, predicatesAt, relationWidth, relationsAt, rowWidth, rowsBody, ruleWidth, rulesAt, shapeWidth, shapesAt, textWidth, typesAt, valuesAt}
+use Rattle.meaning.specs.Limits.{
+  constructorWidth,
+  constructorsAt,
+  dependenciesAt,
+  dependencyWidth,
+  predicatesAt,
+  relationWidth,
+  relationsAt,
+  rowWidth,
+  rowsBody,
+  ruleWidth,
+  rulesAt,
+  shapeWidth,
+  shapesAt,
+  textWidth,
+  typesAt,
+  valuesAt,
+}
 use Rattle.meaning.specs.Pack.{Constructor, Pack, Setting}
 use Rattle.meaning.specs.Tables.{RowsHeld}
 use Rattle.pack.specs.Kinds.{RecordOf}

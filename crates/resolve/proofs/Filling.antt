@@ -75,7 +75,8 @@ module _ {pack q : Text} {t nodes : List ℕ} {count : ℕ} {wanted : List ℕ} 
   pub filled-start : Filled pack q t nodes count wanted wanted 0
   filled-start = record { long = refl; parts = λ j h. absurd (let z : ⊥ = omega arith in z); kept = λ j h. refl }
 
-  pub filled-on : {wanted′ : List ℕ} {i : ℕ} → Filled pack q t nodes count wanted wanted′ i → i < length wanted → (text : Text) (w : ℕ) → text ≡ partText q t i → {kind : ℕ} → kind ≡ kindOf t i
+  pub filled-on : {wanted′ : List ℕ} {i : ℕ} → Filled pack q t nodes count wanted wanted′ i → i < length wanted → (text : Text) (w : ℕ)
+      → text ≡ partText q t i → {kind : ℕ} → kind ≡ kindOf t i
       → OfGraph pack nodes count (λ P inOrder. Wants P inOrder kind text w) → Filled pack q t nodes count wanted (set wanted′ i w) (i + 1)
   filled-on {wanted′} {i} f h text w e {kind} is g = record {
     long = length-set wanted′ i w ∙ f .long;

@@ -52,11 +52,14 @@ unfolding free
 free-set mark table zero s l h e = absurd (omega arith)
 free-set mark table (suc n) s l h e = go (ℕ-discrete n s) (λ g. free-set mark table n s g h e)
   where
-    by : (b : Bool) → suc (free mark (set table s mark) n) ≡ free mark table n → suc (cond b (free mark (set table s mark) n) (suc (free mark (set table s mark) n))) ≡ cond b (free mark table n) (suc (free mark table n))
+    by : (b : Bool) → suc (free mark (set table s mark) n) ≡ free mark table n
+        → suc (cond b (free mark (set table s mark) n) (suc (free mark (set table s mark) n))) ≡ cond b (free mark table n) (suc (free mark table n))
     by true x = x
     by false x = ap suc x
 
-    go : Dec (n ≡ s) → (s < n → suc (free mark (set table s mark) n) ≡ free mark table n) → suc (cond (has mark (set table s mark) n) (free mark (set table s mark) n) (suc (free mark (set table s mark) n))) ≡ cond (has mark table n) (free mark table n) (suc (free mark table n))
+    go : Dec (n ≡ s) → (s < n → suc (free mark (set table s mark) n) ≡ free mark table n)
+        → suc (cond (has mark (set table s mark) n) (free mark (set table s mark) n) (suc (free mark (set table s mark) n))) ≡ cond (has mark table n)
+        (free mark table n) (suc (free mark table n))
     go (yes p) rec = rw (p, has-same mark table s h, e, free-other mark table s s (omega arith))
     go (no p) rec = rw (has-other mark table s n p) (by (has mark table n) (rec (omega arith)))
 
@@ -141,7 +144,9 @@ module _ {mark n : ℕ} {table queue : List ℕ} {tail s : ℕ} (t : Table mark 
     }
 
 -- The state said in another way.
-pub adds-at : {mark n : ℕ} {table queue : List ℕ} {tail : ℕ} {table′ queue′ : List ℕ} {tail′ : ℕ} {s s′ : ℕ} → s ≡ s′ → Adds mark n (λ y. y ≡ s) (λ y. y ≡ s) table queue tail table′ queue′ tail′ → Adds mark n (λ y. y ≡ s′) (λ y. y ≡ s′) table queue tail table′ queue′ tail′
+pub adds-at : {mark n : ℕ} {table queue : List ℕ} {tail : ℕ} {table′ queue′ : List ℕ} {tail′ : ℕ} {s s′ : ℕ} → s ≡ s′
+    → Adds mark n (λ y. y ≡ s) (λ y. y ≡ s) table queue tail table′ queue′ tail′
+    → Adds mark n (λ y. y ≡ s′) (λ y. y ≡ s′) table queue tail table′ queue′ tail′
 adds-at {mark} {n} {table} {queue} {tail} {table′} {queue′} {tail′} e a = subst (λ x. Adds mark n (λ y. y ≡ x) (λ y. y ≡ x) table queue tail table′ queue′ tail′) e a
 
 -- ---- the whole table
@@ -183,7 +188,8 @@ module _ {mark n : ℕ} {S Y : ℕ → Type 0} {t₁ q₁ : List ℕ} {k₁ : �
   }
 
   -- Fewer are asked for, and more are allowed.
-  pub adds-as : {S′ Y′ : ℕ → Type 0} {t₂ q₂ : List ℕ} {k₂ : ℕ} → Adds mark n S Y t₁ q₁ k₁ t₂ q₂ k₂ → ((y : ℕ) → S y → S′ y) → ((y : ℕ) → Y′ y → Y y) → Adds mark n S′ Y′ t₁ q₁ k₁ t₂ q₂ k₂
+  pub adds-as : {S′ Y′ : ℕ → Type 0} {t₂ q₂ : List ℕ} {k₂ : ℕ} → Adds mark n S Y t₁ q₁ k₁ t₂ q₂ k₂ → ((y : ℕ) → S y → S′ y) → ((y : ℕ) → Y′ y → Y y)
+      → Adds mark n S′ Y′ t₁ q₁ k₁ t₂ q₂ k₂
   adds-as {q₂ = q₂} a f g = record {
     after = a .after;
     longer = a .longer;
@@ -193,7 +199,8 @@ module _ {mark n : ℕ} {S Y : ℕ → Type 0} {t₁ q₁ : List ℕ} {k₁ : �
     all = λ y h. a .all y (g y h);
   }
 
-  pub adds-then : {Z : ℕ → Type 0} {t₂ q₂ : List ℕ} {k₂ : ℕ} {t₃ q₃ : List ℕ} {k₃ : ℕ} → Adds mark n S Y t₁ q₁ k₁ t₂ q₂ k₂ → Adds mark n S Z t₂ q₂ k₂ t₃ q₃ k₃ → Adds mark n S (λ y. Y y ⊎ Z y) t₁ q₁ k₁ t₃ q₃ k₃
+  pub adds-then : {Z : ℕ → Type 0} {t₂ q₂ : List ℕ} {k₂ : ℕ} {t₃ q₃ : List ℕ} {k₃ : ℕ} → Adds mark n S Y t₁ q₁ k₁ t₂ q₂ k₂
+      → Adds mark n S Z t₂ q₂ k₂ t₃ q₃ k₃ → Adds mark n S (λ y. Y y ⊎ Z y) t₁ q₁ k₁ t₃ q₃ k₃
   adds-then {Z} {t₂} {q₂} {k₂} {t₃} {q₃} {k₃} a b = record {
     after = b .after;
     longer = let x = a .longer in let y = b .longer in omega arith;
@@ -208,11 +215,13 @@ module _ {mark n : ℕ} {S Y : ℕ → Type 0} {t₁ q₁ : List ℕ} {k₁ : �
       go k l g (no h) = b .new k (omega arith) g
 
 -- The same states, said twice.
-pub adds-same : {mark n : ℕ} {Y Z : ℕ → Type 0} {t₁ q₁ : List ℕ} {k₁ : ℕ} {t₂ q₂ : List ℕ} {k₂ : ℕ} → Adds mark n Y Y t₁ q₁ k₁ t₂ q₂ k₂ → ((y : ℕ) → Y y → Z y) → ((y : ℕ) → Z y → Y y) → Adds mark n Z Z t₁ q₁ k₁ t₂ q₂ k₂
+pub adds-same : {mark n : ℕ} {Y Z : ℕ → Type 0} {t₁ q₁ : List ℕ} {k₁ : ℕ} {t₂ q₂ : List ℕ} {k₂ : ℕ} → Adds mark n Y Y t₁ q₁ k₁ t₂ q₂ k₂
+    → ((y : ℕ) → Y y → Z y) → ((y : ℕ) → Z y → Y y) → Adds mark n Z Z t₁ q₁ k₁ t₂ q₂ k₂
 adds-same a f g = adds-as a f g
 
 -- One group of states, then another.
-pub adds-both : {mark n : ℕ} {Y Z X : ℕ → Type 0} {t₁ q₁ : List ℕ} {k₁ : ℕ} {t₂ q₂ : List ℕ} {k₂ : ℕ} {t₃ q₃ : List ℕ} {k₃ : ℕ} → Adds mark n Y Y t₁ q₁ k₁ t₂ q₂ k₂ → Adds mark n Z Z t₂ q₂ k₂ t₃ q₃ k₃
+pub adds-both : {mark n : ℕ} {Y Z X : ℕ → Type 0} {t₁ q₁ : List ℕ} {k₁ : ℕ} {t₂ q₂ : List ℕ} {k₂ : ℕ} {t₃ q₃ : List ℕ} {k₃ : ℕ}
+    → Adds mark n Y Y t₁ q₁ k₁ t₂ q₂ k₂ → Adds mark n Z Z t₂ q₂ k₂ t₃ q₃ k₃
     → ((y : ℕ) → Y y → X y) → ((y : ℕ) → Z y → X y) → ((y : ℕ) → X y → Y y ⊎ Z y) → Adds mark n X X t₁ q₁ k₁ t₃ q₃ k₃
 adds-both {Y = Y} {Z = Z} {X = X} a b f g h =
     adds-as {S = X} {Y = λ y. Y y ⊎ Z y} (adds-then (adds-as {S′ = X} {Y′ = Y} a f (λ y x. x)) (adds-as {S′ = X} {Y′ = Z} b g (λ y x. x))) (λ y x. x) h

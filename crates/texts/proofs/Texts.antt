@@ -14,7 +14,7 @@ use Rattle.meaning.specs.Tests.{sameText, begins}
 use Rattle.texts.specs.Places.{SameBytes}
 use Rattle.pack.specs.Shown.{textAt}
 use Rattle.meaning.proofs.Lists.Parts.{slice-front}
-use Rattle.meaning.proofs.Lists.Texts.{begins-long, same-at, same-begins, same-long}
+use Rattle.meaning.proofs.Lists.Texts.{begins-long, same-begins, same-byte, same-long}
 
 byte-of : (s : List ℕ) (a n k : ℕ) → k < n → getD (textAt s a n) k 0 ≡ getD s (a + k) 0
 byte-of s a n k h = getD-drop a (take (a + n) s) k 0 ∙ getD-take (a + n) s (a + k) 0 (omega arith)
@@ -45,7 +45,7 @@ module _ (s : List ℕ) (a n b m : ℕ) (p : a + n ≤ length s) (q : b + m ≤ 
 
   pub differ-last : n ≡ m → (n ≡ 0 → ⊥) → (getD s (a + (n - 1)) 0 ≡ getD s (b + (n - 1)) 0 → ⊥) → false ≡ sameText (textAt s a n) (textAt s b m)
   differ-last e h ne = case-on (sameText (textAt s a n) (textAt s b m))
-      (λ t. absurd (ne (sym (byte-of s a n (n - 1) (omega arith)) ∙ same-at (textAt s a n) (textAt s b m) (n - 1) (sym t) ∙ byte-of s b m (n - 1) (omega arith))))
+      (λ t. absurd (ne (sym (byte-of s a n (n - 1) (omega arith)) ∙ same-byte (textAt s a n) (textAt s b m) (n - 1) (sym t) ∙ byte-of s b m (n - 1) (omega arith))))
       (λ t. sym t)
 
 -- the first i bytes agree

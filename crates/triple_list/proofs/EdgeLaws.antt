@@ -27,7 +27,8 @@ use Rattle.shapes.specs.Shapes.{SomePasses, Tabled, TargetsOf}
 
 -- ---- room: each origin has the core's edges, or one more
 
-module _ (ks : List ℕ) (s p triple at first from : ℕ) (h : p < maxPredicates) (l : triple + from ≤ first + p + at) (room : first + maxPredicates + keysBefore (originAt s maxPredicates) ks ≤ maxTriples + from) where
+module _ (ks : List ℕ) (s p triple at first from : ℕ) (h : p < maxPredicates) (l : triple + from ≤ first + p + at)
+    (room : first + maxPredicates + keysBefore (originAt s maxPredicates) ks ≤ maxTriples + from) where
   pub origin-room : triple + keysBefore (originAt s p + 1) ks + 1 ≤ maxTriples + at
   origin-room = let m = keys-mono (originAt s p + 1) (originAt s maxPredicates) (omega arith) ks in omega arith
 
@@ -85,7 +86,8 @@ unfolding flatten
 edges-flat s p [] = refl
 edges-flat s p (k ∷ ks) = let r = edges-flat s p ks in omega arith
 
-module _ (table : List (List ℕ)) (triples places : List ℕ) (a : InOrder _<_ triples) (s mask p from first : ℕ) (f : from ≡ keysBefore (originAt s p) triples) (out out₁ : List ℕ) (at : ℕ) (e : EdgesListed triples s p from first out out₁ at) where
+module _ (table : List (List ℕ)) (triples places : List ℕ) (a : InOrder _<_ triples) (s mask p from first : ℕ)
+    (f : from ≡ keysBefore (originAt s p) triples) (out out₁ : List ℕ) (at : ℕ) (e : EdgesListed triples s p from first out out₁ at) where
   abbrev Edge : Pack → List ℕ → Type 0
   Edge P = EdgeFrom P triples places s mask p
 
@@ -93,7 +95,8 @@ module _ (table : List (List ℕ)) (triples places : List ℕ) (a : InOrder _<_ 
   passed = let c = e .count in let k = keys-next (originAt s p) triples in omega arith
 
   -- there are some
-  pub origin-present : (at ≡ from → ⊥) → RecordsListed table Edge first out out₁ (first + (at - from)) × (first + (at - from) + from ≤ first + 1 + at) × (at ≡ keysBefore (originAt s p + 1) triples)
+  pub origin-present : (at ≡ from → ⊥) → RecordsListed table Edge first out out₁ (first + (at - from)) × (first + (at - from) + from ≤ first + 1 + at)
+      × (at ≡ keysBefore (originAt s p + 1) triples)
   origin-present n = (
     record {
       records = edgeRecords s p triples;
@@ -129,7 +132,8 @@ module _ (table : List (List ℕ)) (triples places : List ℕ) (a : InOrder _<_ 
         go [] z = sym (nothing-written (first * 3) out)
         go (x ∷ xs) z = absurd (let y : ⊥ = omega arith in y)
 
-    pub origin-free : (r : Bool) → r ≡ false → SomePasses requires table mask p r → RecordsListed table Edge first out out₁ first × (first + from ≤ first + 1 + from) × (from ≡ keysBefore (originAt s p + 1) triples)
+    pub origin-free : (r : Bool) → r ≡ false → SomePasses requires table mask p r → RecordsListed table Edge first out out₁ first
+        × (first + from ≤ first + 1 + from) × (from ≡ keysBefore (originAt s p + 1) triples)
     origin-free r f shown = (subst (λ o. RecordsListed table Edge first out o first) (sym out-same) (listed-none first out none), omega arith, sym n ∙ passed)
       where
         none : (P : Pack) → Tabled (P .setting) table → (x : List ℕ) → ¬ Edge P x

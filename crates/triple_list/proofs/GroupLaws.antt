@@ -75,7 +75,8 @@ pub record Edging (triples : List ℕ) (s p from first i : ℕ) (out₀ out : Li
   pub count : i + length (group (originAt s p) (drop i triples)) ≡ from + length (group (originAt s p) triples)
   pub records : Records 3 first (first + (i - from)) (map (edgeRecord s p) (group (originAt s p) (drop i triples))) (edgeRecords s p triples) out₀ out
 
-pub edging-start : (triples : List ℕ) → InOrder _<_ triples → (s p from first : ℕ) (out : List ℕ) → from ≡ keysBefore (originAt s p) triples → Edging triples s p from first from out out
+pub edging-start : (triples : List ℕ) → InOrder _<_ triples → (s p from first : ℕ) (out : List ℕ) → from ≡ keysBefore (originAt s p) triples
+    → Edging triples s p from first from out out
 edging-start triples a s p from first out e =
     let g = group-start triples a (originAt s p) from (e ∙ keys-rank (originAt s p) triples a) in
     let n : first + (from - from) ≡ first = omega arith in

@@ -32,7 +32,8 @@ upto-more {A} Q n x = (λ u. split u (ℕ-discrete (u .at) n), join)
 -- ---- lists in a slice
 
 module _ {table : List (List ℕ)} where
-  pub listed-none : {Q : Pack → List ℕ → Type 0} (first : ℕ) (out : List ℕ) → ((P : Pack) → Tabled (P .setting) table → (x : List ℕ) → ¬ Q P x) → RecordsListed table Q first out out first
+  pub listed-none : {Q : Pack → List ℕ → Type 0} (first : ℕ) (out : List ℕ) → ((P : Pack) → Tabled (P .setting) table → (x : List ℕ) → ¬ Q P x)
+      → RecordsListed table Q first out out first
   unfolding flatten
   listed-none first out n = record {
     records = [];
@@ -42,22 +43,27 @@ module _ {table : List (List ℕ)} where
     written = nothing-written (first * 3) out;
   }
 
-  pub listed-join : {Q R Z : Pack → List ℕ → Type 0} {first next r : ℕ} {out₀ out out′ : List ℕ} → RecordsListed table Q first out₀ out next → RecordsListed table R next out out′ r
-      → next * 3 ≤ length out₀ → ((P : Pack) (x y : List ℕ) → Q P x → R P y → x ≺ y) → ((P : Pack) (x : List ℕ) → Z P x ↔ (Q P x ⊎ R P x)) → RecordsListed table Z first out₀ out′ r
+  pub listed-join : {Q R Z : Pack → List ℕ → Type 0} {first next r : ℕ} {out₀ out out′ : List ℕ} → RecordsListed table Q first out₀ out next
+      → RecordsListed table R next out out′ r
+      → next * 3 ≤ length out₀ → ((P : Pack) (x y : List ℕ) → Q P x → R P y → x ≺ y) → ((P : Pack) (x : List ℕ) → Z P x ↔ (Q P x ⊎ R P x))
+      → RecordsListed table Z first out₀ out′ r
   listed-join {first = first} {next} {r} {out₀} {out} {out′} a b room o z = record {
     records = a .records ++ b .records;
     are = λ P h. joined-list (a .are P h) (b .are P h) (o P) (z P);
     long = ap length (flat-join (a .records) (b .records)) ∙ length-append (flatten (a .records)) (flatten (b .records))
         ∙ (let p = a .long in let q = b .long in let n = length-append (a .records) (b .records) in omega arith);
     count = let p = a .count in let q = b .count in let n = length-append (a .records) (b .records) in omega arith;
-    written = b .written ∙ rw (a .written, place) (parts-written (first * 3) (length (flatten (a .records))) (flatten (a .records)) out₀ refl (subst (λ x. x ≤ length out₀) place room) (flatten (b .records)))
+    written =
+        b .written ∙ rw (a .written, place) (parts-written (first * 3) (length (flatten (a .records))) (flatten (a .records)) out₀ refl
+        (subst (λ x. x ≤ length out₀) place room) (flatten (b .records)))
         ∙ ap (λ (l : List ℕ). overwritten (first * 3) l out₀) (sym (flat-join (a .records) (b .records)));
   }
     where
       place : next * 3 ≡ first * 3 + length (flatten (a .records))
       place = let p = a .count in let q = a .long in omega arith
 
-  pub listed-iff : {Q R : Pack → List ℕ → Type 0} {first r : ℕ} {out out′ : List ℕ} → ((P : Pack) (x : List ℕ) → Q P x ↔ R P x) → RecordsListed table Q first out out′ r → RecordsListed table R first out out′ r
+  pub listed-iff : {Q R : Pack → List ℕ → Type 0} {first r : ℕ} {out out′ : List ℕ} → ((P : Pack) (x : List ℕ) → Q P x ↔ R P x)
+      → RecordsListed table Q first out out′ r → RecordsListed table R first out out′ r
   listed-iff f l = record {
     records = l .records;
     are = λ P h. record { ascending = l .are P h .ascending; members = λ x. Iff·trans (l .are P h .members x) (f P x) };

@@ -146,7 +146,8 @@ module _ {P : Pack} {shapes : List (List ℕ)} {nodes triples masks flags : List
           are = q;
         }
 
-    gets-record : (b : BuiltNode) (s p j : ℕ) (x : List ℕ) → j < memberSets → IsBuilt P b → getElem? bs s ≡ some b → Gets P b p (setAt j) → x ≡ s ∷ p ∷ getD places j 0 ∷ [] → TripleRecord P bs x
+    gets-record : (b : BuiltNode) (s p j : ℕ) (x : List ℕ) → j < memberSets → IsBuilt P b → getElem? bs s ≡ some b → Gets P b p (setAt j)
+        → x ≡ s ∷ p ∷ getD places j 0 ∷ [] → TripleRecord P bs x
     gets-record b s p j x h i e g q = record {
       subject = s;
       predicate = p;
@@ -304,7 +305,8 @@ module _ {P : Pack} {shapes : List (List ℕ)} {nodes triples masks flags : List
         let r = rank-le firstLiteral nodes in
         by-subject (omega arith) x y (u .holds) (v .holds .edge)
 
-    pub triples-listed : {table : List (List ℕ)} → Tabled (P .setting) table → SetPlaces flags (length nodes) places → {next r : ℕ} {out out₁ out₂ : List ℕ} → RecordsListed table (IriEdge nodes triples masks places) 0 out out₁ next
+    pub triples-listed : {table : List (List ℕ)} → Tabled (P .setting) table → SetPlaces flags (length nodes) places
+        → {next r : ℕ} {out out₁ out₂ : List ℕ} → RecordsListed table (IriEdge nodes triples masks places) 0 out out₁ next
         → RecordsListed table (λ Q. Upto (SetEdge triples flags places Q) typeSets) next out₁ out₂ r → next * 3 ≤ length out → r ≤ maxTriples → TriplesListed P bs out out₂ r
     triples-listed {table} tab sp {next} {r} {out} {out₁} {out₂} a b room few = record {
       records = both .records;

@@ -51,7 +51,8 @@ fn list_edges(
     first: usize,
     out: &mut [u16],
 ) -> usize
-    requires { ⌜ InOrder _<_ (now triples) × (subject < maxNodes) × (p < maxPredicates) × (from ≡ keysBefore (originAt subject p) (now triples)) × (first + keysBefore (originAt subject p + 1) (now triples) ≤ maxTriples + from) × (tripleListLength ≤ length (now out)) ⌝ }
+    requires { ⌜ InOrder _<_ (now triples) × (subject < maxNodes) × (p < maxPredicates) × (from ≡ keysBefore (originAt subject p) (now triples))
+        × (first + keysBefore (originAt subject p + 1) (now triples) ≤ maxTriples + from) × (tripleListLength ≤ length (now out)) ⌝ }
     ensures { λ r. ⌜ EdgesListed (now (triples .entry)) subject p from first (now (out .entry)) (now (out .exit)) r ⌝ }
 {
     let origin = (subject * PREDICATES + p) as u64;
@@ -84,8 +85,13 @@ fn list_origin(
     next: Next,
     out: &mut [u16],
 ) -> Next
-    requires { ⌜ InOrder _<_ (now triples) × (memberSets ≤ length (now places)) × (subject < maxNodes) × (p < maxPredicates) × (next .at ≡ keysBefore (originAt subject p) (now triples)) × (next .triple + keysBefore (originAt subject p + 1) (now triples) + 1 ≤ maxTriples + next .at) × (tripleListLength ≤ length (now out)) × CodesFit (now shapes) ⌝ }
-    ensures { λ r. ⌜ RecordsListed (now (shapes .entry)) (λ P. EdgeFrom P (now (triples .entry)) (now (places .entry)) subject mask p) (next .triple) (now (out .entry)) (now (out .exit)) (r .triple) × (r .triple + next .at ≤ next .triple + 1 + r .at) × (r .at ≡ keysBefore (originAt subject p + 1) (now (triples .entry))) ⌝ }
+    requires { ⌜ InOrder _<_ (now triples) × (memberSets ≤ length (now places)) × (subject < maxNodes) × (p < maxPredicates)
+        × (next .at ≡ keysBefore (originAt subject p) (now triples))
+        × (next .triple + keysBefore (originAt subject p + 1) (now triples) + 1 ≤ maxTriples + next .at) × (tripleListLength ≤ length (now out))
+        × CodesFit (now shapes) ⌝ }
+    ensures { λ r. ⌜ RecordsListed (now (shapes .entry)) (λ P. EdgeFrom P (now (triples .entry)) (now (places .entry)) subject mask p) (next .triple)
+        (now (out .entry)) (now (out .exit)) (r .triple) × (r .triple + next .at ≤ next .triple + 1 + r .at)
+        × (r .at ≡ keysBefore (originAt subject p + 1) (now (triples .entry))) ⌝ }
 {
     let first = next.triple;
     let from = next.at;
@@ -117,8 +123,13 @@ fn list_subject(
     first: Next,
     out: &mut [u16],
 ) -> Next
-    requires { ⌜ InOrder _<_ (now triples) × (memberSets ≤ length (now places)) × (subject < maxNodes) × (first .at ≡ keysBefore (originAt subject 0) (now triples)) × (first .triple + maxPredicates + keysBefore (originAt subject maxPredicates) (now triples) ≤ maxTriples + first .at) × (tripleListLength ≤ length (now out)) × CodesFit (now shapes) ⌝ }
-    ensures { λ r. ⌜ RecordsListed (now (shapes .entry)) (λ P. SubjectEdge P (now (triples .entry)) (now (places .entry)) subject mask) (first .triple) (now (out .entry)) (now (out .exit)) (r .triple) × (r .triple + first .at ≤ first .triple + maxPredicates + r .at) × (r .at ≡ keysBefore (originAt subject maxPredicates) (now (triples .entry))) ⌝ }
+    requires { ⌜ InOrder _<_ (now triples) × (memberSets ≤ length (now places)) × (subject < maxNodes)
+        × (first .at ≡ keysBefore (originAt subject 0) (now triples))
+        × (first .triple + maxPredicates + keysBefore (originAt subject maxPredicates) (now triples) ≤ maxTriples + first .at)
+        × (tripleListLength ≤ length (now out)) × CodesFit (now shapes) ⌝ }
+    ensures { λ r. ⌜ RecordsListed (now (shapes .entry)) (λ P. SubjectEdge P (now (triples .entry)) (now (places .entry)) subject mask)
+        (first .triple) (now (out .entry)) (now (out .exit)) (r .triple) × (r .triple + first .at ≤ first .triple + maxPredicates + r .at)
+        × (r .at ≡ keysBefore (originAt subject maxPredicates) (now (triples .entry))) ⌝ }
 {
     let mut next = first;
     for p in 0..MAX_PREDICATES {
@@ -138,7 +149,9 @@ fn list_iris(
     out: &mut [u16],
 ) -> usize
     requires { ⌜ CoreFits (now nodes) (now triples) (now masks) × (memberSets ≤ length (now places)) × (tripleListLength ≤ length (now out)) × CodesFit (now shapes) ⌝ }
-    ensures { λ r. ⌜ RecordsListed (now (shapes .entry)) (IriEdge (now (nodes .entry)) (now (triples .entry)) (now (masks .entry)) (now (places .entry))) 0 (now (out .entry)) (now (out .exit)) r × (r ≤ maxCoreTriples + maxIris * maxPredicates) ⌝ }
+    ensures { λ r. ⌜ RecordsListed (now (shapes .entry))
+        (IriEdge (now (nodes .entry)) (now (triples .entry)) (now (masks .entry)) (now (places .entry))) 0 (now (out .entry)) (now (out .exit)) r
+        × (r ≤ maxCoreTriples + maxIris * maxPredicates) ⌝ }
 {
     let iris = rank(nodes, FIRST_LITERAL);
     let mut next = Next { triple: 0, at: 0 };
@@ -159,8 +172,11 @@ fn list_set_edges(
     first: usize,
     out: &mut [u16],
 ) -> usize
-    requires { ⌜ SetsPlaced (now triples) (now flags) (now places) × InOrder _<_ (now triples) × (memberSets ≤ length (now flags)) × (memberSets ≤ length (now places)) × (0 < set) × (set < typeSets) × (first + maxPredicates ≤ maxTriples) × (tripleListLength ≤ length (now out)) × CodesFit (now shapes) ⌝ }
-    ensures { λ r. ⌜ RecordsListed (now (shapes .entry)) (λ P. SetEdge (now (triples .entry)) (now (flags .entry)) (now (places .entry)) P set) first (now (out .entry)) (now (out .exit)) r × (r ≤ first + maxPredicates) ⌝ }
+    requires { ⌜ SetsPlaced (now triples) (now flags) (now places) × InOrder _<_ (now triples) × (memberSets ≤ length (now flags))
+        × (memberSets ≤ length (now places)) × (0 < set) × (set < typeSets) × (first + maxPredicates ≤ maxTriples) × (tripleListLength ≤ length (now out))
+        × CodesFit (now shapes) ⌝ }
+    ensures { λ r. ⌜ RecordsListed (now (shapes .entry)) (λ P. SetEdge (now (triples .entry)) (now (flags .entry)) (now (places .entry)) P set) first
+        (now (out .entry)) (now (out .exit)) r × (r ≤ first + maxPredicates) ⌝ }
 {
     if flags[set] != 1 {
         return first;
@@ -183,8 +199,12 @@ fn list_sets_edges(
     first: usize,
     out: &mut [u16],
 ) -> usize
-    requires { ⌜ SetsPlaced (now triples) (now flags) (now places) × InOrder _<_ (now triples) × (memberSets ≤ length (now flags)) × (memberSets ≤ length (now places)) × (first ≤ maxCoreTriples + maxIris * maxPredicates) × (tripleListLength ≤ length (now out)) × CodesFit (now shapes) ⌝ }
-    ensures { λ r. ⌜ RecordsListed (now (shapes .entry)) (λ P. Upto (SetEdge (now (triples .entry)) (now (flags .entry)) (now (places .entry)) P) typeSets) first (now (out .entry)) (now (out .exit)) r × (r ≤ maxTriples) ⌝ }
+    requires { ⌜ SetsPlaced (now triples) (now flags) (now places) × InOrder _<_ (now triples) × (memberSets ≤ length (now flags))
+        × (memberSets ≤ length (now places)) × (first ≤ maxCoreTriples + maxIris * maxPredicates) × (tripleListLength ≤ length (now out))
+        × CodesFit (now shapes) ⌝ }
+    ensures { λ r. ⌜ RecordsListed (now (shapes .entry))
+        (λ P. Upto (SetEdge (now (triples .entry)) (now (flags .entry)) (now (places .entry)) P) typeSets) first (now (out .entry)) (now (out .exit)) r
+        × (r ≤ maxTriples) ⌝ }
 {
     let mut next = first;
     for j in 1..TYPE_SETS {
@@ -203,8 +223,10 @@ pub fn list_triples(
     places: &[u16],
     out: &mut [u16],
 ) -> usize
-    requires { ⌜ CoreFits (now nodes) (now triples) (now masks) × SetPlaces (now flags) (length (now nodes)) (now places) × (memberSets ≤ length (now flags)) × (memberSets ≤ length (now places)) × (tripleListLength ≤ length (now out)) × CodesFit (now shapes) ⌝ }
-    ensures { λ r. ⌜ TriplesShown (now (shapes .entry)) (now (nodes .entry)) (now (triples .entry)) (now (masks .entry)) (now (flags .entry)) (now (places .entry)) (now (out .entry)) (now (out .exit)) r ⌝ }
+    requires { ⌜ CoreFits (now nodes) (now triples) (now masks) × SetPlaces (now flags) (length (now nodes)) (now places)
+        × (memberSets ≤ length (now flags)) × (memberSets ≤ length (now places)) × (tripleListLength ≤ length (now out)) × CodesFit (now shapes) ⌝ }
+    ensures { λ r. ⌜ TriplesShown (now (shapes .entry)) (now (nodes .entry)) (now (triples .entry)) (now (masks .entry)) (now (flags .entry))
+        (now (places .entry)) (now (out .entry)) (now (out .exit)) r ⌝ }
 {
     let next = list_iris(shapes, nodes, triples, masks, places, out);
     list_sets_edges(shapes, triples, flags, places, next, out)

@@ -17,7 +17,8 @@ module _ (G : View) (part : ℕ → Part) (leaves : ℕ → Expr) (next : ℕ �
   pub alive-least : (B : ℕ → G .Node → Type 0) → Saturated G part leaves next done B → {i : ℕ} {n : G .Node} → Alive₀ i n → B i n
   alive-least B s (ended {n = n}) = s .ends n
   alive-least B s (moves {i = i} {n = n} {m = m} l e j a) = s .back i (next i) n m (l, subst (λ p. StepBy G part leaves next done B p i n (next i) m) (sym e) (refl, j)) (alive-least B s a)
-  alive-least B s (tested {i = i} {n = n} l e b a) = s .back i (next i) n n (l, subst (λ p. StepBy G part leaves next done B p i n (next i) n) (sym e) (refl, refl, alive-least B s b)) (alive-least B s a)
+  alive-least B s (tested {i = i} {n = n} l e b a) = s .back i (next i) n n
+      (l, subst (λ p. StepBy G part leaves next done B p i n (next i) n) (sym e) (refl, refl, alive-least B s b)) (alive-least B s a)
   alive-least B s (stops {i = i} {n = n} l e h a) = s .back i (next i) n n (l, subst (λ p. StepBy G part leaves next done B p i n (next i) n) (sym e) (refl, inl (refl, h))) (alive-least B s a)
   alive-least B s (repeats {i = i} {body = b} {n = n} l e a) = s .back i b n n (l, subst (λ p. StepBy G part leaves next done B p i n b n) (sym e) (refl, inr refl)) (alive-least B s a)
   alive-least B s (begins {i = i} {left = b} {n = n} l e a) = s .back i b n n (l, subst (λ p. StepBy G part leaves next done B p i n b n) (sym e) (refl, refl)) (alive-least B s a)

@@ -68,12 +68,16 @@ module _ {t next : List ℕ} {n i : ℕ} (r : PartAmong t next n i) where
 
   pub link-chain : kindOf t i ≡ 7 → (left : ℕ) → left ≡ firstNumber t i → PartLinked t next (set (set next left (i - 1)) (i - 1) (getD next i 0)) n i
   link-chain e left l =
-      subst (λ a. PartLinked t next (set (set next a (i - 1)) (i - 1) (getD next i 0)) n i) (sym l) (two (chain (firstNumber t i) (i - 1)) (kind-chain t i e) (firstNumber t i) (i - 1) (i - 1) (getD next i 0) (subst Ordered (kind-chain t i e) (r .ordered)) (chain-before e .1) (inl refl) (inr refl)
+      subst (λ a. PartLinked t next (set (set next a (i - 1)) (i - 1) (getD next i 0)) n i) (sym l)
+      (two (chain (firstNumber t i) (i - 1)) (kind-chain t i e) (firstNumber t i) (i - 1) (i - 1) (getD next i 0)
+      (subst Ordered (kind-chain t i e) (r .ordered)) (chain-before e .1) (inl refl) (inr refl)
       (λ next′ x y z. (x, y ∙ sym z)))
 
   pub link-either : kindOf t i ≡ 8 → (left : ℕ) → left ≡ firstNumber t i → PartLinked t next (set (set next left (getD next i 0)) (i - 1) (getD next i 0)) n i
   link-either e left l =
-      subst (λ a. PartLinked t next (set (set next a (getD next i 0)) (i - 1) (getD next i 0)) n i) (sym l) (two (either (firstNumber t i) (i - 1)) (kind-either t i e) (firstNumber t i) (i - 1) (getD next i 0) (getD next i 0) (subst Ordered (kind-either t i e) (r .ordered)) (either-before e .1) (inl refl) (inr refl)
+      subst (λ a. PartLinked t next (set (set next a (getD next i 0)) (i - 1) (getD next i 0)) n i) (sym l)
+      (two (either (firstNumber t i) (i - 1)) (kind-either t i e) (firstNumber t i) (i - 1) (getD next i 0) (getD next i 0)
+      (subst Ordered (kind-either t i e) (r .ordered)) (either-before e .1) (inl refl) (inr refl)
       (λ next′ x y z. (x ∙ sym z, y ∙ sym z)))
 
 -- ---- from the root down
@@ -84,7 +88,8 @@ pub record Threading (t next : List ℕ) (n i : ℕ) : Type 0 where
   pub linked : (j : ℕ) → i ≤ j → j < n → Linked (listed next) n j (partOf t j)
 
 -- What is to be done after a part's parts stays so where neither changes.
-relinked : (next next′ : List ℕ) (n j : ℕ) (p : Part) → getD next′ j 0 ≡ getD next j 0 → ((c : ℕ) → Child p c → getD next′ c 0 ≡ getD next c 0) → Linked (listed next) n j p → Linked (listed next′) n j p
+relinked : (next next′ : List ℕ) (n j : ℕ) (p : Part) → getD next′ j 0 ≡ getD next j 0 → ((c : ℕ) → Child p c → getD next′ c 0 ≡ getD next c 0)
+    → Linked (listed next) n j p → Linked (listed next′) n j p
 relinked next next′ n j leaf e k x = tt
 relinked next next′ n j (test b) e k x = k b refl ∙ x
 relinked next next′ n j (repeat b) e k x = k b refl ∙ x
@@ -115,7 +120,8 @@ thread-start {t} {next} {n} r =
     record { root = getD-set-same next (n - 1) n 0 (omega arith); linked = λ j l h. absurd (omega arith) }
 
 -- One part more, at i.
-pub thread-again : {t next₀ next next′ : List ℕ} {n k i : ℕ} → Threadable t next₀ n → i < n → k ≤ i + 1 → Threading t next n k → PartLinked t next next′ n i → Threading t next′ n i
+pub thread-again : {t next₀ next next′ : List ℕ} {n k i : ℕ} → Threadable t next₀ n → i < n → k ≤ i + 1 → Threading t next n k
+    → PartLinked t next next′ n i → Threading t next′ n i
 thread-again {t} {next₀} {next} {next′} {n} {k} {i} r l up w x = record { root = root′; linked = linked′ }
   where
     nest : Nest t 0 n

@@ -67,7 +67,8 @@ nest-one t n m lt w e own o = record {
     moved i p c x = subst (λ y. Child (partOf t y) c) p x
 
 -- A part behind the two that it has.
-nest-two : (t : List ℕ) (n m k : ℕ) → n < m → m < k → Nest t n m → Nest t m k → ((c : ℕ) → Child (partOf t k) c → (c ≡ m - 1) ⊎ (c ≡ k - 1)) → Child (partOf t k) (m - 1) → Child (partOf t k) (k - 1) → Ordered (partOf t k) → Nest t n (k + 1)
+nest-two : (t : List ℕ) (n m k : ℕ) → n < m → m < k → Nest t n m → Nest t m k → ((c : ℕ) → Child (partOf t k) c → (c ≡ m - 1) ⊎ (c ≡ k - 1))
+    → Child (partOf t k) (m - 1) → Child (partOf t k) (k - 1) → Ordered (partOf t k) → Nest t n (k + 1)
 nest-two t n m k lm lk v w e own₁ own₂ o = record {
   within = λ i c l h x. case-lt i m
       (λ s. v .within i c l s x)
@@ -140,9 +141,11 @@ holds-nest {t = t} (h-step {n = n} {a = a} {s = u} r p) s = nest-leaf t n (is-le
 holds-nest {t = t} (h-iri {n = n} {a = a} {s = u} r p) s = nest-leaf t n (is-leaf t n 3 a (length u) (omega arith) p (r .begins) (r .short))
 holds-nest {t = t} (h-literal {n = n} {a = a} {s = u} r p) s = nest-leaf t n (is-leaf t n 4 a (length u) (omega arith) p (r .begins) (r .short))
 holds-nest {t = t} (h-nested {n = n} {m = m} h p) s =
-    nest-one t n m (holds-lt h) (holds-nest h (omega arith)) (λ c x. subst (λ y. Child y c) (is-test t m p) x) (subst (λ y. Child y (m - 1)) (sym (is-test t m p)) refl) (subst Ordered (sym (is-test t m p)) tt)
+    nest-one t n m (holds-lt h) (holds-nest h (omega arith)) (λ c x. subst (λ y. Child y c) (is-test t m p) x)
+    (subst (λ y. Child y (m - 1)) (sym (is-test t m p)) refl) (subst Ordered (sym (is-test t m p)) tt)
 holds-nest {t = t} (h-star {n = n} {m = m} h p) s =
-    nest-one t n m (holds-lt h) (holds-nest h (omega arith)) (λ c x. subst (λ y. Child y c) (is-repeat t m p) x) (subst (λ y. Child y (m - 1)) (sym (is-repeat t m p)) refl) (subst Ordered (sym (is-repeat t m p)) tt)
+    nest-one t n m (holds-lt h) (holds-nest h (omega arith)) (λ c x. subst (λ y. Child y c) (is-repeat t m p) x)
+    (subst (λ y. Child y (m - 1)) (sym (is-repeat t m p)) refl) (subst Ordered (sym (is-repeat t m p)) tt)
 holds-nest {t = t} (h-sequence {n = n} {m = m} {k = k} h g p) s =
     let l = holds-lt g in
     nest-two t n m k (holds-lt h) l (holds-nest h (omega arith)) (holds-nest g (omega arith)) (λ c x. subst (λ y. Child y c) (is-chain t k (m - 1) p (omega arith)) x)

@@ -24,9 +24,15 @@ some-alive-spec =
     μ-loop
     (λ c. (omega arith, λ k l e. omega arith))  -- loop-holds
     (λ c. search needs)  -- sub-is-marked
-    (λ c κs. let a = c .before .before .before .pre .0 in ((omega arith, omega arith), c .before .before .before .pre .1))  -- is-marked-requires
+    (λ c κs. let pre = c .before .before .before .pre in let a = pre .0 in ((omega arith, omega arith), pre .1))  -- is-marked-requires
     (λ c. (c .before .before .before .loop .n, c .before .before .loop-test .taken, sym (c .before .is-marked .ensures) ∙ c .if1 .taken))  -- returns
     (λ c. search needs)  -- add-n
     (λ c. search needs)  -- loop-less
-    (λ c. (omega arith, below-more (λ k. Marked 1 (c .before .before .before .before .before .args .alive .now) (state (c .before .before .before .before .before .args .parts - 1) k) → ⊥) (c .before .before .before .loop .n) (c .before .before .before .loop .inv .1) (λ b. true-false (c .before .is-marked .ensures ∙ b) (c .if1 .left))))  -- loop-again
+    (λ c.
+    let at-loop = c .before .before .before in
+    let entry = at-loop .before .before in (
+      omega arith,
+      below-more (λ k. Marked 1 (entry .args .alive .now) (state (entry .args .parts - 1) k) → ⊥) (at-loop .loop .n) (at-loop .loop .inv .1)
+          (λ b. true-false (c .before .is-marked .ensures ∙ b) (c .if1 .left)),
+    ))  -- loop-again
     (λ c. λ k l e. c .before .loop .inv .1 k (omega arith) e))  -- returns-2

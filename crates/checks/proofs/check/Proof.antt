@@ -26,33 +26,91 @@ check-spec =
     (λ c κs. search needs)  -- bad-size-requires
     (λ c κs. search needs)  -- refused-requires
     (λ c. refuses _ 3 (c .refused .ensures) (omega arith) (refused-3 _ (sym (c .before .before .bad-size .ensures) ∙ c .before .if1 .taken)))  -- returns
-    (λ c κs. (sym (c .before .before .before .bad-size .ensures) ∙ c .before .before .if1 .left, c .before .before .before .before .before .before .before .pre .0, c .before .before .before .before .before .before .before .pre .1))  -- load-requires
+    (λ c κs.
+    let pre = c .before .before .before .before .before .before .before .pre in
+    (sym (c .before .before .before .bad-size .ensures) ∙ c .before .before .if1 .left, pre .0, pre .1))  -- load-requires
     (λ c κs. search needs)  -- refused-requires-2
     (λ c. search needs)  -- same-length
     (λ c. search needs)  -- same-length-2
-    (λ c. refuses _ 4 (c .refused2 .ensures) (omega arith) (refused-4 _ (sym (c .before .before .before .before .before .before .before .before .before .before .bad-size .ensures) ∙ c .before .before .before .before .before .before .before .before .before .if1 .left) (not-loaded _ _ _ _ (c .before .before .before .before .before .before .load .result .whole) (not-true _ (c .before .if2 .taken)) (c .before .before .before .before .before .before .load .ensures))))  -- returns-2
-    (λ c κs. some-pack (as-loaded _ _ _ _ (c .before .before .before .before .before .before .before .load .result .whole) (not-false _ (c .before .before .if2 .left)) (c .before .before .before .before .before .before .before .load .ensures)))  -- has-duplicates-requires
+    (λ c.
+    let at-load = c .before .before .before .before .before .before in
+    let at-if1 = at-load .before .before .before in
+    let at-bad-size = at-if1 .before in
+    refuses _ 4 (c .refused2 .ensures) (omega arith) (refused-4 _ (sym (at-bad-size .bad-size .ensures) ∙ at-if1 .if1 .left)
+    (not-loaded _ _ _ _ (at-load .load .result .whole) (not-true _ (c .before .if2 .taken)) (at-load .load .ensures))))  -- returns-2
+    (λ c κs.
+    let load = c .before .before .before .before .before .before .before .load in
+    some-pack (as-loaded _ _ _ _ (load .result .whole) (not-false _ (c .before .before .if2 .left)) (load .ensures)))  -- has-duplicates-requires
     (λ c κs. search needs)  -- refused-requires-3
     (λ c. search needs)  -- same-length-3
     (λ c. search needs)  -- same-length-4
-    (λ c. let e = c .before .before .before .before .before in let l = as-loaded _ _ _ _ (e .before .before .before .before .before .load .result .whole) (not-false _ (e .if2 .left)) (e .before .before .before .before .before .load .ensures) in  -- returns-3
-    refuses _ 5 (c .refused3 .ensures) (omega arith) (refused-5 _ (size e) (l .pack) (l .is) (sym (c .before .before .has-duplicates .ensures (l .pack) (l .held .setting)) ∙ c .before .if3 .taken)))
-    (λ c κs. let e = c .before .before .before .before .before in some-pack (as-loaded _ _ _ _ (e .before .before .before .before .before .load .result .whole) (not-false _ (e .if2 .left)) (e .before .before .before .before .before .load .ensures)))  -- has-prefix-clash-requires
+    (λ c.
+    let e = c .before .before .before .before .before in
+    let l = as-loaded _ _ _ _ (e .before .before .before .before .before .load .result .whole) (not-false _ (e .if2 .left)) (e .before .before .before .before .before .load .ensures) in
+    refuses _ 5 (c .refused3 .ensures) (omega arith) (refused-5 _ (size e) (l .pack) (l .is)
+    (sym (c .before .before .has-duplicates .ensures (l .pack) (l .held .setting)) ∙ c .before .if3 .taken)))  -- returns-3
+    (λ c κs.
+    let e = c .before .before .before .before .before in
+    some-pack (as-loaded _ _ _ _ (e .before .before .before .before .before .load .result .whole) (not-false _ (e .if2 .left))
+    (e .before .before .before .before .before .load .ensures)))  -- has-prefix-clash-requires
     (λ c κs. search needs)  -- refused-requires-4
     (λ c. search needs)  -- same-length-5
     (λ c. search needs)  -- same-length-6
-    (λ c. let e = c .before .before .before .before .before .before .before .before in let l = as-loaded _ _ _ _ (e .before .before .before .before .before .load .result .whole) (not-false _ (e .if2 .left)) (e .before .before .before .before .before .load .ensures) in  -- returns-4
-    refuses _ 6 (c .refused4 .ensures) (omega arith) (refused-6 _ (size e) (l .pack) (l .is) (sym (c .before .before .before .before .before .has-duplicates .ensures (l .pack) (l .held .setting)) ∙ c .before .before .before .before .if3 .left)
-    (sym (c .before .before .has-prefix-clash .ensures (l .pack) (l .held .setting)) ∙ c .before .if4 .taken)))
-    (λ c κs. let e = c .before .before .before .before .before .before .before .before .before in is-pack (as-loaded _ _ _ _ (e .before .before .before .before .before .load .result .whole) (not-false _ (e .if2 .left)) (e .before .before .before .before .before .load .ensures)) (small e) (omega (arith, e .before .before .before .before .before .before .before .before .before .before .before .before .before .pre .0, e .before .before .before .before .before .load .kept .1 .0)))  -- is-dangling-requires
+    (λ c.
+    let at-if3 = c .before .before .before .before in
+    let at-has-duplicates = at-if3 .before in
+    let e = at-has-duplicates .before .before .before in
+    let l = as-loaded _ _ _ _ (e .before .before .before .before .before .load .result .whole) (not-false _ (e .if2 .left)) (e .before .before .before .before .before .load .ensures) in
+    refuses _ 6 (c .refused4 .ensures) (omega arith) (refused-6 _ (size e) (l .pack) (l .is)
+    (sym (at-has-duplicates .has-duplicates .ensures (l .pack) (l .held .setting)) ∙ at-if3 .if3 .left)
+    (sym (c .before .before .has-prefix-clash .ensures (l .pack) (l .held .setting)) ∙ c .before .if4 .taken)))  -- returns-4
+    (λ c κs.
+    let e = c .before .before .before .before .before .before .before .before .before in
+    is-pack (as-loaded _ _ _ _ (e .before .before .before .before .before .load .result .whole) (not-false _ (e .if2 .left))
+    (e .before .before .before .before .before .load .ensures)) (small e)
+    (omega (
+      arith,
+      e .before .before .before .before .before .before .before .before .before .before .before .before .before .pre .0,
+      e .before .before .before .before .before .load .kept .1 .0,
+    )))  -- is-dangling-requires
     (λ c κs. search needs)  -- refused-requires-5
     (λ c. search needs)  -- same-length-7
     (λ c. search needs)  -- same-length-8
-    (λ c. let e = c .before .before .before .before .before .before .before .before .before .before .before .before in let l = as-loaded _ _ _ _ (e .before .before .before .before .before .load .result .whole) (not-false _ (e .if2 .left)) (e .before .before .before .before .before .load .ensures) in  -- returns-5
-    refuses _ 7 (c .refused5 .ensures) (omega arith) (refused-7 _ (size e) (l .pack) (l .is) (sym (c .before .before .before .before .before .before .before .before .before .has-duplicates .ensures (l .pack) (l .held .setting)) ∙ c .before .before .before .before .before .before .before .before .if3 .left)
-    (sym (c .before .before .before .before .before .before .has-prefix-clash .ensures (l .pack) (l .held .setting)) ∙ c .before .before .before .before .before .if4 .left) (sym (c .before .before .is-dangling .ensures (l .pack) (given l (small e) (omega (arith, e .before .before .before .before .before .before .before .before .before .before .before .before .before .pre .0, e .before .before .before .before .before .load .kept .1 .0)))) ∙ c .before .if5 .taken)))
+    (λ c.
+    let at-if4 = c .before .before .before .before .before in
+    let at-has-prefix-clash = at-if4 .before in
+    let at-if3 = at-has-prefix-clash .before .before in
+    let at-has-duplicates = at-if3 .before in
+    let e = at-has-duplicates .before .before .before in
+    let l = as-loaded _ _ _ _ (e .before .before .before .before .before .load .result .whole) (not-false _ (e .if2 .left)) (e .before .before .before .before .before .load .ensures) in
+    refuses _ 7 (c .refused5 .ensures) (omega arith) (refused-7 _ (size e) (l .pack) (l .is)
+    (sym (at-has-duplicates .has-duplicates .ensures (l .pack) (l .held .setting)) ∙ at-if3 .if3 .left)
+    (sym (at-has-prefix-clash .has-prefix-clash .ensures (l .pack) (l .held .setting)) ∙ at-if4 .if4 .left)
+    (sym (c .before .before .is-dangling .ensures (l .pack)
+    (given l (small e) (omega (
+      arith,
+      e .before .before .before .before .before .before .before .before .before .before .before .before .before .pre .0,
+      e .before .before .before .before .before .load .kept .1 .0,
+    )))) ∙ c .before .if5 .taken)))  -- returns-5
     (λ c. search needs)  -- same-length-9
     (λ c. search needs)  -- same-length-10
-    (λ c. let e = c .before .before .before .before .before .before .before .before .before .before .before in let l = as-loaded _ _ _ _ (e .before .before .before .before .before .load .result .whole) (not-false _ (e .if2 .left)) (e .before .before .before .before .before .load .ensures) in  -- returns-6
-    accepts l (small e) (omega (arith, e .before .before .before .before .before .before .before .before .before .before .before .before .before .pre .0, e .before .before .before .before .before .load .kept .1 .0)) (size e) (sym (c .before .before .before .before .before .before .before .before .has-duplicates .ensures (l .pack) (l .held .setting)) ∙ c .before .before .before .before .before .before .before .if3 .left)
-    (sym (c .before .before .before .before .before .has-prefix-clash .ensures (l .pack) (l .held .setting)) ∙ c .before .before .before .before .if4 .left) (sym (c .before .is-dangling .ensures (l .pack) (given l (small e) (omega (arith, e .before .before .before .before .before .before .before .before .before .before .before .before .before .pre .0, e .before .before .before .before .before .load .kept .1 .0)))) ∙ c .if5 .left) _ refl refl))
+    (λ c.
+    let at-if4 = c .before .before .before .before in
+    let at-has-prefix-clash = at-if4 .before in
+    let at-if3 = at-has-prefix-clash .before .before in
+    let at-has-duplicates = at-if3 .before in
+    let e = at-has-duplicates .before .before .before in
+    let l = as-loaded _ _ _ _ (e .before .before .before .before .before .load .result .whole) (not-false _ (e .if2 .left)) (e .before .before .before .before .before .load .ensures) in
+    accepts l (small e) (omega (
+      arith,
+      e .before .before .before .before .before .before .before .before .before .before .before .before .before .pre .0,
+      e .before .before .before .before .before .load .kept .1 .0,
+    )) (size e)
+    (sym (at-has-duplicates .has-duplicates .ensures (l .pack) (l .held .setting)) ∙ at-if3 .if3 .left)
+    (sym (at-has-prefix-clash .has-prefix-clash .ensures (l .pack) (l .held .setting)) ∙ at-if4 .if4 .left)
+    (sym (c .before .is-dangling .ensures (l .pack) (given l (small e)
+    (omega (
+      arith,
+      e .before .before .before .before .before .before .before .before .before .before .before .before .before .pre .0,
+      e .before .before .before .before .before .load .kept .1 .0,
+    )))) ∙ c .if5 .left) _ refl refl))  -- returns-6

@@ -11,7 +11,10 @@ ciravehy-pairs-spec =
     tie.close
     (tie.spec
     (λ c κs. search needs)  -- pairs-requires
-    (λ c κs. let s = pairs-small (c .before .before .before .before .before .before .before .before .before .before .before .before .before .before .before .before .before .before .pairs .ensures) in (omega (arith, s .0, s .1, s .2), omega (arith, s .0, s .1, s .2), omega (arith, s .0, s .1, s .2)))  -- numbers-requires
+    (λ c κs.
+    let pairs = c .before .before .before .before .before .before .before .before .before .before .before .before .before .before .before .before .before .before .pairs in
+    let s = pairs-small (pairs .ensures) in
+    (omega (arith, s .0, s .1, s .2), omega (arith, s .0, s .1, s .2), omega (arith, s .0, s .1, s .2)))  -- numbers-requires
     (λ c. search needs)  -- same-length
     (λ c. search needs)  -- same-length-2
     (λ c. search needs)  -- same-length-3
@@ -20,4 +23,6 @@ ciravehy-pairs-spec =
     (λ c. search needs)  -- same-length-6
     (λ c. search needs)  -- same-length-7
     (λ c. search needs)  -- same-length-8
-    (λ c. let a = c .before .before .before .before .before .before .before .before .before .before .before .before .before .before .before .before .before .before .before .pairs in record { answer = a .result; answers = a .ensures; refusal = refl; report = c .numbers .ensures }))  -- returns
+    (λ c.
+    let a = c .before .before .before .before .before .before .before .before .before .before .before .before .before .before .before .before .before .before .before .pairs in
+    record { answer = a .result; answers = a .ensures; refusal = refl; report = c .numbers .ensures }))  -- returns

@@ -13,14 +13,23 @@ ciravehy-yes-no-spec =
     (tie.spec
     (λ c κs. search needs)  -- yes-no-requires
     (λ c κs. search needs)  -- said-requires
-    (λ c κs. let (n, t) = yes-no-small (c .before .before .before .before .before .before .before .before .before .before .before .before .before .before .before .yes-no .ensures) in (omega (arith, n, t), omega (arith, n, t), omega (arith, c .said .ensures .1)))  -- numbers-requires
+    (λ c κs.
+    let yes-no = c .before .before .before .before .before .before .before .before .before .before .before .before .before .before .before .yes-no in
+    let (n, t) = yes-no-small (yes-no .ensures) in
+    (omega (arith, n, t), omega (arith, n, t), omega (arith, c .said .ensures .1)))  -- numbers-requires
     (λ c. search needs)  -- same-length
     (λ c. search needs)  -- same-length-2
     (λ c. search needs)  -- same-length-3
     (λ c. search needs)  -- same-length-4
     (λ c. search needs)  -- same-length-5
     (λ c. search needs)  -- same-length-6
-    (λ c.  -- returns
+    (λ c.
     let y = c .before .before .before .before .before .before .before .before .before .before .before .before .before .before .before .before .yes-no in
     let g = y .result .graph in
-    record { answer = y .result; answers = y .ensures; refusal = refl; report = c .numbers .ensures ∙ ap (λ n. reported (g .nodes) (g .triples) n (g .clash)) (c .before .said .ensures .0) }))
+    record {
+      answer = y .result;
+      answers = y .ensures;
+      refusal = refl;
+      report = c .numbers .ensures
+          ∙ ap (λ n. reported (g .nodes) (g .triples) n (g .clash)) (c .before .said .ensures .0);
+    }))  -- returns

@@ -17,4 +17,6 @@ clashes-spec =
     (λ c. search needs)  -- mul-limited
     (λ c. search needs)  -- shared-slice-read-limited
     (λ c κs. search needs)  -- limited-requires
-    (λ c. let s = c .before .before .before .before .before .before .before in same-clashes (s .args .shapes .now) (s .args .triples .now) (s .args .masks .now) (s .args .i) (c .limited .result) (c .before .before .if1 .left) (c .limited .ensures)))  -- returns-2
+    (λ c.
+    let s = c .before .before .before .before .before .before .before in
+    same-clashes (s .args .shapes .now) (s .args .triples .now) (s .args .masks .now) (s .args .i) (c .limited .result) (c .before .before .if1 .left) (c .limited .ensures)))  -- returns-2

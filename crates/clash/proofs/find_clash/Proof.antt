@@ -22,7 +22,10 @@ find-clash-spec =
     Inv-loop
     μ-loop
     (λ c. (search needs, searched-start _ _ _))  -- loop-holds
-    (λ c κs. let s = c .before .before .before .before .before in let i = c .before .loop .i in (c .before .loop .inv .1 .from, omega arith, subject-masked (s .pre) i (omega arith), predicate-known (s .pre) i (omega arith)))  -- clashes-requires
+    (λ c κs.
+    let s = c .before .before .before .before .before in
+    let i = c .before .loop .i in
+    (c .before .loop .inv .1 .from, omega arith, subject-masked (s .pre) i (omega arith), predicate-known (s .pre) i (omega arith)))  -- clashes-requires
     (λ c. search needs)  -- sub-t9
     (λ c. λ P I. let l = c .before .before .before .loop in clash-before I (l .i) (l .inv .1) (omega arith) (rw (c .if1 .taken) at (c .before .clashes .ensures)))  -- returns
     (λ c. search needs)  -- add-i

@@ -33,4 +33,6 @@ construct-spec =
     (λ c. search needs)  -- same-length-5
     (λ c. search needs)  -- same-length-6
     (λ c. search needs)  -- same-length-7
-    (λ c. let f = c .before .before .before .before .before .before in rows-answer (accepted-at (f .before .before .before .before .before .before)) (f .from-rows .ensures)))  -- returns-2
+    (λ c.
+    let f = c .before .before .before .before .before .before in
+    rows-answer (accepted-at (f .before .before .before .before .before .before)) (f .from-rows .ensures)))  -- returns-2

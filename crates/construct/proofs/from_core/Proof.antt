@@ -20,21 +20,25 @@ from-core-spec =
     (λ c. search needs)  -- enum-known-n
     (λ c. search needs)  -- enum-known-i
     (λ c. search needs)  -- slice-aggregate-clash-records
-    (λ c κs.  -- clash-records-requires
+    (λ c κs.
     let b = c .before .before .before .before .before .before .before .before .before .before in
     let p = b .before .before .before .before .before .before .before .before .before .before .pre in
-    (input-placed (p .0 .input), keys-small (p .0 .input), clash-inside _ _ _ _ _ _ _ _ _ _ (b .build .ensures) _ (c .before .before .i .given .1) (p .0), omega arith))
+    (input-placed (p .0 .input), keys-small (p .0 .input), clash-inside _ _ _ _ _ _ _ _ _ _ (b .build .ensures) _ (c .before .before .i .given .1) (p .0), omega arith))  -- clash-records-requires
     (λ c. search needs)  -- enum-told
     (λ c κs. search needs)  -- refused-requires
     (λ c. search needs)  -- same-length
     (λ c. search needs)  -- same-length-2
-    (λ c. graph-answer _ _ _ _ _ _ _ _ _ _ (c .before .before .before .before .before .before .before .before .before .build .ensures) _ _ (c .before .n .given .1) _ refl)  -- returns
+    (λ c.
+    let build = c .before .before .before .before .before .before .before .before .before .build in
+    graph-answer _ _ _ _ _ _ _ _ _ _ (build .ensures) _ _ (c .before .n .given .1) _ refl)  -- returns
     (λ c. search needs)  -- same-length-3
     (λ c. search needs)  -- same-length-4
-    (λ c.  -- returns-2
+    (λ c.
     let m = c .before .before .before .before in
-    clash-answer _ _ _ _ _ _ _ _ _ _ (m .before .before .before .before .before .before .before .before .build .ensures) _ (m .i .given .1) _ _ refl (c .before .clash-records .ensures))
+    clash-answer _ _ _ _ _ _ _ _ _ _ (m .before .before .before .before .before .before .before .before .build .ensures) _ (m .i .given .1) _ _ refl
+    (c .before .clash-records .ensures))  -- returns-2
     (λ c. search needs)  -- same-length-5
     (λ c. search needs)  -- same-length-6
-    (λ c.  -- returns-3
-    mixed-answer _ _ _ _ _ _ _ _ _ _ (c .before .before .before .before .before .before .before .before .before .build .ensures) (c .before .enum-told .given .1) _ (c .refused .ensures)))
+    (λ c.
+    let build = c .before .before .before .before .before .before .before .before .before .build in
+    mixed-answer _ _ _ _ _ _ _ _ _ _ (build .ensures) (c .before .enum-told .given .1) _ (c .refused .ensures)))  -- returns-3

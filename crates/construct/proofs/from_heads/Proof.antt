@@ -31,7 +31,11 @@ from-heads-spec =
     (λ c. search needs)  -- slice-aggregate-core
     (λ c. search needs)  -- slice-aggregate-core-2
     (λ c. search needs)  -- slice-aggregate-core-3
-    (λ c κs. let t = c .before .before .before in let p = from-tables t .pre in let k = core-ready (tables-at t) (p .0) (p .1) in (k .0, k .1, refl, refl, omega arith, refl))  -- core-requires
+    (λ c κs.
+    let t = c .before .before .before in
+    let p = from-tables t .pre in
+    let k = core-ready (tables-at t) (p .0) (p .1) in
+    (k .0, k .1, refl, refl, omega arith, refl))  -- core-requires
     (λ c. search needs)  -- enum-told
     (λ c κs. search needs)  -- refused-requires
     (λ c. search needs)  -- enum-known-n
@@ -41,8 +45,12 @@ from-heads-spec =
     (λ c. triple-room (cored-at (c .before .before .before .before .before .before .before .before)) (c .before .before .before .n .given .1))  -- array-share-prefix-edges
     (λ c. triples-taken (cored-at (c .before .before .before .before .before .before .before .before .before)) (c .before .before .before .before .n .given .1))  -- slice-aggregate-from-core-2
     (λ c. search needs)  -- slice-aggregate-from-core-3
-    (λ c κs. let m = c .before .before .before .before .before .before .before in let k = m .before .before .before .before .before in let p = from-tables (from-core k) .pre in  -- from-core-requires
-    (core-given (cored-at k) (m .n .given .1) (c .before .before .before .before .before .arities .ensures) (p .0), p .2, p .3))
+    (λ c κs.
+    let at-arities = c .before .before .before .before .before in
+    let m = at-arities .before .before in
+    let k = m .before .before .before .before .before in
+    let p = from-tables (from-core k) .pre in
+    (core-given (cored-at k) (m .n .given .1) (at-arities .arities .ensures) (p .0), p .2, p .3))  -- from-core-requires
     (λ c. large-answer (cored-at (c .before .before .before .before .before .before)) (c .before .enum-told .given .1) (c .refused .ensures) refl refl)  -- returns
     (λ c. search needs)  -- same-length
     (λ c. search needs)  -- same-length-2

@@ -46,7 +46,8 @@ module _ (c : tie.After-known-told2) where
   abbrev count₂ : ℕ
   count₂ = c .before .linked .given .0 .0
 
-  linked : TripleKeysListed count₂ (take (count past) (nodes past)) (start past .args .rules) (start past .args .count) (start past .args .heads .now) (start past .args .counts) (start past .args .triples .now) triples
+  linked : TripleKeysListed count₂ (take (count past) (nodes past)) (start past .args .rules) (start past .args .count) (start past .args .heads .now)
+      (start past .args .counts) (start past .args .triples .now) triples
   linked = rw (c .before .linked .given .1) at (c .before .before .before .before .before .triples .ensures)
 
   exact₂ : count₂ ≡ length (take count₂ triples)
@@ -74,13 +75,25 @@ core-spec =
     (λ c. exact (past (c .before)))  -- slice-aggregate-typing
     (λ c. linked (c .before) .grown .fits)  -- slice-reshare-prefix-typing-2
     (λ c. exact₂ (c .before .before))  -- slice-aggregate-typing-2
-    (λ c κs. let q = c .before .before .before in let p = past q in let s = start p .pre in let k = known-rules (s .1) (listed p .grown) in (s .0, s .1, listed p .grown .list .ascending, few p, k, all-placed (s .1) _ (listed p .grown .list .ascending) (few p) k (linked q .grown), few₂ q, s .4, s .5))  -- typing-requires
+    (λ c κs.
+    let q = c .before .before .before in
+    let p = past q in
+    let s = start p .pre in
+    let k = known-rules (s .1) (listed p .grown) in
+    (s .0, s .1, listed p .grown .list .ascending, few p, k, all-placed (s .1) _ (listed p .grown .list .ascending) (few p) k (linked q .grown), few₂ q, s .4, s .5))  -- typing-requires
     (λ c. search needs)  -- same-length
     (λ c. λ P h b. inl ((rw (c .enum-told .given .1) at (c .before .before .before .before .nodes .ensures)) P h b))  -- returns
     (λ c. search needs)  -- same-length-2
     (λ c. search needs)  -- same-length-3
-    (λ c. λ P h b. inr ((rw (c .enum-told2 .given .1) at (c .before .before .before .before .triples .ensures)) P h b (listed (c .before .before .before .before .before .before .before) .list P h b)))  -- returns-2
+    (λ c.
+    let at-triples = c .before .before .before .before in
+    let place = at-triples .before .before .before in
+    λ P h b. inr ((rw (c .enum-told2 .given .1) at (at-triples .triples .ensures)) P h b (listed (place) .list P h b)))  -- returns-2
     (λ c. search needs)  -- same-length-4
     (λ c. search needs)  -- same-length-5
     (λ c. search needs)  -- same-length-6
-    (λ c. let q = c .before .before .before .before .before .before in let p = past q in let a = c .before .before .typing in core-listed (listed p) (linked q) (a .ensures) (long p) (long₂ q) (omega (arith, a .kept .1 .1 .1 .1 .1 .1 .1 .0, start p .pre .4))))  -- returns-3
+    (λ c.
+    let q = c .before .before .before .before .before .before in
+    let a = c .before .before .typing in
+    let p = past q in
+    core-listed (listed p) (linked q) (a .ensures) (long p) (long₂ q) (omega (arith, a .kept .1 .1 .1 .1 .1 .1 .1 .0, start p .pre .4))))  -- returns-3

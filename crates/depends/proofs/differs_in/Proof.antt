@@ -27,6 +27,7 @@ differs-in-spec =
     looking-found (o .inv .1) (o .i + 1) (looking-one (o .inv .1) (search needs) (c .before .differ .ensures)) (search needs) (search needs) (c .if1 .taken))
     (λ c. search needs)  -- add-i
     (λ c. search needs)  -- loop-less
-    (λ c. let o = c .before .before .before .before .before .loop in  -- loop-again
-    (search needs, looking-on (o .inv .1) (o .i + 1) (looking-one (o .inv .1) (search needs) (c .before .differ .ensures)) (search needs) (search needs) (c .if1 .left)))
+    (λ c.
+    let o = c .before .before .before .before .before .loop in
+    (search needs, looking-on (o .inv .1) (o .i + 1) (looking-one (o .inv .1) (search needs) (c .before .differ .ensures)) (search needs) (search needs) (c .if1 .left)))  -- loop-again
     (λ c. search (looking-done, needs)))  -- returns-2

@@ -30,19 +30,21 @@ some-break-spec =
     (λ c. search needs)  -- add-key-2
     (λ c κs. search needs)  -- key-requires-2
     (λ c κs. (search needs, search needs, search needs))  -- some-differs-requires
-    (λ c.  -- returns
+    (λ c.
     let k = c .before .before .before .before in
     let o = k .before .before .before .before .before in
-    let t = rows-break (o .before .loop .inv) (o .loop-test .taken) (k .before .before .if1 .left) _ _ (k .before .key .ensures) (k .key2 .ensures) (c .before .some-differs .ensures) (c .if2 .taken) in
-    (t, search needs, search needs))
+    let t = rows-break (o .before .loop .inv) (o .loop-test .taken) (k .before .before .if1 .left) _ _ (k .before .key .ensures) (k .key2 .ensures) (c .before .some-differs .ensures)
+    (c .if2 .taken) in
+    (t, search needs, search needs))  -- returns
     (λ c. search needs)  -- mul-lefts
     (λ c. search needs)  -- element-write-lefts
     (λ c. search needs)  -- mul-rights
     (λ c. search needs)  -- element-write-rights
     (λ c. search needs)  -- add-n
     (λ c. search needs)  -- loop-less-2
-    (λ c.  -- loop-again-2
+    (λ c.
     let k = c .before .before .before .before in
     let o = k .before .before .before .before .before in
-    rows-more (o .before .loop .inv) (o .loop-test .taken) (k .before .before .if1 .left) _ _ (k .before .key .ensures) (k .key2 .ensures) (c .before .some-differs .ensures) (c .if2 .left))
+    rows-more (o .before .loop .inv) (o .loop-test .taken) (k .before .before .if1 .left) _ _ (k .before .key .ensures) (k .key2 .ensures) (c .before .some-differs .ensures)
+    (c .if2 .left))  -- loop-again-2
     (λ c. (search (rows-done, needs), search needs, search needs)))  -- returns-2

@@ -28,6 +28,9 @@ start-by-subject-spec =
     (λ c. let h = c .before .before .before .before .before .pre .1 .1 in let g = c .before .before .loop .inv .1 in omega arith)  -- slice-write-first
     (λ c. search needs)  -- add-n
     (λ c. search needs)  -- loop-less
-    (λ c. let g = c .before .before .loop .inv in (omega arith, simp length-set (g .1), count-again (c .before .before .before .before .before .pre .1 .0) (omega arith) (g .2) (c .skip .ensures)))  -- loop-again
+    (λ c.
+    let pre = c .before .before .before .before .before .pre in
+    let g = c .before .before .loop .inv in
+    (omega arith, simp length-set (g .1), count-again (pre .1 .0) (omega arith) (g .2) (c .skip .ensures)))  -- loop-again
     (λ c. c .before .loop .inv .1)  -- same-length
     (λ c. count-done (omega arith) (let g = c .before .loop .inv .1 in omega arith) (c .before .loop .inv .2)))  -- returns

@@ -29,4 +29,7 @@ close-spec =
     (λ c. let r = c .before .before .before .round in λ P h.  -- returns
     closed (c .before .before .before .before .before .loop .inv .1 P h) (r .ensures .1 P h) (rw (not-true (r .result) (c .if1 .taken)) at (r .ensures .0)))
     (λ c. let r = c .before .before .before .round in rw (not-false (r .result) (c .if1 .left)) at (r .ensures .0))  -- loop-less
-    (λ c. let r = c .before .before .before .round in (search needs, λ P h. reached-again (c .before .before .before .before .before .loop .inv .1 P h) (r .ensures .1 P h))))  -- loop-again
+    (λ c.
+    let loop = c .before .before .before .before .before .loop in
+    let r = c .before .before .before .round in
+    (search needs, λ P h. reached-again (loop .inv .1 P h) (r .ensures .1 P h))))  -- loop-again

@@ -15,4 +15,9 @@ invent-spec =
     (λ c κs. search needs)  -- seed-requires
     (λ c κs. search needs)  -- close-requires
     (λ c. search needs)  -- same-length
-    (λ c. λ P I. invented-sets I (none-set (length (c .before .before .before .before .before .before .before .before .before .before .before .before .before .before .before .before .args .flags .now)) _ (c .before .before .before .before .before .before .before .before .before .before .clear-u16 .ensures)) (c .before .before .before .before .before .before .seed .ensures P (shaped I)) _ (c .before .before .close .ensures P (shaped I))))  -- returns
+    (λ c.
+    let at-seed = c .before .before .before .before .before .before in
+    let at-clear-u16 = at-seed .before .before .before .before in
+    let entry = at-clear-u16 .before .before .before .before .before .before in
+    λ P I. invented-sets I (none-set (length (entry .args .flags .now)) _ (at-clear-u16 .clear-u16 .ensures)) (at-seed .seed .ensures P (shaped I)) _
+    (c .before .before .close .ensures P (shaped I))))  -- returns

@@ -15,5 +15,9 @@ mark-following-spec =
     (λ c κs. search needs)  -- set-mask-requires
     (λ c κs. search needs)  -- mark-all-requires
     (λ c. search needs)  -- same-length
-    (λ c. let s = c .before .before .before .before .before .before .before .before in let m = c .before .before .mark-all in  -- returns-2
-    (m .ensures .0, following (s .args .shapes .now) (s .args .j) _ (s .pre .0) (c .before .before .before .before .set-mask .ensures) (s .args .flags .now) _ (c .before .before .before .before .before .if1 .left) (m .ensures .1))))
+    (λ c.
+    let at-set-mask = c .before .before .before .before in
+    let m = c .before .before .mark-all in
+    let at-if1 = at-set-mask .before in
+    let s = at-if1 .before .before .before in
+    (m .ensures .0, following (s .args .shapes .now) (s .args .j) _ (s .pre .0) (at-set-mask .set-mask .ensures) (s .args .flags .now) _ (at-if1 .if1 .left) (m .ensures .1))))  -- returns-2

@@ -32,10 +32,24 @@ seed-spec =
     (λ c. (search needs, search needs, search needs, no-subject _, λ P h. upto-start _))  -- loop-holds
     (λ c. omega (arith, c .before .before .before .before .before .before .pre .0 .few))  -- mul-seed-node
     (λ c. omega (arith, c .before .before .before .before .before .before .before .pre .0 .long))  -- shared-slice-read-seed-node
-    (λ c κs. let s = c .before .before .before .before .before .before .before .before in (s .pre .0 .triples-ascend, omega (arith, s .pre .0 .few), c .before .before .before .loop .inv .3, omega (arith, s .pre .1), s .pre .2))  -- seed-node-requires
+    (λ c κs.
+    let s = c .before .before .before .before .before .before .before .before in
+    (s .pre .0 .triples-ascend, omega (arith, s .pre .0 .few), c .before .before .before .loop .inv .3, omega (arith, s .pre .1), s .pre .2))  -- seed-node-requires
     (λ c. search needs)  -- add-s
     (λ c. search needs)  -- loop-less
-    (λ c. let s = c .before .before .before .before .before .before .before .before .before .before .before in let l = c .before .before .before .before .before .before .loop in let m = c .before .before .seed-node in  -- loop-again
-    (search needs, search needs, search needs, next-subject (s .args .triples .now) (l .s) (m .result) (s .pre .0 .predicate) (m .ensures .1), λ P h. upto-again (l .inv .4 P h) (m .ensures .0 P h)))
+    (λ c.
+    let s = c .before .before .before .before .before .before .before .before .before .before .before in
+    let l = c .before .before .before .before .before .before .loop in
+    let m = c .before .before .seed-node in (
+      search needs,
+      search needs,
+      search needs,
+      next-subject (s .args .triples .now) (l .s) (m .result) (s .pre .0 .predicate) (m .ensures .1),
+      λ P h. upto-again (l .inv .4 P h) (m .ensures .0 P h),
+    ))  -- loop-again
     (λ c. search needs)  -- same-length
-    (λ c. let l = c .before .loop in let e : l .s ≡ length (c .before .before .before .before .before .before .args .nodes .now) = omega arith in λ P h. rw e at (l .inv .4 P h)))  -- returns
+    (λ c.
+    let args = c .before .before .before .before .before .before .args in
+    let l = c .before .loop in
+    let e : l .s ≡ length (args .nodes .now) = omega arith in
+    λ P h. rw e at (l .inv .4 P h)))  -- returns

@@ -13,9 +13,23 @@ seed-edge-spec =
     (λ c. search needs)  -- mul-after
     (λ c. search needs)  -- add-after
     (λ c κs. search needs)  -- after-requires
-    (λ c. let s = c .before .before .before .before in let a = s .args in let m = c .before .after in  -- returns
-    (edge-there (a .shapes .now) (a .triples .now) (a .subject) (a .mask) (a .p) (origin-some (a .triples .now) (originAt (a .subject) (a .p)) (a .from) (m .result) (s .pre .3) (m .ensures) (c .if1 .taken)) (a .flags .now), m .ensures))
+    (λ c.
+    let s = c .before .before .before .before in
+    let m = c .before .after in
+    let a = s .args in (
+      edge-there (a .shapes .now) (a .triples .now) (a .subject) (a .mask) (a .p)
+          (origin-some (a .triples .now) (originAt (a .subject) (a .p)) (a .from) (m .result) (s .pre .3) (m .ensures) (c .if1 .taken)) (a .flags .now),
+      m .ensures,
+    ))  -- returns
     (λ c κs. search needs)  -- mark-targets-requires
     (λ c. search needs)  -- same-length
-    (λ c. let s = c .before .before .before .before .before .before .before .before in let a = s .args in let m = c .before .before .before .before .before .after in  -- returns-2
-    (edge-missing (a .shapes .now) (a .triples .now) (a .subject) (a .mask) (a .p) (origin-none (a .triples .now) (originAt (a .subject) (a .p)) (a .from) (m .result) (s .pre .3) (m .ensures) (c .before .before .before .before .if1 .left)) (a .flags .now) _ (c .before .before .mark-targets .ensures .1), m .ensures)))
+    (λ c.
+    let at-if1 = c .before .before .before .before in
+    let s = at-if1 .before .before .before .before in
+    let m = c .before .before .before .before .before .after in
+    let a = s .args in (
+      edge-missing (a .shapes .now) (a .triples .now) (a .subject) (a .mask) (a .p)
+          (origin-none (a .triples .now) (originAt (a .subject) (a .p)) (a .from) (m .result) (s .pre .3) (m .ensures) (at-if1 .if1 .left)) (a .flags .now) _
+          (c .before .before .mark-targets .ensures .1),
+      m .ensures,
+    )))  -- returns-2

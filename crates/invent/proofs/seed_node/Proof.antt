@@ -33,7 +33,10 @@ seed-node-spec =
     (λ c κs. search needs)  -- seed-edge-requires
     (λ c. search needs)  -- add-p
     (λ c. search needs)  -- loop-less
-    (λ c. let a = c .before .before .before .before .before .before .before .before .args in let l = c .before .before .before .before .before .loop in let m = c .before .before .seed-edge in  -- loop-again
-    (search needs, search needs, next-predicate (a .triples .now) (a .subject) (m .result) (l .p) (m .ensures .1), λ P h. upto-again (l .inv .3 P h) (m .ensures .0 P h)))
+    (λ c.
+    let a = c .before .before .before .before .before .before .before .before .args in
+    let l = c .before .before .before .before .before .loop in
+    let m = c .before .before .seed-edge in
+    (search needs, search needs, next-predicate (a .triples .now) (a .subject) (m .result) (l .p) (m .ensures .1), λ P h. upto-again (l .inv .3 P h) (m .ensures .0 P h)))  -- loop-again
     (λ c. search needs)  -- same-length
     (λ c. let l = c .before .loop in let e : l .p ≡ maxPredicates = omega arith in (λ P h. rw e at (l .inv .3 P h), rw e at (l .inv .2))))  -- returns

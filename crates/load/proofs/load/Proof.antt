@@ -51,7 +51,9 @@ load-spec =
     (λ c κs. search needs)  -- broken-requires-2
     (λ c. search needs)  -- same-length-2
     (λ c. search needs)  -- same-length-3
-    (λ c. rw (c .broken2 .ensures) (no-pack _ rowsBody (omega arith) (rw (c .before .enum-told2 .given .1) at (c .before .before .before .before .before .load-part2 .ensures))))  -- returns-2
+    (λ c.
+    let load-part2 = c .before .before .before .before .before .load-part2 in
+    rw (c .broken2 .ensures) (no-pack _ rowsBody (omega arith) (rw (c .before .enum-told2 .given .1) at (load-part2 .ensures))))  -- returns-2
     (λ c. search needs)  -- same-length-4
     (λ c. search needs)  -- same-length-5
     (λ c.  -- returns-3

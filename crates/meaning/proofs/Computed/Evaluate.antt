@@ -92,7 +92,9 @@ module _ {G : View} (W : Walkable G) (w : Walks G W) (c : Closed G) where
 
     star-iff : (n m : G .Node) → G .IsNode n → (m ∈ grow (W .same) (n ∷ []) (reaches W e) (length (W .nodes)) (n ∷ [])) ↔ Repeated (Joins G e) n m
     star-iff n m i =
-        let r = reach-iff (W .same) (n ∷ []) (reaches W e) (W .nodes) (λ x h. w .nodes-iff x .1 (last c (Joins G e) (ends c e) i (reached-passes i h))) (length (W .nodes)) (le-refl (length (W .nodes))) m in
+        let r =
+        reach-iff (W .same) (n ∷ []) (reaches W e) (W .nodes) (λ x h. w .nodes-iff x .1 (last c (Joins G e) (ends c e) i (reached-passes i h)))
+        (length (W .nodes)) (le-refl (length (W .nodes))) m in
         (λ h. reached-passes i (r .0 h), λ h. r .1 (passes-reached h))
 
   -- the computed ends are the meaning's

@@ -3,7 +3,22 @@ use lib.Dec.{T}
 use lib.ListN.{getD, getElem?, length, take}
 use lib.Seq.{take-suc}
 use mathlib.Core.Bool.{Bool, true, false, _&&_, _||_, and-assoc}
-use mathlib.Core.List.{List, [], _∷_, _++_, map, flatMap, filterMap, filterMap-cons-none, filterMap-cons-some, Memᴰ·of-map, Memᴰ·append-left, Memᴰ·append-right, List·Memᴰ·append-cases, List·Memᴰ·eq-of-singleton}
+use mathlib.Core.List.{
+  List,
+  [],
+  _∷_,
+  _++_,
+  map,
+  flatMap,
+  filterMap,
+  filterMap-cons-none,
+  filterMap-cons-some,
+  Memᴰ·of-map,
+  Memᴰ·append-left,
+  Memᴰ·append-right,
+  List·Memᴰ·append-cases,
+  List·Memᴰ·eq-of-singleton,
+}
 use mathlib.Core.Logic.{_⊎_, _↔_, inl, inr}
 use mathlib.Core.Option.{Option, none, some, Option·none-ne-some, Option·some-injective}
 use mathlib.Core.Path.{_≡_, refl, sym, ap, ap₂, _∙_, subst}

@@ -2,7 +2,7 @@
 use lib.ListN.{drop, length, length-append, length-drop, length-take, set, take, take-append-drop}
 use lib.Seq.{drop-append-le, drop-at, drop-drop, length-front, length-take-le, sets-eq, take-append-le, take-at}
 use mathlib.Core.List.{List, [], _∷_, _++_, append-assoc, append-nil}
-use mathlib.Core.Path.{_≡_, refl, sym, ap, _∙_}
+use mathlib.Core.Path.{_≡_, sym, ap, _∙_}
 use native.Mathlib.Numerals.{towards-suc}
 use native.Mathlib.Omega.{arith}
 use Prim.Native.Nat.{ℕ, _+_, _≤_}

@@ -38,7 +38,8 @@ module _ {A : Type 0} (f : A → A → Bool) where
   two-none [] y e h = refl
   two-none (x ∷ xs) y e h = go (any (f x) xs) (f x y) refl refl (two-none xs y)
     where
-      go : (a b : Bool) → any (f x) xs ≡ a → f x y ≡ b → (anyTwo f xs ≡ false → any (λ z. f z y) xs ≡ false → anyTwo f (xs ++ y ∷ []) ≡ false) → anyTwo f ((x ∷ xs) ++ y ∷ []) ≡ false
+      go : (a b : Bool) → any (f x) xs ≡ a → f x y ≡ b → (anyTwo f xs ≡ false → any (λ z. f z y) xs ≡ false → anyTwo f (xs ++ y ∷ []) ≡ false)
+          → anyTwo f ((x ∷ xs) ++ y ∷ []) ≡ false
       go true b p q ih = absurd (let k : true ≡ false = rw p at e in let z : _≡_ {A = ℕ} 0 1 = cc in omega arith)
       go false true p q ih = absurd (let k : true ≡ false = rw q at h in let z : _≡_ {A = ℕ} 0 1 = cc in omega arith)
       go false false p q ih = rw (any-none (f x) xs y q p) (ih (rw p at e) (rw q at h))

@@ -81,9 +81,9 @@ same-long (x ∷ xs) (y ∷ ys) h = go (eqb x y) (same-long xs ys (λ e. h (ap s
     go true e = e
     go false e = refl
 
-pub same-at : (xs ys : List ℕ) (k : ℕ) → true ≡ sameText xs ys → getD xs k 0 ≡ getD ys k 0
-same-at [] [] k e = refl
-same-at [] (y ∷ ys) k e = absurd (let z : _≡_ {A = ℕ} 0 1 = cc in omega arith)
-same-at (x ∷ xs) [] k e = absurd (let z : _≡_ {A = ℕ} 0 1 = cc in omega arith)
-same-at (x ∷ xs) (y ∷ ys) zero e = eqb-true x y (and-both (eqb x y) (sameText xs ys) (sym e) .0)
-same-at (x ∷ xs) (y ∷ ys) (suc k) e = same-at xs ys k (sym (and-both (eqb x y) (sameText xs ys) (sym e) .1))
+pub same-byte : (xs ys : List ℕ) (k : ℕ) → true ≡ sameText xs ys → getD xs k 0 ≡ getD ys k 0
+same-byte [] [] k e = refl
+same-byte [] (y ∷ ys) k e = absurd (let z : _≡_ {A = ℕ} 0 1 = cc in omega arith)
+same-byte (x ∷ xs) [] k e = absurd (let z : _≡_ {A = ℕ} 0 1 = cc in omega arith)
+same-byte (x ∷ xs) (y ∷ ys) zero e = eqb-true x y (and-both (eqb x y) (sameText xs ys) (sym e) .0)
+same-byte (x ∷ xs) (y ∷ ys) (suc k) e = same-byte xs ys k (sym (and-both (eqb x y) (sameText xs ys) (sym e) .1))

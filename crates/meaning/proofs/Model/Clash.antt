@@ -207,7 +207,9 @@ module _ (P : Pack) where
 
     not-none : (d : TwoObjects P) → clashAt (d .subject) (d .predicate) ≡ none → ⊥
     unfolding clashAt lowestTwo
-    not-none d = go (limitedAt (d .subject) (d .predicate)) (limited-in d) (objects (d .subject) (d .predicate)) (object-iff _ _ (d .first) .1 (d .edge₁)) (object-iff _ _ (d .second) .1 (d .edge₂))
+    not-none d =
+        go (limitedAt (d .subject) (d .predicate)) (limited-in d) (objects (d .subject) (d .predicate)) (object-iff _ _ (d .first) .1 (d .edge₁))
+        (object-iff _ _ (d .second) .1 (d .edge₂))
       where
         alone : (x : Node) → d .first ∈ (x ∷ []) → d .second ∈ (x ∷ []) → d .first ≡ d .second
         alone x (here e) (here f) = e ∙ sym f

@@ -14,7 +14,22 @@ use Rattle.meaning.proofs.Theory.Simulation.{last}
 use Rattle.meaning.specs.Member.{_∈_, here, there}
 use Rattle.meaning.specs.Pack.{Atom, Constructor, HasShape, Head, Pack, Row, Rule, Shape, ShapeRecord, Term, firstShape, hasType, linksTo, linksToValue, shapeIn, shapeOf, type}
 use Rattle.meaning.specs.Tests.{any, elem, every}
-use Rattle.meaning.specs.WellFormed.{constructorArities, dangling, goodAtom, goodDependency, goodHead, goodPredicate, goodRow, goodRule, goodShape, goodTarget, goodTerm, goodType, hasArity, inAtoms}
+use Rattle.meaning.specs.WellFormed.{
+  constructorArities,
+  dangling,
+  goodAtom,
+  goodDependency,
+  goodHead,
+  goodPredicate,
+  goodRow,
+  goodRule,
+  goodShape,
+  goodTarget,
+  goodTerm,
+  goodType,
+  hasArity,
+  inAtoms,
+}
 
 -- the variables of a head, and its terms
 unfoldable pub headVariables : Head → List ℕ

@@ -2,7 +2,28 @@
 use mathlib.Core.List.{List, [], _∷_}
 use Prim.Native.Nat.{ℕ}
 use Rattle.meaning.specs.Ascii.{ascii}
-use Rattle.meaning.specs.Pack.{Atom, Constructor, Dependency, Head, Literal, Multiplicity, Pack, Row, Rule, ShapeRecord, Target, Term, Text, anyNumber, atLeastOne, hasType, linksTo, linksToValue, one, type}
+use Rattle.meaning.specs.Pack.{
+  Atom,
+  Constructor,
+  Dependency,
+  Head,
+  Literal,
+  Multiplicity,
+  Pack,
+  Row,
+  Rule,
+  ShapeRecord,
+  Target,
+  Term,
+  Text,
+  anyNumber,
+  atLeastOne,
+  hasType,
+  linksTo,
+  linksToValue,
+  one,
+  type,
+}
 
 -- ---- records, written short
 

@@ -50,7 +50,8 @@ module _ (P : Pack) where
       let f = y .lowest-objects (c .first) (subst₂ (λ n q. CoreEdge P n q (c .first)) s p (c .edge₁)) (subst (λ o. core (c .first) ◃ core o) g (x .lower-first)) in
       record { subject = s; predicate = p; first = f; second = g }
 
-  pub clash-unique : {s s′ : List ℕ} {p p′ : ℕ} {f f′ g g′ : List ℕ} → ClashGiven P s p f g → ClashGiven P s′ p′ f′ g′ → (s ≡ s′) × (p ≡ p′) × (f ≡ f′) × (g ≡ g′)
+  pub clash-unique : {s s′ : List ℕ} {p p′ : ℕ} {f f′ g g′ : List ℕ} → ClashGiven P s p f g → ClashGiven P s′ p′ f′ g′ → (s ≡ s′) × (p ≡ p′)
+      × (f ≡ f′) × (g ≡ g′)
   clash-unique x y =
       let e = first-once (x .clash) (y .clash) (x .is-first) (y .is-first) in (
         one (e .subject) (x .subject-is) (y .subject-is),

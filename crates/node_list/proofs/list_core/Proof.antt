@@ -31,11 +31,26 @@ list-core-spec =
     (λ c. search needs)  -- mul-write-core-node-2
     (λ c. search needs)  -- shared-slice-read-write-core-node-2
     (λ c. search needs)  -- mul-write-core-node-3
-    (λ c κs. let s = c .before .before .before .before .before .before .before .before in let l = c .before .before .before .before .loop in (s .pre .0 .small _ (∈-at (s .args .nodes .now) (l .i) (omega arith)), omega (arith, s .pre .1), omega (arith, s .pre .3, s .pre .1, l .inv .2 .long)))  -- write-core-node-requires
+    (λ c κs.
+    let s = c .before .before .before .before .before .before .before .before in
+    let l = c .before .before .before .before .loop in
+    (s .pre .0 .small _ (∈-at (s .args .nodes .now) (l .i) (omega arith)), omega (arith, s .pre .1), omega (arith, s .pre .3, s .pre .1, l .inv .2 .long)))  -- write-core-node-requires
     (λ c. search needs)  -- add-i
     (λ c. search needs)  -- loop-less
-    (λ c. let s = c .before .before .before .before .before .before .before .before .before .before .before in let l = c .before .before .before .before .before .before .before .loop in let a = s .args in  -- loop-again
-    (search needs, search needs, rw (c .before .before .write-core-node .ensures) (records-again _ (rw (core-next (a .arities) (a .nodes .now) (a .masks .now) (l .i) (omega arith) (omega (arith, s .pre .2))) at (l .inv .2)) (numbers-long _ _ _) (omega (arith, s .pre .3, s .pre .1)))))
+    (λ c.
+    let s = c .before .before .before .before .before .before .before .before .before .before .before in
+    let l = c .before .before .before .before .before .before .before .loop in
+    let a = s .args in (
+      search needs,
+      search needs,
+      rw (c .before .before .write-core-node .ensures)
+          (records-again _ (rw (core-next (a .arities) (a .nodes .now) (a .masks .now) (l .i) (omega arith) (omega (arith, s .pre .2))) at (l .inv .2)) (numbers-long _ _ _)
+          (omega (arith, s .pre .3, s .pre .1))),
+    ))  -- loop-again
     (λ c. c .before .loop .inv .2 .long)  -- same-length
-    (λ c. let s = c .before .before .before .before .before in let l = c .before .loop in let a = s .args in
-    records-done (rw (core-end (a .arities) (a .nodes .now) (a .masks .now) (l .i) (omega arith)) at (l .inv .2)) (omega arith) (omega (arith, s .pre .3, s .pre .1, l .inv .1))))  -- returns
+    (λ c.
+    let s = c .before .before .before .before .before in
+    let l = c .before .loop in
+    let a = s .args in
+    records-done (rw (core-end (a .arities) (a .nodes .now) (a .masks .now) (l .i) (omega arith)) at (l .inv .2)) (omega arith)
+    (omega (arith, s .pre .3, s .pre .1, l .inv .1))))  -- returns

@@ -18,4 +18,7 @@ list-set-spec =
     (λ c. search needs)  -- add-result
     (λ c. search needs)  -- same-length
     (λ c. search needs)  -- same-length-2
-    (λ c. let s = c .before .before .before .before .before .before .before .before .before .args in set-listed (s .flags .now) (s .set) (s .node) (s .places .now) (s .out .now) _ (c .before .before .before .before .if1 .left) (c .before .before .write-set .ensures)))  -- returns-2
+    (λ c.
+    let if1 = c .before .before .before .before .if1 in
+    let s = c .before .before .before .before .before .before .before .before .before .args in
+    set-listed (s .flags .now) (s .set) (s .node) (s .places .now) (s .out .now) _ (if1 .left) (c .before .before .write-set .ensures)))  -- returns-2

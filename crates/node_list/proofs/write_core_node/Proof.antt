@@ -13,8 +13,10 @@ write-core-node-spec =
     (λ c. search needs)  -- cast-write-node
     (λ c κs. search needs)  -- write-node-requires
     (λ c. search needs)  -- same-length
-    (λ c. let s = c .before .before .before .before .before .before .args in  -- returns
-    written-as (s .at) (s .out .now) _ _ _ (c .before .before .write-node .ensures) (literal-numbers (s .t1) (s .key) (s .mask) (c .before .before .before .before .if1 .taken)))
+    (λ c.
+    let if1 = c .before .before .before .before .if1 in
+    let s = c .before .before .before .before .before .before .args in
+    written-as (s .at) (s .out .now) _ _ _ (c .before .before .write-node .ensures) (literal-numbers (s .t1) (s .key) (s .mask) (if1 .taken)))  -- returns
     (λ c. search needs)  -- array-read-arity
     (λ c κs. search needs)  -- argument-requires
     (λ c κs. search needs)  -- argument-requires-2
@@ -23,6 +25,12 @@ write-core-node-spec =
     (λ c. search needs)  -- cast-write-node-2
     (λ c κs. search needs)  -- write-node-requires-2
     (λ c. search needs)  -- same-length-2
-    (λ c. let s = c .before .before .before .before .before .before .before .before .before .before .args in  -- returns-2
+    (λ c.
+    let at-argument4 = c .before .before .before .before in
+    let s = c .before .before .before .before .before .before .before .before .before .before .args in
+    let at-argument3 = at-argument4 .before in
+    let at-argument2 = at-argument3 .before in
+    let at-argument = at-argument2 .before in
     written-as (s .at) (s .out .now) _ _ _ (c .before .before .write-node2 .ensures)
-    (iri-numbers (s .t1) (s .key) (s .mask) (omega arith) _ _ _ _ (c .before .before .before .before .before .before .before .argument .ensures) (c .before .before .before .before .before .before .argument2 .ensures) (c .before .before .before .before .before .argument3 .ensures) (c .before .before .before .before .argument4 .ensures))))
+    (iri-numbers (s .t1) (s .key) (s .mask) (omega arith) _ _ _ _ (at-argument .argument .ensures) (at-argument2 .argument2 .ensures) (at-argument3 .argument3 .ensures)
+    (at-argument4 .argument4 .ensures))))  -- returns-2

@@ -15,8 +15,10 @@ write-set-spec =
     (λ c. search needs)  -- cast-types
     (λ c κs. search needs)  -- write-node-requires
     (λ c. search needs)  -- same-length
-    (λ c. let s = c .before .before .before .before .before .before .args in  -- returns
-    written-as (s .node * nodeWidth) (s .out .now) _ _ _ (c .before .before .write-node .ensures) (set-literal (s .set) (c .before .before .before .before .if1 .taken)))
+    (λ c.
+    let if1 = c .before .before .before .before .if1 in
+    let s = c .before .before .before .before .before .before .args in
+    written-as (s .node * nodeWidth) (s .out .now) _ _ _ (c .before .before .write-node .ensures) (set-literal (s .set) (if1 .taken)))  -- returns
     (λ c κs. search needs)  -- write-node-requires-2
     (λ c. search needs)  -- same-length-2
     (λ c. let s = c .before .before .before .before .before .before .args in  -- returns-2

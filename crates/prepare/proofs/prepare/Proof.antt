@@ -63,8 +63,9 @@ prepare-spec =
       omega (arith, h .few, h .query .fits, l .1),
     ))
     (λ c. search needs)  -- same-length-6
-    (λ c. let q = c .before .before .before .before .before in  -- returns-2
-    (not-read _ _ _ _ _ (q .read-query .ensures) (c .before .enum-told .given .1) (c .refused .ensures) (refl, (refl, tt)), λ z. absurd (not-0 (c .refused .ensures) z)))
+    (λ c.
+    let q = c .before .before .before .before .before in
+    (not-read _ _ _ _ _ (q .read-query .ensures) (c .before .enum-told .given .1) (c .refused .ensures) (refl, (refl, tt)), λ z. absurd (not-0 (c .refused .ensures) z)))  -- returns-2
     (λ c. asked (made (c .before .before .before .before .before .before .before .before)) .read-query .kept .1 .0)  -- same-length-7
     (λ c. search needs)  -- same-length-8
     (λ c. search needs)  -- same-length-9

@@ -22,4 +22,6 @@ numbers-spec =
     (λ c. search needs)  -- part-all-start
     (λ c. search needs)  -- part-all-end
     (λ c κs. search needs)  -- copy-front-requires
-    (λ c. ap (λ l. c .before .before .before .before .args .nodes ∷ c .before .before .before .before .args .triples ∷ c .before .before .before .before .args .answer ∷ l) (whole clashWidth _ (c .before .copy-front .last .1 .1 .0) (c .before .copy-front .ensures) (search needs))))  -- returns
+    (λ c.
+    let args = c .before .before .before .before .args in
+    ap (λ l. args .nodes ∷ args .triples ∷ args .answer ∷ l) (whole clashWidth _ (c .before .copy-front .last .1 .1 .0) (c .before .copy-front .ensures) (search needs))))  -- returns

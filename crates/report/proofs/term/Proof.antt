@@ -15,4 +15,6 @@ term-spec =
     (λ c. search needs)  -- part-all-start
     (λ c. search needs)  -- part-all-end
     (λ c κs. search needs)  -- copy-front-requires
-    (λ c. ap (λ l. c .before .before .before .before .args .constructor ∷ l) (whole 4 _ (c .before .copy-front .last .1 .1 .0) (c .before .copy-front .ensures) (search needs))))  -- returns
+    (λ c.
+    let args = c .before .before .before .before .args in
+    ap (λ l. args .constructor ∷ l) (whole 4 _ (c .before .copy-front .last .1 .1 .0) (c .before .copy-front .ensures) (search needs))))  -- returns

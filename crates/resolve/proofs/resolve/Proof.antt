@@ -56,9 +56,15 @@ resolve-spec =
     (λ c κs. in-tree c)  -- first-number-requires
     (λ c κs. search needs)  -- least-requires
     (λ c κs. in-tree (c .before .before))  -- second-number-requires
-    (λ c.  -- add-least
+    (λ c.
     let f = c .before .before in
-    omega (arith, c .before .least .ensures, f .first-number .ensures, c .second-number .ensures, lesser-left (f .first-number .result) (length (start (f .before) .args .query .now))))
+    omega (
+      arith,
+      c .before .least .ensures,
+      f .first-number .ensures,
+      c .second-number .ensures,
+      lesser-left (f .first-number .result) (length (start (f .before) .args .query .now)),
+    ))  -- add-least
     (λ c κs. search needs)  -- least-requires-2
     (λ c κs. in-tree (test c))  -- kind-of-requires
     (λ c. cut-order (cut (c .before)))  -- sub-number-wanted
@@ -69,9 +75,12 @@ resolve-spec =
     (λ c. let t = test (c .before .before .before) in omega (arith, in-wanted t, t .before .loop .inv .1 .long))  -- slice-write-wanted
     (λ c. search needs)  -- add-i
     (λ c. search needs)  -- loop-less
-    (λ c.  -- loop-again
+    (λ c.
     let l = c .before .before .before in
-    let t = test l in
-    (omega (arith, t .loop-test .taken), filled-on (t .before .loop .inv .1) (in-wanted t) _ _ (cut-label (cut l)) (c .before .before .kind-of .ensures) (c .number-wanted .ensures)))
+    let t = test l in (
+      omega (arith, t .loop-test .taken),
+      filled-on (t .before .loop .inv .1) (in-wanted t) _ _ (cut-label (cut l)) (c .before .before .kind-of .ensures)
+          (c .number-wanted .ensures),
+    ))  -- loop-again
     (λ c. c .before .loop .inv .1 .long)  -- same-length
     (λ c. filled-done (omega (arith, c .loop-test .left, c .before .loop .inv .0)) (c .before .loop .inv .1)))  -- returns

@@ -57,13 +57,14 @@ all-heads-spec =
     (λ c.  -- same-length-2
     let i = c .before .before .before .before .before .before .before .before .before .before .before .loop .inv in
     c .before .before .before .before .before .before .heads-of .kept .1 .1 .1 .1 .0 ∙ i .0)
-    (λ c.  -- returns
+    (λ c.
     let k = c .before .before .before .before .before .before .heads-of in
     let l = c .before .before .before .before .before .before .before .before .before .before in
     let i = l .before .loop .inv in
     let s = l .before .before .before .before .before .before .pre in
     let few = rules-few (s .0 .is .given .setting) in
-    over refl (l .loop-test .taken) (collecting-over (i .1) (l .loop-test .taken) few (s .1) (k .last .1 .1 .1 .0) (k .kept .1 .1 .1 .0) (answer-is _ (c .enum-told .given .1) (k .ensures))))
+    over refl (l .loop-test .taken) (collecting-over (i .1) (l .loop-test .taken) few (s .1) (k .last .1 .1 .1 .0) (k .kept .1 .1 .1 .0)
+    (answer-is _ (c .enum-told .given .1) (k .ensures))))  -- returns
     (λ c. search needs)  -- enum-known-found
     (λ c.  -- mul-each
     let l = c .before .before .before .before .before .before .before .before .before .before .before in

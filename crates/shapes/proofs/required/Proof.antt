@@ -30,9 +30,15 @@ required-spec =
     (λ c. search needs)  -- index-2-cell
     (λ c. search needs)  -- cast-requires-edge
     (λ c κs. search needs)  -- requires-edge-requires
-    (λ c. let l = c .before .before .before .before .before in found (l .loop .inv) (c .before .before .before .before .loop-test .taken) (c .before .requires-edge .ensures) (l .before .pre) (c .before .before .if1 .taken) (c .if2 .taken))  -- returns
+    (λ c.
+    let at-loop-test = c .before .before .before .before in
+    let l = at-loop-test .before in
+    found (l .loop .inv) (at-loop-test .loop-test .taken) (c .before .requires-edge .ensures) (l .before .pre) (c .before .before .if1 .taken) (c .if2 .taken))  -- returns
     (λ c. omega (arith, ones-cleared (c .before .before .before .before .before .loop .left) (omega arith)))  -- loop-less
-    (λ c. fails (c .before .before .before .before .before .loop .inv) (c .before .before .before .before .loop-test .taken) (c .before .requires-edge .ensures) (c .if2 .left))  -- loop-again
+    (λ c.
+    let at-loop-test = c .before .before .before .before in
+    let at-loop = at-loop-test .before in
+    fails (at-loop .loop .inv) (at-loop-test .loop-test .taken) (c .before .requires-edge .ensures) (c .if2 .left))  -- loop-again
     (λ c. omega (arith, ones-cleared (c .before .before .before .loop .left) (omega arith)))  -- loop-less-2
     (λ c. no-shape (c .before .before .before .loop .inv) (c .before .before .loop-test .taken) (c .if1 .left))  -- loop-again-2
     (λ c. none-passes (c .before .loop .inv) (c .before .before .pre) (c .loop-test .left)))  -- returns-2

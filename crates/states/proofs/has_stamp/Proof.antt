@@ -8,7 +8,7 @@ use Rattle.states.proofs.has_stamp.Tie as tie
 
 is : tie.Need-returns
 unfolding has
-is c = ap (λ s. has (c .before .before .before .args .stamp) (c .before .before .before .args .seen .now) s) (c .before .state-of .ensures .0)
+is c = let args = c .before .before .before .args in ap (λ s. has (args .stamp) (args .seen .now) s) (c .before .state-of .ensures .0)
 
 pub has-stamp-spec : {M : Type 1} → statement M
 has-stamp-spec =

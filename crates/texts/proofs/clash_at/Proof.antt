@@ -19,5 +19,6 @@ clash-at-spec =
     (λ c. search needs)  -- enum-told-3
     (λ c. says-cells (c .before .enum-told3 .given .1) (rw (ne-eqb _ _ (c .if2 .taken))))  -- returns-2
     (λ c. says-texts (c .before .enum-told .given .1) (c .same-at .ensures))  -- returns-3
-    (λ c. says-prefixes (c .before .before .before .enum-told2 .given .1) (rw (sym (c .before .before .begins-at .ensures) ∙ c .before .if1 .left) (c .begins-at2 .ensures)))  -- returns-4
+    (λ c.
+    says-prefixes (c .before .before .before .enum-told2 .given .1) (rw (sym (c .before .before .begins-at .ensures) ∙ c .before .if1 .left) (c .begins-at2 .ensures)))  -- returns-4
     (λ c. says-cells (c .before .enum-told3 .given .1) (rw (eq-eqb _ _ (c .if2 .left)))))  -- returns-5

@@ -28,8 +28,10 @@ clash-before-spec =
     (λ c. fits-widen tt (c .shared-slice-known3 .given _))  -- cast-b
     (λ c. let h = last-inside (c .before .before .before .before .before .pre) (c .before .before .width-of .ensures) (c .before .first-of .ensures) in search needs)  -- add-m
     (λ c. let h = last-inside (c .before .before .before .before .before .pre) (c .before .before .width-of .ensures) (c .before .first-of .ensures) in search needs)  -- mul-m
-    (λ c.  -- shared-slice-read-m
-    let h = last-inside (c .before .before .before .before .before .before .pre) (c .before .before .before .width-of .ensures) (c .before .before .first-of .ensures) in search needs)
+    (λ c.
+    let pre = c .before .before .before .before .before .before .pre in
+    let h = last-inside (pre) (c .before .before .before .width-of .ensures) (c .before .before .first-of .ensures) in
+    search needs)  -- shared-slice-read-m
     (λ c. fits-widen tt (c .shared-slice-known4 .given _))  -- cast-m
     (λ c. looking-start (c .before .before .before .before .before .before .pre) (c .before .before .before .width-of .ensures) (c .before .before .first-of .ensures))  -- loop-holds
     (λ c. let h = one-inside (c .before .loop .inv) (c .loop-test .taken) in search needs)  -- mul-place
@@ -41,9 +43,15 @@ clash-before-spec =
     (λ c. let h = one-inside (c .before .before .loop .inv) (c .before .loop-test .taken) in search needs)  -- mul-clash-at-2
     (λ c. let h = one-inside (c .before .before .before .loop .inv) (c .before .before .loop-test .taken) in search needs)  -- shared-slice-read-clash-at-2
     (λ c. fits-widen tt (c .shared-slice-known6 .given _))  -- cast-clash-at-2
-    (λ c κs. (one-shows (c .before .before .before .loop .inv) (c .before .before .loop-test .taken), last-shows (c .before .before .before .loop .inv)))  -- clash-at-requires
-    (λ c. looking-found (c .before .before .before .before .before .loop .inv) (c .before .before .before .before .loop-test .taken) (c .before .clash-at .ensures) (c .if1 .taken))  -- returns
+    (λ c κs. let loop = c .before .before .before .loop in (one-shows (loop .inv) (c .before .before .loop-test .taken), last-shows (loop .inv)))  -- clash-at-requires
+    (λ c.
+    let at-loop-test = c .before .before .before .before in
+    let at-loop = at-loop-test .before in
+    looking-found (at-loop .loop .inv) (at-loop-test .loop-test .taken) (c .before .clash-at .ensures) (c .if1 .taken))  -- returns
     (λ c. search needs)  -- add-i
     (λ c. search needs)  -- loop-less
-    (λ c. looking-on (c .before .before .before .before .before .loop .inv) (c .before .before .before .before .loop-test .taken) (c .before .clash-at .ensures) (c .if1 .left))  -- loop-again
+    (λ c.
+    let at-loop-test = c .before .before .before .before in
+    let at-loop = at-loop-test .before in
+    looking-on (at-loop .loop .inv) (at-loop-test .loop-test .taken) (c .before .clash-at .ensures) (c .if1 .left))  -- loop-again
     (λ c. search (looking-done, needs)))  -- returns-2

@@ -32,8 +32,15 @@ list-iris-spec =
     Inv-loop
     μ-loop
     (λ c κs. search needs)  -- rank-requires
-    (λ c. let a = c .before .before .before .before .before .before .args in  -- loop-holds
-    (search needs, c .rank .ensures, search needs, search needs, no-subject (a .triples .now), listed-start (λ P t. SubjectEdge P (a .triples .now) (a .places .now) t (getD (a .masks .now) t 0)) 0 _))
+    (λ c.
+    let a = c .before .before .before .before .before .before .args in (
+      search needs,
+      c .rank .ensures,
+      search needs,
+      search needs,
+      no-subject (a .triples .now),
+      listed-start (λ P t. SubjectEdge P (a .triples .now) (a .places .now) t (getD (a .masks .now) t 0)) 0 _,
+    ))  -- loop-holds
     (λ c. omega (arith, c .before .before .before .before .before .before .before .before .pre .0 .iris, c .before .loop .inv .1))  -- mul-list-subject
     (λ c. let s = c .before .before .before .before .before .before .before .before .before in let l = c .before .before .loop in  -- shared-slice-read-list-subject
     omega (arith, rank-le firstLiteral (s .args .nodes .now), s .pre .0 .long, l .inv .1))
@@ -49,16 +56,30 @@ list-iris-spec =
     ))
     (λ c. search needs)  -- add-s
     (λ c. search needs)  -- loop-less
-    (λ c. let s = c .before .before .before .before .before .before .before .before .before .before .before .before .before in let l = c .before .before .before .before .before .before .loop in let m = c .before .before .list-subject in let a = s .args in  -- loop-again
-    (
+    (λ c.
+    let s = c .before .before .before .before .before .before .before .before .before .before .before .before .before in
+    let l = c .before .before .before .before .before .before .loop in
+    let m = c .before .before .list-subject in
+    let a = s .args in (
       search needs,
       l .inv .1,
       search needs,
       omega (arith, l .inv .3, m .ensures .1),
       next-subject (a .triples .now) (l .s) (m .result .at) (s .pre .0 .predicate) (m .ensures .2),
       listed-again (λ P t. SubjectEdge P (a .triples .now) (a .places .now) t (getD (a .masks .now) t 0)) (l .inv .5) (m .ensures .0)
-          (omega (arith, iri-end (a .triples .now) (s .pre .0 .short) (l .s) (l .next .triple) (l .next .at) (l .inv .3) (omega (arith, s .pre .0 .iris, l .inv .1)) (l .inv .4), s .pre .2)) (λ P k h. by-subject h),
-    ))
+          (omega (
+            arith,
+            iri-end (a .triples .now) (s .pre .0 .short) (l .s) (l .next .triple) (l .next .at) (l .inv .3) (omega (arith, s .pre .0 .iris, l .inv .1)) (l .inv .4),
+            s .pre .2,
+          )) (λ P k h. by-subject h),
+    ))  -- loop-again
     (λ c. search needs)  -- same-length
-    (λ c. let s = c .before .before .before .before .before .before .before .before in let l = c .before .loop in let a = s .args in let e : l .s ≡ rankOf firstLiteral (a .nodes .now) = omega (arith, l .inv .1) in
-    (rw e at (l .inv .5), iri-end (a .triples .now) (s .pre .0 .short) (l .s) (l .next .triple) (l .next .at) (l .inv .3) (omega (arith, s .pre .0 .iris, l .inv .1)) (l .inv .4))))  -- returns
+    (λ c.
+    let s = c .before .before .before .before .before .before .before .before in
+    let l = c .before .loop in
+    let a = s .args in
+    let e : l .s ≡ rankOf firstLiteral (a .nodes .now) = omega (arith, l .inv .1) in (
+      rw e at (l .inv .5),
+      iri-end (a .triples .now) (s .pre .0 .short) (l .s) (l .next .triple) (l .next .at) (l .inv .3) (omega (arith, s .pre .0 .iris, l .inv .1))
+          (l .inv .4),
+    )))  -- returns

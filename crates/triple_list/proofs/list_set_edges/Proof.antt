@@ -15,10 +15,14 @@ list-set-edges-spec =
     (tie.spec
     (λ c. search needs)  -- mul-if1
     (λ c. search needs)  -- shared-slice-read-if1
-    (λ c. let a = c .before .before .before .before .before .before .args in set-unmarked (a .shapes .now) (a .triples .now) (a .flags .now) (a .places .now) (a .set) (a .first) (a .out .now) (c .if1 .taken))  -- returns
+    (λ c.
+    let a = c .before .before .before .before .before .before .args in
+    set-unmarked (a .shapes .now) (a .triples .now) (a .flags .now) (a .places .now) (a .set) (a .first) (a .out .now) (c .if1 .taken))  -- returns
     (λ c. search needs)  -- mul-subject
     (λ c. search needs)  -- shared-slice-read-subject
-    (λ c. let s = c .before .before .before .before .before .before .before in omega (arith, s .pre .0 .below (s .args .set) (s .pre .4) (s .pre .5) (c .before .if1 .left)))  -- cast-subject
+    (λ c.
+    let s = c .before .before .before .before .before .before .before in
+    omega (arith, s .pre .0 .below (s .args .set) (s .pre .4) (s .pre .5) (c .before .if1 .left)))  -- cast-subject
     (λ c. search needs)  -- cast-list-subject
     (λ c κs. let s = c .before .before .before .before .before .before .before .before in let a = s .args in let f = c .before .before .if1 .left in  -- list-subject-requires
     (
@@ -31,8 +35,11 @@ list-set-edges-spec =
       s .pre .8,
     ))
     (λ c. search needs)  -- same-length
-    (λ c. let s = c .before .before .before .before .before .before .before .before .before .before .before in let a = s .args in let m = c .before .before .list-subject in  -- returns-2
-    (
-      set-marked (a .shapes .now) (a .triples .now) (a .flags .now) (a .places .now) (a .set) (a .first) (s .pre .4) (c .before .before .before .before .before .if1 .left) (m .ensures .0),
+    (λ c.
+    let at-if1 = c .before .before .before .before .before in
+    let s = at-if1 .before .before .before .before .before .before in
+    let m = c .before .before .list-subject in
+    let a = s .args in (
+      set-marked (a .shapes .now) (a .triples .now) (a .flags .now) (a .places .now) (a .set) (a .first) (s .pre .4) (at-if1 .if1 .left) (m .ensures .0),
       omega (arith, m .ensures .1, m .ensures .2, keys-le (originAt (getD (a .places .now) (a .set) 0) maxPredicates) (a .triples .now)),
-    )))
+    )))  -- returns-2

@@ -31,17 +31,37 @@ list-subject-spec =
     μ-loop
     (λ c. let s = c .before .before .before in let a = s .args in  -- loop-holds
     (search needs, search needs, omega arith, s .pre .3, listed-start (λ P. EdgeFrom P (a .triples .now) (a .places .now) (a .subject) (a .mask)) _ _))
-    (λ c κs. let s = c .before .before .before .before .before .before in let l = c .before .before .loop in let a = s .args in  -- list-origin-requires
-    (s .pre .0, s .pre .1, s .pre .2, omega arith, l .inv .3, origin-room (a .triples .now) (a .subject) (l .p) (l .next .triple) (l .next .at) (a .first .triple) (a .first .at) (omega arith) (l .inv .2) (s .pre .4), omega (arith, s .pre .5, l .inv .1), s .pre .6))
+    (λ c κs.
+    let s = c .before .before .before .before .before .before in
+    let l = c .before .before .loop in
+    let a = s .args in (
+      s .pre .0,
+      s .pre .1,
+      s .pre .2,
+      omega arith,
+      l .inv .3,
+      origin-room (a .triples .now) (a .subject) (l .p) (l .next .triple) (l .next .at) (a .first .triple) (a .first .at) (omega arith) (l .inv .2) (s .pre .4),
+      omega (arith, s .pre .5, l .inv .1),
+      s .pre .6,
+    ))  -- list-origin-requires
     (λ c. search needs)  -- add-p
     (λ c. search needs)  -- loop-less
-    (λ c. let s = c .before .before .before .before .before .before .before .before .before in let l = c .before .before .before .before .before .loop in let m = c .before .before .list-origin in let a = s .args in  -- loop-again
-    (
+    (λ c.
+    let s = c .before .before .before .before .before .before .before .before .before in
+    let l = c .before .before .before .before .before .loop in
+    let m = c .before .before .list-origin in
+    let a = s .args in (
       search needs,
       search needs,
       omega (arith, l .inv .2, m .ensures .1),
       next-predicate (a .triples .now) (a .subject) (m .result .at) (l .p) (m .ensures .2),
-      listed-again (λ P. EdgeFrom P (a .triples .now) (a .places .now) (a .subject) (a .mask)) (l .inv .4) (m .ensures .0) (omega (arith, s .pre .5, origin-number (a .triples .now) (a .subject) (l .p) (l .next .triple) (l .next .at) (a .first .triple) (a .first .at) (omega arith) (l .inv .2) (s .pre .4) (l .inv .3))) (λ P k h. by-predicate h),
-    ))
+      listed-again (λ P. EdgeFrom P (a .triples .now) (a .places .now) (a .subject) (a .mask)) (l .inv .4) (m .ensures .0)
+          (omega (
+            arith,
+            s .pre .5,
+            origin-number (a .triples .now) (a .subject) (l .p) (l .next .triple) (l .next .at) (a .first .triple) (a .first .at) (omega arith) (l .inv .2)
+                (s .pre .4) (l .inv .3),
+          )) (λ P k h. by-predicate h),
+    ))  -- loop-again
     (λ c. search needs)  -- same-length
     (λ c. let l = c .before .loop in let e : l .p ≡ maxPredicates = omega arith in (rw e at (l .inv .4), rw e at (l .inv .2), rw e at (l .inv .3))))  -- returns

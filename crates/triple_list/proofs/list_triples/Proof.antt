@@ -13,8 +13,13 @@ list-triples-spec =
     tie.close
     (tie.spec
     (λ c κs. search needs)  -- list-iris-requires
-    (λ c κs. let s = c .before .before .before .before .before .before .before .before .before .before .before in  -- list-sets-edges-requires
-    (sets-placed (s .pre .1) (s .pre .0) refl, s .pre .0 .triples-ascend, s .pre .2, s .pre .3, c .before .before .before .list-iris .ensures .1, search needs, s .pre .5))
+    (λ c κs.
+    let s = c .before .before .before .before .before .before .before .before .before .before .before in
+    (sets-placed (s .pre .1) (s .pre .0) refl, s .pre .0 .triples-ascend, s .pre .2, s .pre .3, c .before .before .before .list-iris .ensures .1, search needs, s .pre .5))  -- list-sets-edges-requires
     (λ c. search needs)  -- same-length
-    (λ c. let s = c .before .before .before .before .before .before .before .before .before .before .before .before .before .before in let m = c .before .before .before .before .before .before .list-iris in λ P I f clean bs ordered numbered.  -- returns
-    triples-listed I f clean bs ordered (s .args .places .now) numbered (shaped I) (s .pre .1) (m .ensures .0) (c .before .before .list-sets-edges .ensures .0) (omega (arith, m .ensures .1, s .pre .4)) (c .before .before .list-sets-edges .ensures .1)))
+    (λ c.
+    let at-list-sets-edges = c .before .before in
+    let s = at-list-sets-edges .before .before .before .before .before .before .before .before .before .before .before .before in
+    let m = c .before .before .before .before .before .before .list-iris in
+    λ P I f clean bs ordered numbered. triples-listed I f clean bs ordered (s .args .places .now) numbered (shaped I) (s .pre .1) (m .ensures .0)
+    (at-list-sets-edges .list-sets-edges .ensures .0) (omega (arith, m .ensures .1, s .pre .4)) (at-list-sets-edges .list-sets-edges .ensures .1)))  -- returns

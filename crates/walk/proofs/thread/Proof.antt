@@ -35,8 +35,12 @@ thread-spec =
     part-ready (s .pre) (l .next) (l .i - 1) (omega arith) (omega arith))  -- thread-part-requires
     (λ c. search needs)  -- loop-less
     (λ c.
-    let l = c .before .before .before .before .before .loop in
-    let s = c .before .before .before .before .before .before .before .before in
-    (omega arith, c .before .before .thread-part .kept .1 .1 .1 .0 ∙ l .inv .1, thread-again (s .pre) (omega arith) (omega arith) (l .inv .2) (c .before .before .thread-part .ensures)))  -- loop-again
+    let at-thread-part = c .before .before in
+    let s = at-thread-part .before .before .before .before .before .before in
+    let l = c .before .before .before .before .before .loop in (
+      omega arith,
+      at-thread-part .thread-part .kept .1 .1 .1 .0 ∙ l .inv .1,
+      thread-again (s .pre) (omega arith) (omega arith) (l .inv .2) (at-thread-part .thread-part .ensures),
+    ))  -- loop-again
     (λ c. let s = c .before .before .before .before .args in c .before .loop .inv .1 ∙ length-set (s .next .now) (s .n - 1) (s .n))  -- same-length
     (λ c. thread-done (omega arith) (c .before .loop .inv .2)))  -- returns

@@ -17,7 +17,9 @@ mark-subject-spec =
     (λ c. search needs)  -- mul-takes-predicate-2
     (λ c. search needs)  -- shared-slice-read-takes-predicate
     (λ c κs. search needs)  -- takes-predicate-requires
-    (λ c. subject-none (c .before .takes-predicate .result) (c .if1 .taken) (c .before .takes-predicate .ensures) (c .before .before .before .before .before .before .pre .1 .1 .1))  -- returns
+    (λ c.
+    let pre = c .before .before .before .before .before .before .pre in
+    subject-none (c .before .takes-predicate .result) (c .if1 .taken) (c .before .takes-predicate .ensures) (pre .1 .1 .1))  -- returns
     (λ c. search needs)  -- mul-subject
     (λ c. search needs)  -- mul-subject-2
     (λ c. search needs)  -- shared-slice-read-subject
@@ -25,4 +27,8 @@ mark-subject-spec =
     (λ c κs. ((omega arith, omega arith), c .before .before .before .before .before .before .before .before .before .pre .1 .1 .1))  -- mark-requires
     (λ c. search needs)  -- same-length
     (λ c. search needs)  -- same-length-2
-    (λ c. subject-one (sym (c .before .before .before .before .before .before .before .before .before .takes-predicate .ensures) ∙ not-false (c .before .before .before .before .before .before .before .before .before .takes-predicate .result) (c .before .before .before .before .before .before .before .before .if1 .left)) (c .before .before .before .before .mark .ensures)))  -- returns-2
+    (λ c.
+    let at-mark = c .before .before .before .before in
+    let at-if1 = at-mark .before .before .before .before in
+    let at-takes-predicate = at-if1 .before in
+    subject-one (sym (at-takes-predicate .takes-predicate .ensures) ∙ not-false (at-takes-predicate .takes-predicate .result) (at-if1 .if1 .left)) (at-mark .mark .ensures)))  -- returns-2

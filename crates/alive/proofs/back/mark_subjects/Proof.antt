@@ -9,7 +9,8 @@ use Rattle.alive.proofs.back.mark_subjects.Statement.{statement}
 use Rattle.alive.proofs.back.mark_subjects.Tie as tie
 
 abbrev Inv-loop : tie.InvT-loop
-Inv-loop triples earlier x kind want i alive₀ queue₀ tail end₀ at₀ alive queue end at = (length alive ≡ length alive₀) × (length queue ≡ length queue₀) × Following triples earlier x kind want i alive₀ queue₀ tail alive queue end at
+Inv-loop triples earlier x kind want i alive₀ queue₀ tail end₀ at₀ alive queue end at =
+    (length alive ≡ length alive₀) × (length queue ≡ length queue₀) × Following triples earlier x kind want i alive₀ queue₀ tail alive queue end at
 
 abbrev μ-loop : tie.MeasureT-loop
 μ-loop triples earlier x kind want i alive₀ queue₀ tail end₀ at₀ alive queue end at = at
@@ -22,13 +23,36 @@ mark-subjects-spec =
     μ-loop
     (λ c. (refl, refl, follow-start (c .before .before .before .before .pre .1 .1)))  -- loop-holds
     (λ c. search needs)  -- sub-mark-subject
-    (λ c κs. let m = at-first (c .before .before .before .loop .inv .2) (c .before .before .loop-test .taken) in let g = c .before .before .before .before .before .before .before .before .pre .0 .whole _ m in (omega arith, (c .before .before .before .before .before .before .before .before .pre .0 .nodes _ m, (c .before .before .before .before .before .before .before .before .pre .1 .0, c .before .before .before .loop .inv .2 .adds .after))))  -- mark-subject-requires
+    (λ c κs.
+    let at-loop = c .before .before .before in
+    let entry = at-loop .before .before .before .before .before in
+    let m = at-first (at-loop .loop .inv .2) (c .before .before .loop-test .taken) in
+    let g = entry .pre .0 .whole _ m in
+    (omega arith, (entry .pre .0 .nodes _ m, (entry .pre .1 .0, at-loop .loop .inv .2 .adds .after))))  -- mark-subject-requires
     (λ c. search needs)  -- sub-at
-    (λ c. let g = c .before .before .before .before .before .before .before .before .before .before .before .before .before .pre .0 .whole _ (at-first (c .before .before .before .before .before .before .before .before .loop .inv .2) (c .before .before .before .before .before .before .before .loop-test .taken)) in omega arith)  -- mul-at
-    (λ c. c .before .before .before .before .before .before .before .before .before .before .before .before .before .before .pre .0 .listed _ (at-first (c .before .before .before .before .before .before .before .before .before .loop .inv .2) (c .before .before .before .before .before .before .before .before .loop-test .taken)))  -- shared-slice-read-at
+    (λ c.
+    let g = c .before .before .before .before .before .before .before .before .before .before .before .before .before .pre .0 .whole _
+    (at-first (c .before .before .before .before .before .before .before .before .loop .inv .2) (c .before .before .before .before .before .before .before .loop-test .taken)) in
+    omega arith)  -- mul-at
+    (λ c.
+    let at-loop-test = c .before .before .before .before .before .before .before .before in
+    let at-loop = at-loop-test .before in
+    let entry = at-loop .before .before .before .before .before in
+    entry .pre .0 .listed _ (at-first (at-loop .loop .inv .2) (at-loop-test .loop-test .taken)))  -- shared-slice-read-at
     (λ c. fits-widen tt (c .shared-slice-known3 .given _))  -- cast-at
-    (λ c. let g = c .before .before .before .before .before .before .before .before .before .before .before .before .before .before .pre .0 .falls _ (at-first (c .before .before .before .before .before .before .before .before .before .loop .inv .2) (c .before .before .before .before .before .before .before .before .loop-test .taken)) in omega arith)  -- loop-less
-    (λ c. (c .before .before .before .before .before .mark-subject .kept .1 .1 .1 .1 .1 .0 ∙ c .before .before .before .before .before .before .before .before .before .loop .inv .0, c .before .before .before .before .before .mark-subject .kept .1 .1 .1 .1 .1 .1 .0 ∙ c .before .before .before .before .before .before .before .before .before .loop .inv .1, follow-again (c .before .before .before .before .before .before .before .before .before .loop .inv .2) (c .before .before .before .before .before .before .before .before .loop-test .taken) (c .before .before .before .before .before .mark-subject .ensures)))  -- loop-again
+    (λ c.
+    let g = c .before .before .before .before .before .before .before .before .before .before .before .before .before .before .pre .0 .falls _
+    (at-first (c .before .before .before .before .before .before .before .before .before .loop .inv .2) (c .before .before .before .before .before .before .before .before .loop-test .taken))
+    in
+    omega arith)  -- loop-less
+    (λ c.
+    let at-mark-subject = c .before .before .before .before .before in
+    let at-loop-test = at-mark-subject .before .before .before in
+    let at-loop = at-loop-test .before in (
+      at-mark-subject .mark-subject .kept .1 .1 .1 .1 .1 .0 ∙ at-loop .loop .inv .0,
+      at-mark-subject .mark-subject .kept .1 .1 .1 .1 .1 .1 .0 ∙ at-loop .loop .inv .1,
+      follow-again (at-loop .loop .inv .2) (at-loop-test .loop-test .taken) (at-mark-subject .mark-subject .ensures),
+    ))  -- loop-again
     (λ c. c .before .loop .inv .0)  -- same-length
     (λ c. c .before .loop .inv .1)  -- same-length-2
     (λ c. follow-done (c .before .loop .inv .2) (omega arith)))  -- returns

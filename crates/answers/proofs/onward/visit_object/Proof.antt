@@ -16,13 +16,19 @@ visit-object-spec =
     (λ c. search needs)  -- mul-takes-predicate-2
     (λ c. search needs)  -- shared-slice-read-takes-predicate
     (λ c κs. search needs)  -- takes-predicate-requires
-    (λ c. object-none (c .before .takes-predicate .result) (c .if1 .taken) (c .before .takes-predicate .ensures) (c .before .before .before .before .before .before .pre .1 .1 .1))  -- returns
+    (λ c.
+    let pre = c .before .before .before .before .before .before .pre in
+    object-none (c .before .takes-predicate .result) (c .if1 .taken) (c .before .takes-predicate .ensures) (pre .1 .1 .1))  -- returns
     (λ c. search needs)  -- mul-object
     (λ c. search needs)  -- add-object
     (λ c. search needs)  -- mul-object-2
     (λ c. search needs)  -- shared-slice-read-object
     (λ c. fits-widen tt (c .shared-slice-known3 .given _))  -- cast-object
-    (λ c κs. ((c .before .before .before .before .before .before .before .before .before .pre .1 .1 .0, c .before .before .before .before .before .before .before .before .before .pre .1 .0), c .before .before .before .before .before .before .before .before .before .pre .1 .1 .1))  -- visit-requires
+    (λ c κs. let pre = c .before .before .before .before .before .before .before .before .before .pre in ((pre .1 .1 .0, pre .1 .0), pre .1 .1 .1))  -- visit-requires
     (λ c. search needs)  -- same-length
     (λ c. search needs)  -- same-length-2
-    (λ c. object-one (sym (c .before .before .before .before .before .before .before .before .before .takes-predicate .ensures) ∙ not-false (c .before .before .before .before .before .before .before .before .before .takes-predicate .result) (c .before .before .before .before .before .before .before .before .if1 .left)) (c .before .before .before .before .visit .ensures)))  -- returns-2
+    (λ c.
+    let at-visit = c .before .before .before .before in
+    let at-if1 = at-visit .before .before .before .before in
+    let at-takes-predicate = at-if1 .before in
+    object-one (sym (at-takes-predicate .takes-predicate .ensures) ∙ not-false (at-takes-predicate .takes-predicate .result) (at-if1 .if1 .left)) (at-visit .visit .ensures)))  -- returns-2

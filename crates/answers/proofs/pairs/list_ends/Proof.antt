@@ -25,15 +25,34 @@ list-ends-spec =
     (λ c κs. let a = c .before .before .before .before .pre .0 .0 in (a .1, omega arith))  -- pair-key-requires
     (λ c κs. let a = c .before .before .before .before .before .pre .0 in ((a .1 .0, omega arith), a .1 .1))  -- has-stamp-requires
     (λ c. c .before .before .before .before .before .loop .inv .0)  -- same-length
-    (λ c. let a = c .before .before .before .before .before .loop .inv .0 in let b = c .before .before .before .before .before .before .before .before .pre .1 .1 in ends-over (c .before .before .before .before .before .loop .inv .1) (c .before .before .before .before .loop-test .taken) (c .if2 .taken) (omega arith) (sym (c .before .before .has-stamp .ensures) ∙ c .before .if1 .taken))  -- returns
+    (λ c.
+    let at-loop-test = c .before .before .before .before in
+    let at-loop = at-loop-test .before in
+    let entry = at-loop .before .before .before in
+    let a = at-loop .loop .inv .0 in
+    let b = entry .pre .1 .1 in
+    ends-over (at-loop .loop .inv .1) (at-loop-test .loop-test .taken) (c .if2 .taken) (omega arith) (sym (c .before .before .has-stamp .ensures) ∙ c .before .if1 .taken))  -- returns
     (λ c. search needs)  -- mul-pairs
-    (λ c. let a = c .before .before .before .before .before .loop .inv .0 in let b = c .before .before .before .before .before .before .before .before .pre .1 .1 in let d = c .before .before .before .before .before .loop .inv .1 .few in omega arith)  -- slice-write-pairs
+    (λ c.
+    let a = c .before .before .before .before .before .loop .inv .0 in
+    let b = c .before .before .before .before .before .before .before .before .pre .1 .1 in
+    let d = c .before .before .before .before .before .loop .inv .1 .few in
+    omega arith)  -- slice-write-pairs
     (λ c. search needs)  -- add-listed
     (λ c. search needs)  -- add-e
     (λ c. search needs)  -- loop-less
-    (λ c. let l = c .before .before .before .loop-test .taken in let i = c .before .before .before .before .loop .inv in let b = c .before .before .before .before .before .before .before .pre .1 .1 in let d = i .1 .few in let a = i .0 in ⊎-elim
-    (λ w. let n = w .1 .left in rw (w .2, w .3) (simp length-set (i .0), ends-add (i .1) l (omega arith) (omega arith) (sym (c .before .has-stamp .ensures) ∙ w .0 .taken) (c .before .before .pair-key .ensures)))
-    (λ w. rw (w .1, w .2) (i .0, ends-skip (i .1) l (sym (c .before .has-stamp .ensures) ∙ w .0 .left)))
-    (c .if1 .came))  -- loop-again
+    (λ c.
+    let at-loop = c .before .before .before .before in
+    let entry = at-loop .before .before .before in
+    let l = c .before .before .before .loop-test .taken in
+    let i = at-loop .loop .inv in
+    let b = entry .pre .1 .1 in
+    let d = i .1 .few in
+    let a = i .0 in
+    ⊎-elim (λ w. let n = w .1 .left in rw (w .2, w .3) (
+      simp length-set (i .0),
+      ends-add (i .1) l (omega arith) (omega arith) (sym (c .before .has-stamp .ensures) ∙ w .0 .taken) (c .before .before .pair-key .ensures),
+    ))
+    (λ w. rw (w .1, w .2) (i .0, ends-skip (i .1) l (sym (c .before .has-stamp .ensures) ∙ w .0 .left))) (c .if1 .came))  -- loop-again
     (λ c. c .before .loop .inv .0)  -- same-length-2
     (λ c. (c .before .loop .inv .1 .few, ends-done (c .before .loop .inv .1) (omega arith))))  -- returns-2

@@ -5,7 +5,6 @@ use mathlib.Core.Path.{_≡_}
 use Prim.Native.Nat.{_-_}
 use Rattle.call_cases.proofs.say.digest.Statement.{statement}
 use Rattle.call_cases.proofs.say.digest.Tie as tie
-use Rattle.call_cases.proofs.say.digested.Reads as digested-reads
 
 abbrev Inv-loop : tie.InvT-loop
 Inv-loop list d₀ i₀ i-end d i = i-end ≡ length list

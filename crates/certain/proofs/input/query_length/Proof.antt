@@ -17,6 +17,8 @@ query-length-spec =
     (λ c. search needs)  -- slice-read-if2
     (λ c. search needs)  -- sub-result
     (λ c. search needs)  -- same-length-2
-    (λ c. let r = c .before .before .before .before .before .read-full in (omega (arith, r .ensures .0), sym (length-take-le _ (r .last .1 .0) (omega (arith, r .ensures .0)))))  -- returns-2
+    (λ c.
+    let r = c .before .before .before .before .before .read-full in
+    (omega (arith, r .ensures .0), sym (length-take-le _ (r .last .1 .0) (omega (arith, r .ensures .0)))))  -- returns-2
     (λ c. search needs)  -- same-length-3
     (λ c. search needs))  -- returns-3

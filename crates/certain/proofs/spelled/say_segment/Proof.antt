@@ -14,7 +14,9 @@ say-segment-spec =
     (λ c κs. search needs)  -- write-segment-requires
     (λ c. search needs)  -- enum-known-n
     (λ c. search needs)  -- array-share-prefix-text
-    (λ c. let w = c .before .before .before .before .before .before .write-segment in sym (length-take-le _ (w .last .1 .0) (omega (arith, w .kept .1 .0, c .before .if1 .taken))))  -- slice-aggregate-write-all
+    (λ c.
+    let w = c .before .before .before .before .before .before .write-segment in
+    sym (length-take-le _ (w .last .1 .0) (omega (arith, w .kept .1 .0, c .before .if1 .taken))))  -- slice-aggregate-write-all
     (λ c κs. search needs)  -- write-all-requires
     (λ c. search needs)  -- enum-told
     (λ c. search needs)  -- returns

@@ -14,8 +14,17 @@ add-at-spec =
     (λ c. search needs)  -- enum-told-2
     (λ c. search needs)  -- enum-told-3
     (λ c. search needs)  -- same-length
-    (λ c. let r = c .before .before .before .before .insert-at in let s = c .before .before .before .before .before .before .before in grown-added (s .pre .0) (s .pre .1) (rw (c .enum-told .given .1) at (r .ensures)) (r .kept .0))  -- returns
+    (λ c.
+    let r = c .before .before .before .before .insert-at in
+    let s = c .before .before .before .before .before .before .before in
+    grown-added (s .pre .0) (s .pre .1) (rw (c .enum-told .given .1) at (r .ensures)) (r .kept .0))  -- returns
     (λ c. search needs)  -- same-length-2
-    (λ c. let r = c .before .before .before .before .insert-at in let s = c .before .before .before .before .before .before .before in grown-present (s .pre .0) (s .pre .1) (rw (c .enum-told2 .given .1) at (r .ensures)) (r .kept .0))  -- returns-2
+    (λ c.
+    let r = c .before .before .before .before .insert-at in
+    let s = c .before .before .before .before .before .before .before in
+    grown-present (s .pre .0) (s .pre .1) (rw (c .enum-told2 .given .1) at (r .ensures)) (r .kept .0))  -- returns-2
     (λ c. search needs)  -- same-length-3
-    (λ c. let r = c .before .before .before .before .insert-at in let s = c .before .before .before .before .before .before .before in grown-full (s .pre .0) (s .pre .1) (rw (c .enum-told3 .given .1) at (r .ensures))))  -- returns-3
+    (λ c.
+    let r = c .before .before .before .before .insert-at in
+    let s = c .before .before .before .before .before .before .before in
+    grown-full (s .pre .0) (s .pre .1) (rw (c .enum-told3 .given .1) at (r .ensures))))  -- returns-3

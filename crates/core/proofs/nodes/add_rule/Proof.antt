@@ -25,13 +25,22 @@ add-rule-spec =
     (λ c. let s = c .before .before in keys-start _ _ _ _ (s .pre .2) (s .pre .3))  -- loop-holds
     (λ c. search needs)  -- mul-add-match
     (λ c. search needs)  -- shared-slice-read-add-match
-    (λ c κs. let s = c .before .before .before .before .before .before .before in let l = c .before .before .before .before .loop in (s .pre .0, s .pre .1 _ (∈-at _ _ (omega arith)), l .inv .grown .fits, l .inv .grown .list .ascending))  -- add-match-requires
+    (λ c κs.
+    let s = c .before .before .before .before .before .before .before in
+    let l = c .before .before .before .before .loop in
+    (s .pre .0, s .pre .1 _ (∈-at _ _ (omega arith)), l .inv .grown .fits, l .inv .grown .list .ascending))  -- add-match-requires
     (λ c. search needs)  -- enum-told
     (λ c. search needs)  -- same-length
-    (λ c. keys-full (c .before .before .before .before .before .before .before .before .before .loop .inv) (omega arith) (rw (c .enum-told .given .1) at (c .before .before .before .before .add-match .ensures)))  -- returns
+    (λ c.
+    let at-add-match = c .before .before .before .before in
+    let at-loop = at-add-match .before .before .before .before .before in
+    keys-full (at-loop .loop .inv) (omega arith) (rw (c .enum-told .given .1) at (at-add-match .add-match .ensures)))  -- returns
     (λ c. search needs)  -- enum-known-added
     (λ c. search needs)  -- add-i
     (λ c. search needs)  -- loop-less
-    (λ c. let a = c .before .before .before .before .before .add-match in keys-again (c .before .before .before .before .before .before .before .before .before .before .loop .inv) (omega arith) _ _ (rw (c .before .added .given .1) at (a .ensures)) (a .kept .1 .1 .1 .0))  -- loop-again
+    (λ c.
+    let loop = c .before .before .before .before .before .before .before .before .before .before .loop in
+    let a = c .before .before .before .before .before .add-match in
+    keys-again (loop .inv) (omega arith) _ _ (rw (c .before .added .given .1) at (a .ensures)) (a .kept .1 .1 .1 .0))  -- loop-again
     (λ c. search needs)  -- same-length-2
     (λ c. keys-done (c .before .loop .inv) (omega arith)))  -- returns-2

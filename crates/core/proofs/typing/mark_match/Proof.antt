@@ -30,4 +30,7 @@ mark-match-spec =
     (λ c. placed (c .before))  -- slice-read-masks
     (λ c. placed (c .before))  -- slice-write-masks
     (λ c. search needs)  -- same-length
-    (λ c. let s = c .before .before .before .before .before .before in mark-one _ _ (s .args .k) (s .args .masks .now) (c .before .before .before .if1 .left) _ (rw (c .before .before .subject-key .ensures) at (c .before .rank-near .ensures)) (placed (c .before)) (omega (arith, s .pre .0 .named)) (c .slice-known2 .given _ .fits) _ (weight-made 16 _ (omega (arith, s .pre .0 .named))) (omega arith)))  -- returns-2
+    (λ c.
+    let s = c .before .before .before .before .before .before in
+    mark-one _ _ (s .args .k) (s .args .masks .now) (c .before .before .before .if1 .left) _ (rw (c .before .before .subject-key .ensures) at (c .before .rank-near .ensures))
+    (placed (c .before)) (omega (arith, s .pre .0 .named)) (c .slice-known2 .given _ .fits) _ (weight-made 16 _ (omega (arith, s .pre .0 .named))) (omega arith)))  -- returns-2

@@ -24,9 +24,16 @@ mark-rule-spec =
     (λ c. marks-start _ _ _)  -- loop-holds
     (λ c. search needs)  -- mul-mark-match
     (λ c. search needs)  -- shared-slice-read-mark-match
-    (λ c κs. let s = c .before .before .before .before .before .before .before in let m = ∈-at (s .args .keys .now) (c .before .before .before .loop .i) (omega arith) in (s .pre .0, s .pre .1 _ m, s .pre .2, s .pre .3 _ m, omega (arith, c .before .before .before .loop .inv .long)))  -- mark-match-requires
+    (λ c κs.
+    let at-loop = c .before .before .before in
+    let s = at-loop .before .before .before .before in
+    let m = ∈-at (s .args .keys .now) (at-loop .loop .i) (omega arith) in
+    (s .pre .0, s .pre .1 _ m, s .pre .2, s .pre .3 _ m, omega (arith, at-loop .loop .inv .long)))  -- mark-match-requires
     (λ c. search needs)  -- add-i
     (λ c. search needs)  -- loop-less
-    (λ c. let a = c .before .before .mark-match in marks-again (c .before .before .before .before .before .before .loop .inv) (omega arith) _ (a .ensures) (a .kept .1 .1 .1 .1 .0))  -- loop-again
+    (λ c.
+    let loop = c .before .before .before .before .before .before .loop in
+    let a = c .before .before .mark-match in
+    marks-again (loop .inv) (omega arith) _ (a .ensures) (a .kept .1 .1 .1 .1 .0))  -- loop-again
     (λ c. search needs)  -- same-length
     (λ c. marks-done (c .before .loop .inv) (omega arith)))  -- returns

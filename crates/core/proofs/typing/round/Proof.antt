@@ -24,8 +24,13 @@ round-spec =
     (λ c. round-start _ _ _ _)  -- loop-holds
     (λ c. search needs)  -- mul-key
     (λ c. search needs)  -- shared-slice-read-key
-    (λ c. let s = c .before .before .before .before .before in omega (arith, s .pre .1 _ (∈-at (s .args .triples .now) (c .before .before .loop .i) (omega arith)) .from))  -- mul-from
-    (λ c. let s = c .before .before .before .before .before .before in let l = c .before .before .before .loop in omega (arith, s .pre .1 _ (∈-at (s .args .triples .now) (l .i) (omega arith)) .from, l .inv .long, s .pre .3))  -- slice-read-from
+    (λ c.
+    let s = c .before .before .before .before .before in
+    omega (arith, s .pre .1 _ (∈-at (s .args .triples .now) (c .before .before .loop .i) (omega arith)) .from))  -- mul-from
+    (λ c.
+    let s = c .before .before .before .before .before .before in
+    let l = c .before .before .before .loop in
+    omega (arith, s .pre .1 _ (∈-at (s .args .triples .now) (l .i) (omega arith)) .from, l .inv .long, s .pre .3))  -- slice-read-from
     (λ c. search needs)  -- mul-if1
     (λ c. search needs)  -- element-copy-out-if1
     (λ c. search needs)  -- add-i
@@ -33,10 +38,18 @@ round-spec =
     (λ c. round-skip (c .before .before .before .before .before .loop .inv) (c .before .before .before .before .loop-test .taken) (c .if1 .taken))  -- loop-again
     (λ c. search needs)  -- mul-passed
     (λ c. search needs)  -- element-write-passed
-    (λ c κs. let s = c .before .before .before .before .before .before .before .before .before in let l = c .before .before .before .before .before .before .loop in (s .pre .0, s .pre .1 _ (∈-at (s .args .triples .now) (l .i) (omega arith)), omega (arith, l .inv .long, s .pre .3)))  -- pass-requires
+    (λ c κs.
+    let s = c .before .before .before .before .before .before .before .before .before in
+    let l = c .before .before .before .before .before .before .loop in
+    (s .pre .0, s .pre .1 _ (∈-at (s .args .triples .now) (l .i) (omega arith)), omega (arith, l .inv .long, s .pre .3)))  -- pass-requires
     (λ c. search needs)  -- add-i-2
     (λ c. search needs)  -- loop-less-2
-    (λ c. let l = c .before .before .before .before .before .before .before .before .before .before .loop in let h = c .before .before .before .before .before .before .before .before .before .loop-test .taken in let p = c .before .before .before .pass in  -- loop-again-2
-    ⊎-elim (λ w. rw (w .1) (round-hit (l .inv) h _ (p .ensures .0) (p .kept .1 .1 .0) (rw (w .0 .taken) at (p .ensures .1)))) (λ w. rw (w .1) (round-miss (l .inv) h _ (p .ensures .0) (p .kept .1 .1 .0) (rw (w .0 .left) at (p .ensures .1)))) (c .if2 .came))
+    (λ c.
+    let loop-test = c .before .before .before .before .before .before .before .before .before .loop-test in
+    let l = c .before .before .before .before .before .before .before .before .before .before .loop in
+    let p = c .before .before .before .pass in
+    let h = loop-test .taken in
+    ⊎-elim (λ w. rw (w .1) (round-hit (l .inv) h _ (p .ensures .0) (p .kept .1 .1 .0) (rw (w .0 .taken) at (p .ensures .1))))
+    (λ w. rw (w .1) (round-miss (l .inv) h _ (p .ensures .0) (p .kept .1 .1 .0) (rw (w .0 .left) at (p .ensures .1)))) (c .if2 .came))  -- loop-again-2
     (λ c. search needs)  -- same-length
     (λ c. (round-done (c .before .loop .inv) (omega arith), c .before .loop .inv .progress)))  -- returns

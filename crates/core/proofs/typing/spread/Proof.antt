@@ -23,6 +23,9 @@ spread-spec =
     (λ c. spread-start _ _ _ maxCoreTriples)  -- loop-holds
     (λ c κs. let s = c .before .before .before .before .before .pre in (s .0, s .1, s .2, omega (arith, c .before .before .loop .inv .long, s .3)))  -- round-requires
     (λ c. search needs)  -- same-length
-    (λ c. let r = c .before .before .before .round in spread-done (c .before .before .before .before .before .before .loop .inv) (r .kept .1 .1 .1 .0) (r .ensures .0) (not-true (r .result) (c .if1 .taken)))  -- returns
+    (λ c.
+    let loop = c .before .before .before .before .before .before .loop in
+    let r = c .before .before .before .round in
+    spread-done (loop .inv) (r .kept .1 .1 .1 .0) (r .ensures .0) (not-true (r .result) (c .if1 .taken)))  -- returns
     (λ c. let r = c .before .before .before .round in rw (not-false (r .result) (c .if1 .left)) at (r .ensures .1))  -- loop-less
     (λ c. let r = c .before .before .before .round in spread-again (c .before .before .before .before .before .before .loop .inv) (r .kept .1 .1 .1 .0) (r .ensures .0)))  -- loop-again

@@ -38,11 +38,11 @@ read-arguments-spec =
     (λ c. search needs)  -- enum-known-v
     (λ c. search needs)  -- enum-told
     (λ c κs. search needs)  -- no-arguments-requires
-    (λ c.  -- returns
+    (λ c.
     let f = c .before .before .before in
     let k = f .before .before in
     let i = k .before .before .loop .inv in
-    λ P w. c .no-arguments .ensures ∙ ap argumentsOf (no-value (i .2 P w) (k .part-end .ensures) (i .1) (f .find-value .ensures P w) (c .before .enum-told .given .1)))
+    λ P w. c .no-arguments .ensures ∙ ap argumentsOf (no-value (i .2 P w) (k .part-end .ensures) (i .1) (f .find-value .ensures P w) (c .before .enum-told .given .1)))  -- returns
     (λ c.  -- cast-values
     let f = c .before .before .before in
     let s = f .before .before .before .before .before .before .before .before in
@@ -50,23 +50,24 @@ read-arguments-spec =
     (λ c. search needs)  -- mul-values
     (λ c. search needs)  -- array-write-values
     (λ c. search needs)  -- add-n
-    (λ c.  -- returns-2
+    (λ c.
     let f = c .before .before .before .before .before in
     let k = f .before .before in
     let i = k .before .before .loop .inv in
     let s = k .before .before .before .before .before .before in
-    λ P w. all-read (i .2 P w) (k .part-end .ensures) (i .1) (f .find-value .ensures P w) (c .before .before .before .v .given .1) (c .before .if1 .taken) (omega (arith, s .pre .2)) (c .if2 .taken))
+    λ P w. all-read (i .2 P w) (k .part-end .ensures) (i .1) (f .find-value .ensures P w) (c .before .before .before .v .given .1) (c .before .if1 .taken)
+    (omega (arith, s .pre .2)) (c .if2 .taken))  -- returns-2
     (λ c κs. search needs)  -- no-arguments-requires-2
-    (λ c.  -- returns-3
-    let f = c .before .before .before .before .before .before in
+    (λ c.
+    let at-v = c .before .before .before .before in
+    let f = at-v .before .before in
     let k = f .before .before in
     let i = k .before .before .loop .inv in
-    λ P w. c .no-arguments2 .ensures
-    ∙ ap argumentsOf
-    (too-few (i .2 P w) (k .part-end .ensures) (i .1) (f .find-value .ensures P w) (c .before .before .before .before .v .given .1) (c .before .before .if1 .taken) (c .before .if2 .left)))
+    λ P w. c .no-arguments2 .ensures ∙ ap argumentsOf (too-few (i .2 P w) (k .part-end .ensures) (i .1) (f .find-value .ensures P w) (at-v .v .given .1)
+    (c .before .before .if1 .taken) (c .before .if2 .left)))  -- returns-3
     (λ c. omega (arith, bounds (c .before .before .before .before .before .before)))  -- add-from
     (λ c. search needs)  -- loop-less
-    (λ c.  -- loop-again
+    (λ c.
     let f = c .before .before .before .before in
     let k = f .before .before in
     let i = k .before .before .loop .inv in
@@ -74,6 +75,6 @@ read-arguments-spec =
       omega arith,
       omega (arith, bounds k, c .if1 .left),
       λ P w. so-far-again (i .2 P w) (k .part-end .ensures) (i .1) (f .find-value .ensures P w) (c .before .before .v .given .1) (c .if1 .left) (omega (arith, s .pre .2)),
-    ))
+    ))  -- loop-again
     (λ c κs. search needs)  -- no-arguments-requires-3
     (λ c. λ P w. c .no-arguments3 .ensures ∙ ap argumentsOf (too-many (c .before .before .loop .inv .2 P w) (c .before .loop-test .left))))  -- returns-4

@@ -62,11 +62,11 @@ read-iri-spec =
     let t = c .before .before .before .before .before .before .before in
     omega (arith, constructors-few (t .before .before .before .before .before .pre .given), t .loop-test .taken))
     (λ c κs. search needs)  -- under-requires
-    (λ c.  -- returns
+    (λ c.
     let b = c .before .before .before .before in
     let t = b .before .before .before .before in
-    this-constructor (t .before .before .before .before .before .pre) (t .before .loop .inv) (t .loop-test .taken) (b .begins-text .ensures) (c .before .before .before .if1 .taken)
-    (c .before .read-arguments .ensures) (c .under .ensures))
+    this-constructor (t .before .before .before .before .before .pre) (t .before .loop .inv) (t .loop-test .taken) (b .begins-text .ensures)
+    (c .before .before .before .if1 .taken) (c .before .read-arguments .ensures) (c .under .ensures))  -- returns
     (λ c. omega (arith, place (c .before .before .before .before .before)))  -- add-c
     (λ c. search needs)  -- loop-less
     (λ c.  -- loop-again

@@ -23,20 +23,57 @@ row-key-spec =
     (λ c. omega (arith, c .before .before .loop .inv .within))  -- shared-slice-read-x
     (λ c. fits-widen tt (c .shared-slice-known .given _))  -- cast-x
     (λ c. omega (arith, keying-variable (c .before .before .loop .inv) (c .before .loop-test .taken) (c .before .before .before .pre .0)))  -- mul-x
-    (λ c. omega (arith, keying-variable (c .before .before .loop .inv) (c .before .loop-test .taken) (c .before .before .before .pre .0), c .before .before .before .pre .1 .long))  -- element-copy-out-x
-    (λ c. omega (arith, keying-room (c .before .before .before .before .loop .inv) (c .before .before .before .loop-test .taken) (c .before .before .before .before .before .pre .0)))  -- mul-key
+    (λ c.
+    let pre = c .before .before .before .pre in
+    omega (arith, keying-variable (c .before .before .loop .inv) (c .before .loop-test .taken) (pre .0), pre .1 .long))  -- element-copy-out-x
+    (λ c.
+    let pre = c .before .before .before .before .before .pre in
+    let loop = c .before .before .before .before .loop in
+    omega (arith, keying-room (loop .inv) (c .before .before .before .loop-test .taken) (pre .0)))  -- mul-key
     (λ c. omega (arith, c .before .before .before .before .loop .inv .within, c .before .before .before .before .before .pre .0 .short))  -- mul-key-2
-    (λ c. omega (arith, c .before .before .before .before .loop .inv .within, c .before .before .before .before .before .pre .0 .short, c .before .before .before .before .before .pre .3))  -- element-copy-out-key
-    (λ c. omega (arith, keying-within (c .before .before .before .before .before .loop .inv) (c .before .before .before .before .loop-test .taken) (c .before .before .before .before .before .before .pre .2)))  -- add-key
-    (λ c. omega (arith, keying-within (c .before .before .before .before .before .loop .inv) (c .before .before .before .before .loop-test .taken) (c .before .before .before .before .before .before .pre .2)))  -- mul-key-3
-    (λ c. omega (arith, keying-within (c .before .before .before .before .before .before .loop .inv) (c .before .before .before .before .before .loop-test .taken) (c .before .before .before .before .before .before .before .pre .2)))  -- shared-slice-read-key
+    (λ c.
+    let pre = c .before .before .before .before .before .pre in
+    let loop = c .before .before .before .before .loop in
+    omega (arith, loop .inv .within, pre .0 .short, pre .3))  -- element-copy-out-key
+    (λ c.
+    let pre = c .before .before .before .before .before .before .pre in
+    let loop = c .before .before .before .before .before .loop in
+    let loop-test = c .before .before .before .before .loop-test in
+    omega (arith, keying-within (loop .inv) (loop-test .taken) (pre .2)))  -- add-key
+    (λ c.
+    let pre = c .before .before .before .before .before .before .pre in
+    let loop = c .before .before .before .before .before .loop in
+    let loop-test = c .before .before .before .before .loop-test in
+    omega (arith, keying-within (loop .inv) (loop-test .taken) (pre .2)))  -- mul-key-3
+    (λ c.
+    let pre = c .before .before .before .before .before .before .before .pre in
+    let loop = c .before .before .before .before .before .before .loop in
+    let loop-test = c .before .before .before .before .before .loop-test in
+    omega (arith, keying-within (loop .inv) (loop-test .taken) (pre .2)))  -- shared-slice-read-key
     (λ c. fits-widen tt (c .shared-slice-known2 .given _))  -- cast-key
-    (λ c. omega (arith, keying-room (c .before .before .before .before .before .before .loop .inv) (c .before .before .before .before .before .loop-test .taken) (c .before .before .before .before .before .before .before .pre .0), keying-cell (c .before .before .before .before .before .before .loop .inv) (c .before .before .before .before .before .loop-test .taken) (c .before .before .before .before .before .before .before .pre .2)))  -- add-key-2
+    (λ c.
+    let pre = c .before .before .before .before .before .before .before .pre in
+    let loop = c .before .before .before .before .before .before .loop in
+    let loop-test = c .before .before .before .before .before .loop-test in
+    omega (arith, keying-room (loop .inv) (loop-test .taken) (pre .0), keying-cell (loop .inv) (loop-test .taken) (pre .2)))  -- add-key-2
     (λ c. omega (arith, c .before .before .before .before .before .loop-test .taken))  -- loop-less
-    (λ c. keying-open (c .before .before .before .before .before .before .loop .inv) (c .before .before .before .before .before .loop-test .taken) (c .before .before .before .before .before .before .before .pre .2) (c .before .before .if1 .taken))  -- loop-again
-    (λ c. omega (arith, keying-room (c .before .before .before .before .loop .inv) (c .before .before .before .loop-test .taken) (c .before .before .before .before .before .pre .0)))  -- mul-key-4
+    (λ c.
+    let at-loop-test = c .before .before .before .before .before in
+    let at-loop = at-loop-test .before in
+    let entry = at-loop .before in
+    keying-open (at-loop .loop .inv) (at-loop-test .loop-test .taken) (entry .pre .2) (c .before .before .if1 .taken))  -- loop-again
+    (λ c.
+    let pre = c .before .before .before .before .before .pre in
+    let loop = c .before .before .before .before .loop in
+    omega (arith, keying-room (loop .inv) (c .before .before .before .loop-test .taken) (pre .0)))  -- mul-key-4
     (λ c. omega (arith, c .before .before .before .before .before .pre .1 .small _ (c .if1 .left)))  -- cast-key-2
-    (λ c. omega (arith, keying-room (c .before .before .before .before .loop .inv) (c .before .before .before .loop-test .taken) (c .before .before .before .before .before .pre .0), c .before .before .before .before .before .pre .1 .small _ (c .if1 .left)))  -- add-key-3
+    (λ c.
+    let pre = c .before .before .before .before .before .pre in
+    let loop = c .before .before .before .before .loop in
+    omega (arith, keying-room (loop .inv) (c .before .before .before .loop-test .taken) (pre .0), pre .1 .small _ (c .if1 .left)))  -- add-key-3
     (λ c. omega (arith, c .before .before .before .loop-test .taken))  -- loop-less-2
-    (λ c. keying-bound (c .before .before .before .before .loop .inv) (c .before .before .before .loop-test .taken) (c .before .before .before .before .before .pre .1) (c .if1 .left))  -- loop-again-2
+    (λ c.
+    let at-loop = c .before .before .before .before in
+    let entry = at-loop .before in
+    keying-bound (at-loop .loop .inv) (c .before .before .before .loop-test .taken) (entry .pre .1) (c .if1 .left))  -- loop-again-2
     (λ c. keying-done (c .before .loop .inv) (c .loop-test .left)))  -- returns

@@ -14,8 +14,17 @@ store-spec =
     (λ c. search needs)  -- enum-told-2
     (λ c. search needs)  -- enum-told-3
     (λ c. search needs)  -- same-length
-    (λ c. store-added (c .before .before .before .before .before .before .before .args .key) (c .before .before .before .before .before .before .before .args .n) (c .before .before .before .before .before .before .before .args .out .now) _ (c .before .before .before .before .before .before .before .pre .1) (rw (c .enum-told .given .1) at (c .before .before .before .before .insert .ensures)))  -- returns
+    (λ c.
+    let at-insert = c .before .before .before .before in
+    let entry = at-insert .before .before .before in
+    store-added (entry .args .key) (entry .args .n) (entry .args .out .now) _ (entry .pre .1) (rw (c .enum-told .given .1) at (at-insert .insert .ensures)))  -- returns
     (λ c. search needs)  -- same-length-2
-    (λ c. store-present (c .before .before .before .before .before .before .before .args .key) (c .before .before .before .before .before .before .before .args .n) (c .before .before .before .before .before .before .before .args .out .now) _ (c .before .before .before .before .before .before .before .pre .1) (rw (c .enum-told2 .given .1) at (c .before .before .before .before .insert .ensures)))  -- returns-2
+    (λ c.
+    let at-insert = c .before .before .before .before in
+    let entry = at-insert .before .before .before in
+    store-present (entry .args .key) (entry .args .n) (entry .args .out .now) _ (entry .pre .1) (rw (c .enum-told2 .given .1) at (at-insert .insert .ensures)))  -- returns-2
     (λ c. search needs)  -- same-length-3
-    (λ c. store-full (c .before .before .before .before .before .before .before .args .key) (c .before .before .before .before .before .before .before .args .n) (c .before .before .before .before .before .before .before .args .out .now) _ (c .before .before .before .before .before .before .before .pre .1) (c .before .before .before .before .before .before .before .pre .0) (rw (c .enum-told3 .given .1) at (c .before .before .before .before .insert .ensures))))  -- returns-3
+    (λ c.
+    let at-insert = c .before .before .before .before in
+    let entry = at-insert .before .before .before in
+    store-full (entry .args .key) (entry .args .n) (entry .args .out .now) _ (entry .pre .1) (entry .pre .0) (rw (c .enum-told3 .given .1) at (at-insert .insert .ensures))))  -- returns-3

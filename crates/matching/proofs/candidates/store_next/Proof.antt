@@ -8,7 +8,7 @@ pub store-next-spec : {M : Type 1} → statement M
 store-next-spec =
     tie.close
     (tie.spec
-    (λ c. store-known _ _ _ (c .before .before .before .pre .1) (rw (c .if2 .taken) (c .before .before .before .pre .2 (c .before .if1 .taken))))  -- returns
+    (λ c. let pre = c .before .before .before .pre in store-known _ _ _ (pre .1) (rw (c .if2 .taken) (pre .2 (c .before .if1 .taken))))  -- returns
     (λ c κs. search needs)  -- store-requires
     (λ c. search needs)  -- same-length
     (λ c. search needs))  -- returns-2

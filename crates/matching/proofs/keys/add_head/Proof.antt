@@ -12,5 +12,12 @@ add-head-spec =
     (λ c κs. search needs)  -- add-key-requires
     (λ c. search needs)  -- enum-told
     (λ c. search needs)  -- same-length
-    (λ c. let h = rw (c .before .before .before .before .before .key .given .1) at (c .before .before .before .before .before .before .before .head-key .ensures) in rw (← (h .1)) (c .before .before .add-key .ensures))  -- returns
-    (λ c. let h = rw (c .enum-told .given .1) at (c .before .before .head-key .ensures) in absurd (c .before .before .before .before .before .pre .2 (h .0) (h .1) (h .2))))  -- returns-2
+    (λ c.
+    let at-key = c .before .before .before .before .before in
+    let at-head-key = at-key .before .before in
+    let h = rw (at-key .key .given .1) at (at-head-key .head-key .ensures) in
+    rw (← (h .1)) (c .before .before .add-key .ensures))  -- returns
+    (λ c.
+    let pre = c .before .before .before .before .before .pre in
+    let h = rw (c .enum-told .given .1) at (c .before .before .head-key .ensures) in
+    absurd (pre .2 (h .0) (h .1) (h .2))))  -- returns-2

@@ -14,8 +14,17 @@ add-key-spec =
     (λ c. search needs)  -- enum-told-2
     (λ c. search needs)  -- enum-told-3
     (λ c. search needs)  -- same-length
-    (λ c. let r = c .before .before .before .before .insert in let s = c .before .before .before .before .before .before .before in one-added (s .args .x) (s .args .n) (s .args .keys .now) _ (s .pre .1) (rw (c .enum-told .given .1) at (r .ensures)))  -- returns
+    (λ c.
+    let r = c .before .before .before .before .insert in
+    let s = c .before .before .before .before .before .before .before in
+    one-added (s .args .x) (s .args .n) (s .args .keys .now) _ (s .pre .1) (rw (c .enum-told .given .1) at (r .ensures)))  -- returns
     (λ c. search needs)  -- same-length-2
-    (λ c. let r = c .before .before .before .before .insert in let s = c .before .before .before .before .before .before .before in one-present (s .args .x) (s .args .n) (s .args .keys .now) _ (s .pre .1) (s .pre .0) (rw (c .enum-told2 .given .1) at (r .ensures)))  -- returns-2
+    (λ c.
+    let r = c .before .before .before .before .insert in
+    let s = c .before .before .before .before .before .before .before in
+    one-present (s .args .x) (s .args .n) (s .args .keys .now) _ (s .pre .1) (s .pre .0) (rw (c .enum-told2 .given .1) at (r .ensures)))  -- returns-2
     (λ c. search needs)  -- same-length-3
-    (λ c. let r = c .before .before .before .before .insert in let s = c .before .before .before .before .before .before .before in one-over (s .args .x) (s .args .n) (s .args .keys .now) _ (s .pre .1) (rw (c .enum-told3 .given .1) at (r .ensures))))  -- returns-3
+    (λ c.
+    let r = c .before .before .before .before .insert in
+    let s = c .before .before .before .before .before .before .before in
+    one-over (s .args .x) (s .args .n) (s .args .keys .now) _ (s .pre .1) (rw (c .enum-told3 .given .1) at (r .ensures))))  -- returns-3

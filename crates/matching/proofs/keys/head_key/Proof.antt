@@ -24,13 +24,30 @@ head-key-spec =
     (λ c. making-start _ _)  -- loop-holds
     (λ c. search needs)  -- shared-slice-read-x
     (λ c. fits-widen tt (c .shared-slice-known .given _))  -- cast-x
-    (λ c. let s = c .before .before .before in let l = c .before .before .loop in omega (arith, s .pre .0 .below _ (∈-at (s .args .vars .now) (l .i) (c .before .loop-test .taken)), s .pre .1 .long))  -- mul-x
-    (λ c. let s = c .before .before .before in let l = c .before .before .loop in omega (arith, s .pre .0 .below _ (∈-at (s .args .vars .now) (l .i) (c .before .loop-test .taken)), s .pre .1 .long))  -- array-read-x
-    (λ c. let s = c .before .before .before .before in making-open (c .before .before .before .loop .inv) (c .before .before .loop-test .taken) (s .pre .1) (c .if1 .taken))  -- returns
-    (λ c. let s = c .before .before .before .before in let l = c .before .before .before .loop in omega (arith, making-room (l .inv) (c .before .before .loop-test .taken) (s .pre .1) (s .pre .0)))  -- mul-key
+    (λ c.
+    let s = c .before .before .before in
+    let l = c .before .before .loop in
+    omega (arith, s .pre .0 .below _ (∈-at (s .args .vars .now) (l .i) (c .before .loop-test .taken)), s .pre .1 .long))  -- mul-x
+    (λ c.
+    let s = c .before .before .before in
+    let l = c .before .before .loop in
+    omega (arith, s .pre .0 .below _ (∈-at (s .args .vars .now) (l .i) (c .before .loop-test .taken)), s .pre .1 .long))  -- array-read-x
+    (λ c.
+    let s = c .before .before .before .before in
+    making-open (c .before .before .before .loop .inv) (c .before .before .loop-test .taken) (s .pre .1) (c .if1 .taken))  -- returns
+    (λ c.
+    let s = c .before .before .before .before in
+    let l = c .before .before .before .loop in
+    omega (arith, making-room (l .inv) (c .before .before .loop-test .taken) (s .pre .1) (s .pre .0)))  -- mul-key
     (λ c. search needs)  -- cast-key
-    (λ c. let s = c .before .before .before .before in let l = c .before .before .before .loop in omega (arith, making-room (l .inv) (c .before .before .loop-test .taken) (s .pre .1) (s .pre .0), making-value (l .inv) (c .before .before .loop-test .taken) (s .pre .1) (c .if1 .left)))  -- add-key
+    (λ c.
+    let loop-test = c .before .before .loop-test in
+    let s = c .before .before .before .before in
+    let l = c .before .before .before .loop in
+    omega (arith, making-room (l .inv) (loop-test .taken) (s .pre .1) (s .pre .0), making-value (l .inv) (loop-test .taken) (s .pre .1) (c .if1 .left)))  -- add-key
     (λ c. search needs)  -- add-i
     (λ c. search needs)  -- loop-less
-    (λ c. let s = c .before .before .before .before in making-again (c .before .before .before .loop .inv) (c .before .before .loop-test .taken) (s .pre .1) (c .if1 .left))  -- loop-again
+    (λ c.
+    let s = c .before .before .before .before in
+    making-again (c .before .before .before .loop .inv) (c .before .before .loop-test .taken) (s .pre .1) (c .if1 .left))  -- loop-again
     (λ c. making-done (c .before .loop .inv) (c .loop-test .left)))  -- returns-2

@@ -14,6 +14,11 @@ settled-spec =
     (λ c. search needs)  -- enum-told
     (λ c. search needs)  -- enum-told-2
     (λ c. search needs)  -- enum-told-3
-    (λ c. let s = c .before .before .before .before .before .before .before .before .before in settled-at (s .args .vars .now) (s .args .env) (s .args .set .now) _ _ (rw (c .before .before .before .before .key .given .1) at (c .before .before .before .before .before .before .head-key .ensures)) (rw (c .enum-told .given .1) at (c .before .before .find .ensures)))  -- returns
+    (λ c.
+    let at-key = c .before .before .before .before in
+    let at-head-key = at-key .before .before in
+    let s = at-head-key .before .before .before in
+    settled-at (s .args .vars .now) (s .args .env) (s .args .set .now) _ _ (rw (at-key .key .given .1) at (at-head-key .head-key .ensures))
+    (rw (c .enum-told .given .1) at (c .before .before .find .ensures)))  -- returns
     (λ c. search needs)  -- returns-2
     (λ c. search needs))  -- returns-3

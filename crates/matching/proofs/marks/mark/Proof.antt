@@ -24,11 +24,27 @@ mark-spec =
     (λ c. marking-start _ _)  -- loop-holds
     (λ c. search needs)  -- shared-slice-read-v
     (λ c. fits-widen tt (c .shared-slice-known2 .given _))  -- cast-v
-    (λ c. omega (arith, (c .before .before .before .before .pre _ (∈-at (c .before .before .before .before .args .own .now) (c .before .before .loop .i) (c .before .loop-test .taken))), c .before .before .loop .inv .long))  -- mul-noted
-    (λ c. omega (arith, (c .before .before .before .before .pre _ (∈-at (c .before .before .before .before .args .own .now) (c .before .before .loop .i) (c .before .loop-test .taken))), c .before .before .loop .inv .long))  -- array-read-noted
+    (λ c.
+    let pre = c .before .before .before .before .pre in
+    let args = c .before .before .before .before .args in
+    let loop = c .before .before .loop in
+    omega (arith, (pre _ (∈-at (args .own .now) (loop .i) (c .before .loop-test .taken))), loop .inv .long))  -- mul-noted
+    (λ c.
+    let pre = c .before .before .before .before .pre in
+    let args = c .before .before .before .before .args in
+    let loop = c .before .before .loop in
+    omega (arith, (pre _ (∈-at (args .own .now) (loop .i) (c .before .loop-test .taken))), loop .inv .long))  -- array-read-noted
     (λ c κs. search needs)  -- noted-requires
-    (λ c. omega (arith, (c .before .before .before .before .before .pre _ (∈-at (c .before .before .before .before .before .args .own .now) (c .before .before .before .loop .i) (c .before .before .loop-test .taken))), c .before .before .before .loop .inv .long))  -- mul-marks
-    (λ c. omega (arith, (c .before .before .before .before .before .pre _ (∈-at (c .before .before .before .before .before .args .own .now) (c .before .before .before .loop .i) (c .before .before .loop-test .taken))), c .before .before .before .loop .inv .long))  -- array-write-marks
+    (λ c.
+    let pre = c .before .before .before .before .before .pre in
+    let args = c .before .before .before .before .before .args in
+    let loop = c .before .before .before .loop in
+    omega (arith, (pre _ (∈-at (args .own .now) (loop .i) (c .before .before .loop-test .taken))), loop .inv .long))  -- mul-marks
+    (λ c.
+    let pre = c .before .before .before .before .before .pre in
+    let args = c .before .before .before .before .before .args in
+    let loop = c .before .before .before .loop in
+    omega (arith, (pre _ (∈-at (args .own .now) (loop .i) (c .before .before .loop-test .taken))), loop .inv .long))  -- array-write-marks
     (λ c. search needs)  -- add-i
     (λ c. search needs)  -- loop-less
     (λ c. marking-again (c .before .before .before .loop .inv) (c .before .before .loop-test .taken) _ (c .noted .ensures))  -- loop-again

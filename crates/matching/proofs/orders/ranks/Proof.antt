@@ -24,12 +24,28 @@ ranks-spec =
     (λ c. ranking-start _ _ _)  -- loop-holds
     (λ c. search needs)  -- shared-slice-read-v
     (λ c. fits-widen tt (c .shared-slice-known2 .given _))  -- cast-rank
-    (λ c. omega (arith, c .before .before .before .before .before .pre .0 .below _ (∈-at (c .before .before .before .before .before .args .own .now) (c .before .before .loop .c) (c .before .loop-test .taken))))  -- mul-rank
-    (λ c. omega (arith, c .before .before .before .before .before .pre .0 .below _ (∈-at (c .before .before .before .before .before .args .own .now) (c .before .before .loop .c) (c .before .loop-test .taken))))  -- array-read-rank
+    (λ c.
+    let pre = c .before .before .before .before .before .pre in
+    let args = c .before .before .before .before .before .args in
+    omega (arith, pre .0 .below _ (∈-at (args .own .now) (c .before .before .loop .c) (c .before .loop-test .taken))))  -- mul-rank
+    (λ c.
+    let pre = c .before .before .before .before .before .pre in
+    let args = c .before .before .before .before .before .args in
+    omega (arith, pre .0 .below _ (∈-at (args .own .now) (c .before .before .loop .c) (c .before .loop-test .taken))))  -- array-read-rank
     (λ c κs. search needs)  -- rank-requires
-    (λ c κs. (omega (arith, c .before .before .before .before .loop .inv .few, c .before .before .before .before .loop .inv .long, c .before .before .before .loop-test .taken, c .before .before .before .before .before .before .before .pre .0 .short, c .before .before .before .before .before .before .before .pre .1), c .before .before .before .before .loop .inv .list .ascending))  -- store-requires
+    (λ c κs.
+    let at-loop = c .before .before .before .before in
+    let entry = at-loop .before .before .before in (
+      omega (arith, at-loop .loop .inv .few, at-loop .loop .inv .long, c .before .before .before .loop-test .taken, entry .pre .0 .short, entry .pre .1),
+      at-loop .loop .inv .list .ascending,
+    ))  -- store-requires
     (λ c. search needs)  -- add-c
     (λ c. search needs)  -- loop-less
-    (λ c. ranking-again _ _ (c .before .before .before .before .before .before .before .loop .inv) (c .before .before .before .before .before .before .loop-test .taken) _ (c .before .before .before .before .rank .ensures) _ _ (c .before .before .store .ensures) (c .before .before .store .kept .0))  -- loop-again
+    (λ c.
+    let at-store = c .before .before in
+    let at-rank = at-store .before .before in
+    let at-loop-test = at-rank .before .before in
+    let at-loop = at-loop-test .before in
+    ranking-again _ _ (at-loop .loop .inv) (at-loop-test .loop-test .taken) _ (at-rank .rank .ensures) _ _ (at-store .store .ensures) (at-store .store .kept .0))  -- loop-again
     (λ c. search needs)  -- same-length
     (λ c. ranking-done _ _ (c .before .loop .inv) (c .loop-test .left)))  -- returns

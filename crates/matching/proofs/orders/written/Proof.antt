@@ -28,11 +28,14 @@ written-spec =
     (λ c. search needs)  -- mul-next-2
     (λ c. search needs)  -- shared-slice-read-next
     (λ c. omega arith)  -- cast-next-2
-    (λ c. omega (arith, c .before .before .before .pre .0, c .before .before .before .pre .1, c .before .loop-test .taken))  -- mul-next-3
-    (λ c. omega (arith, c .before .before .before .pre .0, c .before .before .before .pre .1, c .before .loop-test .taken))  -- add-next-2
-    (λ c. omega (arith, c .before .before .before .pre .0, c .before .before .before .pre .1, c .before .loop-test .taken))  -- add-next-3
-    (λ c. omega (arith, c .before .before .before .pre .0, c .before .before .before .pre .1, c .before .loop-test .taken))  -- array-write-next-2
+    (λ c. let pre = c .before .before .before .pre in omega (arith, pre .0, pre .1, c .before .loop-test .taken))  -- mul-next-3
+    (λ c. let pre = c .before .before .before .pre in omega (arith, pre .0, pre .1, c .before .loop-test .taken))  -- add-next-2
+    (λ c. let pre = c .before .before .before .pre in omega (arith, pre .0, pre .1, c .before .loop-test .taken))  -- add-next-3
+    (λ c. let pre = c .before .before .before .pre in omega (arith, pre .0, pre .1, c .before .loop-test .taken))  -- array-write-next-2
     (λ c. search needs)  -- add-i
     (λ c. search needs)  -- loop-less
-    (λ c. writing-again (c .before .before .loop .inv) (c .before .loop-test .taken) (c .before .before .before .pre .0) (c .before .before .before .pre .1) (omega (arith, length-set (c .before .before .before .args .orders) (c .before .before .before .args .j * atomWidth + 1) (length (c .before .before .before .args .set .now)))))  -- loop-again
+    (λ c.
+    let entry = c .before .before .before in
+    writing-again (c .before .before .loop .inv) (c .before .loop-test .taken) (entry .pre .0) (entry .pre .1)
+    (omega (arith, length-set (entry .args .orders) (entry .args .j * atomWidth + 1) (length (entry .args .set .now)))))  -- loop-again
     (λ c. writing-done (c .before .loop .inv) (c .loop-test .left) (c .before .before .pre .0) (omega arith)))  -- returns

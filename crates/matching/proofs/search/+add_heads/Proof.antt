@@ -135,11 +135,15 @@ pub +add-heads-spec : {M : Type 1} → statement M
     let b = c .before .bind-row in
     turn-skip (o .inv) (c .before .before .before .before .before .loop-test .taken) (b .result) (b .last .1 .1 .0) (b .ensures) (c .if3 .taken))
     (λ c. omega (arith, turn-bounds (c .before .before .before .before .before .before .loop .inv) (c .before .before .before .before .before .loop-test .taken)))  -- add-heads-add-add-heads
-    (λ c κs. let o = c .before .before .before .before .before .before .before .loop .inv in  -- add-heads-add-heads-requires
-    let h = c .before .before .before .before .before .before .loop-test .taken in
+    (λ c κs.
+    let at-loop-test = c .before .before .before .before .before .before in
+    let at-loop = at-loop-test .before in
+    let entry = at-loop .before .before .before .before .before .before .before .before .before .before .before .before .before in
     let b = c .before .before .bind-row in
+    let o = at-loop .loop .inv in
+    let h = at-loop-test .loop-test .taken in
     let w = turn-bound o h (b .result) (b .last .1 .1 .0) (b .ensures) (c .before .if3 .left) in
-    (omega (arith, c .before .before .before .before .before .before .before .before .before .before .before .before .before .before .before .before .before .before .before .before .pre .0, o .left), (o .plan, omega (arith, o .left), w .bindings, turn-reaches o h w, turn-room o .0, turn-room o .1)))
+    (omega (arith, entry .pre .0, o .left), (o .plan, omega (arith, o .left), w .bindings, turn-reaches o h w, turn-room o .0, turn-room o .1)))  -- add-heads-add-heads-requires
     (λ c. search needs)  -- add-heads-enum-told
     (λ c. search needs)  -- add-heads-same-length-3
     (λ c. let o = c .before .before .before .before .before .before .before .before .before .before .before .before .loop .inv in  -- add-heads-returns-3
@@ -148,12 +152,20 @@ pub +add-heads-spec : {M : Type 1} → statement M
     let w = turn-bound o h (b .result) (b .last .1 .1 .0) (b .ensures) (c .before .before .before .before .before .before .if3 .left) in
     turn-over o h w (rw (c .enum-told .given .1) at (c .before .before .before .before .add-heads .ensures)))
     (λ c. search needs)  -- add-heads-enum-known-k
-    (λ c. omega (arith, turn-bounds (c .before .before .before .before .before .before .before .before .before .before .before .before .before .loop .inv) (c .before .before .before .before .before .before .before .before .before .before .before .before .loop-test .taken)))  -- add-heads-add-r-2
+    (λ c.
+    let loop = c .before .before .before .before .before .before .before .before .before .before .before .before .before .loop in
+    let loop-test = c .before .before .before .before .before .before .before .before .before .before .before .before .loop-test in
+    omega (arith, turn-bounds (loop .inv) (loop-test .taken)))  -- add-heads-add-r-2
     (λ c. search needs)  -- add-heads-loop-less-2
-    (λ c. let o = c .before .before .before .before .before .before .before .before .before .before .before .before .before .loop .inv in  -- add-heads-loop-again-2
-    let h = c .before .before .before .before .before .before .before .before .before .before .before .before .loop-test .taken in
+    (λ c.
+    let at-add-heads = c .before .before .before .before .before in
+    let at-if3 = at-add-heads .before .before in
+    let at-loop-test = at-if3 .before .before .before .before .before in
+    let at-loop = at-loop-test .before in
     let b = c .before .before .before .before .before .before .before .before .bind-row in
-    let w = turn-bound o h (b .result) (b .last .1 .1 .0) (b .ensures) (c .before .before .before .before .before .before .before .if3 .left) in
-    turn-more o h w (rw (c .before .k .given .1) at (c .before .before .before .before .before .add-heads .ensures)) (c .before .before .before .before .before .add-heads .kept .1 .1 .1 .1 .1 .1 .1 .0))
+    let o = at-loop .loop .inv in
+    let h = at-loop-test .loop-test .taken in
+    let w = turn-bound o h (b .result) (b .last .1 .1 .0) (b .ensures) (at-if3 .if3 .left) in
+    turn-more o h w (rw (c .before .k .given .1) at (at-add-heads .add-heads .ensures)) (at-add-heads .add-heads .kept .1 .1 .1 .1 .1 .1 .1 .0))  -- add-heads-loop-again-2
     (λ c. search needs)  -- add-heads-same-length-4
     (λ c. turn-done (c .before .loop .inv) (c .loop-test .left))  -- add-heads-returns-4

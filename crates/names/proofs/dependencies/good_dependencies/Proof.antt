@@ -28,15 +28,15 @@ good-dependencies-spec =
     (λ c. λ P g. left-start _ _)  -- loop-holds
     (λ c. omega (arith, dependencies-few (c .before .before .before .pre .given)))  -- mul-at
     (λ c. omega (arith, dependencies-few (c .before .before .before .pre .given)))  -- add-at
-    (λ c κs.  -- good-dependency-requires
-    let g = c .before .before .before .pre .given in
-    (c .before .before .before .pre, omega (arith, dependencies-few g, g .long)))
-    (λ c.  -- returns
+    (λ c κs. let pre = c .before .before .before .pre in let g = pre .given in (pre, omega (arith, dependencies-few g, g .long)))  -- good-dependency-requires
+    (λ c.
     let t = c .before .before in
-    λ P g. every-stop (t .before .loop .inv P g) (dependencies-many g) (t .loop-test .taken) (λ x e. c .before .good-dependency .ensures P g x (dependency-at g _ x e)) (c .if1 .taken))
+    λ P g. every-stop (t .before .loop .inv P g) (dependencies-many g) (t .loop-test .taken) (λ x e. c .before .good-dependency .ensures P g x (dependency-at g _ x e))
+    (c .if1 .taken))  -- returns
     (λ c. omega (arith, dependencies-few (c .before .before .before .before .before .pre .given)))  -- add-i
     (λ c. search needs)  -- loop-less
-    (λ c.  -- loop-again
+    (λ c.
     let t = c .before .before in
-    λ P g. every-on (t .before .loop .inv P g) (dependencies-many g) (t .loop-test .taken) (λ x e. c .before .good-dependency .ensures P g x (dependency-at g _ x e)) (c .if1 .left))
+    λ P g. every-on (t .before .loop .inv P g) (dependencies-many g) (t .loop-test .taken) (λ x e. c .before .good-dependency .ensures P g x (dependency-at g _ x e))
+    (c .if1 .left))  -- loop-again
     (λ c. λ P g. left-done (c .before .loop .inv P g) (dependencies-many g) (c .loop-test .left) refl))  -- returns-2

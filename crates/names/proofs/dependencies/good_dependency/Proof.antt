@@ -19,7 +19,7 @@ good-dependency-spec =
     (λ c. λ P g x d. none-named g d (c .if1 .taken))  -- returns
     (λ c. omega (arith, relations-few (c .before .before .before .pre .0 .given)))  -- add-arity
     (λ c. omega (arith, relations-few (c .before .before .before .pre .0 .given)))  -- mul-arity
-    (λ c. omega (arith, relations-few (c .before .before .before .before .pre .0 .given), c .before .before .before .before .pre .0 .given .long))  -- shared-slice-read-arity
+    (λ c. let pre = c .before .before .before .before .pre in omega (arith, relations-few (pre .0 .given), pre .0 .given .long))  -- shared-slice-read-arity
     (λ c. search needs)  -- add-in-columns
     (λ c. search needs)  -- mul-in-columns
     (λ c. search needs)  -- shared-slice-read-in-columns

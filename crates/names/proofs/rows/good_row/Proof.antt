@@ -19,7 +19,7 @@ good-row-spec =
     (λ c. search needs)  -- array-read-if1
     (λ c. λ P g x r. no-relation g r (c .if1 .taken))  -- returns
     (λ c. omega (arith, relations-few (c .before .before .before .before .pre .0 .given)))  -- add-arity
-    (λ c. omega (arith, relations-few (c .before .before .before .before .pre .0 .given), c .before .before .before .before .pre .0 .given .long))  -- mul-arity
+    (λ c. let pre = c .before .before .before .before .pre in omega (arith, relations-few (pre .0 .given), pre .0 .given .long))  -- mul-arity
     (λ c.  -- shared-slice-read-arity
     let g = c .before .before .before .before .before .pre .0 .given in
     omega (arith, relations-few g, g .long))

@@ -30,12 +30,12 @@ good-rows-spec =
     (λ c κs.  -- good-row-requires
     let g = c .before .before .before .before .pre .given in
     (record { pack = _; given = g .setting }, row-room g _ (c .loop-test .taken)))
-    (λ c.  -- returns
+    (λ c.
     let t = c .before .before in
-    λ P g. every-stop (t .before .loop .inv P g) (g .many) (t .loop-test .taken) (λ x e. c .before .good-row .ensures P (g .setting) x (row-at g _ x e)) (c .if1 .taken))
+    λ P g. every-stop (t .before .loop .inv P g) (g .many) (t .loop-test .taken) (λ x e. c .before .good-row .ensures P (g .setting) x (row-at g _ x e)) (c .if1 .taken))  -- returns
     (λ c. search needs)  -- add-i
     (λ c. search needs)  -- loop-less
-    (λ c.  -- loop-again
+    (λ c.
     let t = c .before .before in
-    λ P g. every-on (t .before .loop .inv P g) (g .many) (t .loop-test .taken) (λ x e. c .before .good-row .ensures P (g .setting) x (row-at g _ x e)) (c .if1 .left))
+    λ P g. every-on (t .before .loop .inv P g) (g .many) (t .loop-test .taken) (λ x e. c .before .good-row .ensures P (g .setting) x (row-at g _ x e)) (c .if1 .left))  -- loop-again
     (λ c. λ P g. left-done (c .before .loop .inv P g) (g .many) (c .loop-test .left) refl))  -- returns-2

@@ -34,12 +34,13 @@ good-atoms-spec =
     (λ c. search needs)  -- mul-has-columns-2
     (λ c. search needs)  -- shared-slice-read-has-columns-2
     (λ c κs. search needs)  -- has-columns-requires
-    (λ c.  -- returns
+    (λ c.
     let t = c .before .before .before .before in
-    λ P g as′ a. every-stop (t .before .loop .inv P g as′ a) (a .many) (t .loop-test .taken) (λ x e. atom-good a _ x e P (c .before .has-columns .ensures P g)) (c .if1 .taken))
+    λ P g as′ a. every-stop (t .before .loop .inv P g as′ a) (a .many) (t .loop-test .taken) (λ x e. atom-good a _ x e P (c .before .has-columns .ensures P g))
+    (c .if1 .taken))  -- returns
     (λ c. search needs)  -- add-i
     (λ c. search needs)  -- loop-less
-    (λ c.  -- loop-again
+    (λ c.
     let t = c .before .before .before .before in
-    λ P g as′ a. every-on (t .before .loop .inv P g as′ a) (a .many) (t .loop-test .taken) (λ x e. atom-good a _ x e P (c .before .has-columns .ensures P g)) (c .if1 .left))
+    λ P g as′ a. every-on (t .before .loop .inv P g as′ a) (a .many) (t .loop-test .taken) (λ x e. atom-good a _ x e P (c .before .has-columns .ensures P g)) (c .if1 .left))  -- loop-again
     (λ c. λ P g as′ a. left-done (c .before .loop .inv P g as′ a) (a .many) (c .loop-test .left) refl))  -- returns-2

@@ -28,7 +28,7 @@ good-rules-spec =
     (λ c. λ P g. left-start _ _)  -- loop-holds
     (λ c. omega (arith, rules-few (c .before .before .before .pre .given)))  -- mul-at
     (λ c. omega (arith, rules-few (c .before .before .before .pre .given)))  -- add-at
-    (λ c κs. (c .before .before .before .pre, is-rule (c .before .before .before .pre .given) _ (c .loop-test .taken)))  -- good-rule-requires
+    (λ c κs. let pre = c .before .before .before .pre in (pre, is-rule (pre .given) _ (c .loop-test .taken)))  -- good-rule-requires
     (λ c.  -- returns
     let t = c .before .before in
     λ P g. every-stop (t .before .loop .inv P g) (rules-many g) (t .loop-test .taken) (λ x e. c .before .good-rule .ensures P g x (rule-at g _ x e)) (c .if1 .taken))

@@ -48,9 +48,12 @@ head-named-spec =
     (λ c. search needs)  -- mul-has-arguments-4
     (λ c. search needs)  -- shared-slice-read-has-arguments-4
     (λ c κs. search needs)  -- has-arguments-requires-2
-    (λ c.  -- returns-5
+    (λ c.
     let t = c .before .before .before in
     let u = t .before .before .before in
-    λ P g h a. c .has-arguments2 .ensures P g
-    ∙ rw (passed (u .before .has-arguments .ensures P g) (u .if1 .left), ne-eqb _ _ (t .before .before .if2 .left), lt-ltb _ _ (t .before .if3 .left), eq-eqb _ _ (t .if4 .left))
-    at (head-named g a)))
+    λ P g h a. c .has-arguments2 .ensures P g ∙ rw (
+      passed (u .before .has-arguments .ensures P g) (u .if1 .left),
+      ne-eqb _ _ (t .before .before .if2 .left),
+      lt-ltb _ _ (t .before .if3 .left),
+      eq-eqb _ _ (t .if4 .left),
+    ) at (head-named g a)))  -- returns-5

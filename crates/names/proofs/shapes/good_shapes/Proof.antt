@@ -31,9 +31,9 @@ good-shapes-spec =
     (λ c κs.  -- good-shape-requires
     let g = c .before .before .before .pre .given in
     omega (arith, shapes-few g, g .long))
-    (λ c.  -- returns
+    (λ c.
     let t = c .before .before in
-    λ P g. every-stop (t .before .loop .inv P g) (shapes-many g) (t .loop-test .taken) (λ x e. c .before .good-shape .ensures P g x (shape-at g _ x e)) (c .if1 .taken))
+    λ P g. every-stop (t .before .loop .inv P g) (shapes-many g) (t .loop-test .taken) (λ x e. c .before .good-shape .ensures P g x (shape-at g _ x e)) (c .if1 .taken))  -- returns
     (λ c. omega (arith, shapes-few (c .before .before .before .before .before .pre .given)))  -- add-i
     (λ c. search needs)  -- loop-less
     (λ c.  -- loop-again

@@ -18,7 +18,9 @@ all-pass-spec =
     (λ c κs. search needs)  -- each-passes-requires-2
     (λ c. search needs)  -- enum-told-4
     (λ c κs. search needs)  -- each-passes-requires-3
-    (λ c. rw (c .enum-told .given .1) (sym (any-passes (slice (c .before .before .before .args .at) (c .before .before .before .args .at + c .before .before .before .args .n) (c .before .before .before .args .s .now)))))  -- returns
+    (λ c.
+    let args = c .before .before .before .args in
+    rw (c .enum-told .given .1) (sym (any-passes (slice (args .at) (args .at + args .n) (args .s .now)))))  -- returns
     (λ c. search needs)  -- returns-2
     (λ c. search needs)  -- returns-3
     (λ c. search needs))  -- returns-4

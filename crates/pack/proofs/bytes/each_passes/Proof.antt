@@ -25,8 +25,13 @@ each-passes-spec =
     (λ c. record { before = omega arith; inside = omega arith; is = refl })  -- loop-holds
     (λ c. search needs)  -- shared-slice-read-byte-passes
     (λ c κs. search needs)  -- byte-passes-requires
-    (λ c. passing-stops (c .before .before .before .before .loop .inv) (c .before .before .before .loop-test .taken) (sym (c .before .byte-passes .ensures) ∙ not-true (c .before .byte-passes .result) (c .if1 .taken)))  -- returns
+    (λ c.
+    let loop = c .before .before .before .before .loop in
+    passing-stops (loop .inv) (c .before .before .before .loop-test .taken)
+    (sym (c .before .byte-passes .ensures) ∙ not-true (c .before .byte-passes .result) (c .if1 .taken)))  -- returns
     (λ c. search needs)  -- add-i
     (λ c. search needs)  -- loop-less
-    (λ c. passing-on (c .before .before .before .before .loop .inv) (c .before .before .before .loop-test .taken) (sym (c .before .byte-passes .ensures) ∙ not-false (c .before .byte-passes .result) (c .if1 .left)))  -- loop-again
+    (λ c.
+    let loop = c .before .before .before .before .loop in
+    passing-on (loop .inv) (c .before .before .before .loop-test .taken) (sym (c .before .byte-passes .ensures) ∙ not-false (c .before .byte-passes .result) (c .if1 .left)))  -- loop-again
     (λ c. passing-done (c .before .loop .inv) (c .loop-test .left)))  -- returns-2

@@ -15,7 +15,24 @@ prefix-byte-spec =
     (λ c κs. search needs)  -- in-range-requires-2
     (λ c. rw (sym (c .before .before .before .in-range .ensures) ∙ c .before .before .if1 .left, sym (c .before .in-range2 .ensures) ∙ c .if2 .taken))  -- returns-2
     (λ c κs. search needs)  -- in-range-requires-3
-    (λ c. rw (sym (c .before .before .before .before .before .in-range .ensures) ∙ c .before .before .before .before .if1 .left, sym (c .before .before .before .in-range2 .ensures) ∙ c .before .before .if2 .left, sym (c .before .in-range3 .ensures) ∙ c .if3 .taken))  -- returns-3
+    (λ c.
+    let at-if1 = c .before .before .before .before in
+    let in-range = at-if1 .before in
+    rw (
+      sym (in-range .in-range .ensures) ∙ at-if1 .if1 .left,
+      sym (c .before .before .before .in-range2 .ensures) ∙ c .before .before .if2 .left,
+      sym (c .before .in-range3 .ensures) ∙ c .if3 .taken,
+    ))  -- returns-3
     (λ c. search needs)  -- slice-aggregate-holds
     (λ c κs. search needs)  -- holds-requires
-    (λ c. rw (sym (c .before .before .before .before .before .before .before .in-range .ensures) ∙ c .before .before .before .before .before .before .if1 .left, sym (c .before .before .before .before .before .in-range2 .ensures) ∙ c .before .before .before .before .if2 .left, sym (c .before .before .before .in-range3 .ensures) ∙ c .before .before .if3 .left) (c .holds .ensures)))  -- returns-4
+    (λ c.
+    let at-if2 = c .before .before .before .before in
+    let in-range2 = at-if2 .before in
+    let at-if1 = in-range2 .before in
+    let in-range = at-if1 .before in
+    rw (
+      sym (in-range .in-range .ensures) ∙ at-if1 .if1 .left,
+      sym (in-range2 .in-range2 .ensures) ∙ at-if2 .if2 .left,
+      sym (c .before .before .before .in-range3 .ensures)
+          ∙ c .before .before .if3 .left,
+    ) (c .holds .ensures)))  -- returns-4

@@ -12,4 +12,4 @@ body-spec =
     (λ c κs. omega (arith, size-is _ (c .before .pre .0)))  -- start-requires
     (λ c. search needs)  -- add-start
     (λ c κs. omega (arith, size-is _ (c .before .before .pre .0)))  -- start-requires-2
-    (λ c. body-from _ _ (c .before .before .before .pre .0) (c .before .before .before .pre .1) (c .before .start .ensures) (c .start2 .ensures)))  -- returns
+    (λ c. let pre = c .before .before .before .pre in body-from _ _ (pre .0) (pre .1) (c .before .start .ensures) (c .start2 .ensures)))  -- returns

@@ -25,9 +25,35 @@ word-spec =
     (λ c. search needs)  -- shared-slice-read-d
     (λ c. fits-widen tt (c .shared-slice-known4 .given _))  -- cast-d
     (λ c. omega (arith, c .shared-slice-known4 .given (c .before .before .before .before .args .i + 3)))  -- mul-result
-    (λ c. omega (arith, c .shared-slice-known4 .given (c .before .before .before .before .args .i + 3), c .shared-slice-known4 .given (c .before .before .before .before .args .i + 2)))  -- add-result
-    (λ c. omega (arith, c .shared-slice-known4 .given (c .before .before .before .before .args .i + 3), c .shared-slice-known4 .given (c .before .before .before .before .args .i + 2)))  -- mul-result-2
-    (λ c. omega (arith, c .shared-slice-known4 .given (c .before .before .before .before .args .i + 3), c .shared-slice-known4 .given (c .before .before .before .before .args .i + 2), c .shared-slice-known4 .given (c .before .before .before .before .args .i + 1)))  -- add-result-2
-    (λ c. omega (arith, c .shared-slice-known4 .given (c .before .before .before .before .args .i + 3), c .shared-slice-known4 .given (c .before .before .before .before .args .i + 2), c .shared-slice-known4 .given (c .before .before .before .before .args .i + 1)))  -- mul-result-3
-    (λ c. omega (arith, c .shared-slice-known4 .given (c .before .before .before .before .args .i + 3), c .shared-slice-known4 .given (c .before .before .before .before .args .i + 2), c .shared-slice-known4 .given (c .before .before .before .before .args .i + 1), c .shared-slice-known4 .given (c .before .before .before .before .args .i)))  -- add-result-3
-    (λ c. (refl, omega (arith, c .shared-slice-known4 .given (c .before .before .before .before .args .i + 3), c .shared-slice-known4 .given (c .before .before .before .before .args .i + 2), c .shared-slice-known4 .given (c .before .before .before .before .args .i + 1), c .shared-slice-known4 .given (c .before .before .before .before .args .i)))))  -- returns
+    (λ c.
+    let args = c .before .before .before .before .args in
+    omega (arith, c .shared-slice-known4 .given (args .i + 3), c .shared-slice-known4 .given (args .i + 2)))  -- add-result
+    (λ c.
+    let args = c .before .before .before .before .args in
+    omega (arith, c .shared-slice-known4 .given (args .i + 3), c .shared-slice-known4 .given (args .i + 2)))  -- mul-result-2
+    (λ c.
+    let args = c .before .before .before .before .args in
+    omega (arith, c .shared-slice-known4 .given (args .i + 3), c .shared-slice-known4 .given (args .i + 2), c .shared-slice-known4 .given (args .i + 1)))  -- add-result-2
+    (λ c.
+    let args = c .before .before .before .before .args in
+    omega (arith, c .shared-slice-known4 .given (args .i + 3), c .shared-slice-known4 .given (args .i + 2), c .shared-slice-known4 .given (args .i + 1)))  -- mul-result-3
+    (λ c.
+    let args = c .before .before .before .before .args in
+    omega (
+      arith,
+      c .shared-slice-known4 .given (args .i + 3),
+      c .shared-slice-known4 .given (args .i + 2),
+      c .shared-slice-known4 .given (args .i + 1),
+      c .shared-slice-known4 .given (args .i),
+    ))  -- add-result-3
+    (λ c.
+    let args = c .before .before .before .before .args in (
+      refl,
+      omega (
+        arith,
+        c .shared-slice-known4 .given (args .i + 3),
+        c .shared-slice-known4 .given (args .i + 2),
+        c .shared-slice-known4 .given (args .i + 1),
+        c .shared-slice-known4 .given (args .i),
+      ),
+    )))  -- returns

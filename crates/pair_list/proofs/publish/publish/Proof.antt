@@ -15,4 +15,7 @@ publish-spec =
     (λ c. search needs)  -- same-length
     (λ c. search needs)  -- same-length-2
     (λ c. search needs)  -- same-length-3
-    (λ c. (c .before .before .before .before .before .before .before .before .before .before .copy-front .ensures, c .before .before .before .before .before .before .copy-front2 .ensures, c .before .before .write-pairs .ensures)))  -- returns
+    (λ c.
+    let at-copy-front2 = c .before .before .before .before .before .before in
+    let at-copy-front = at-copy-front2 .before .before .before .before in
+    (at-copy-front .copy-front .ensures, at-copy-front2 .copy-front2 .ensures, c .before .before .write-pairs .ensures)))  -- returns

@@ -38,9 +38,13 @@ loop-less c = omega arith
 
 loop-again : tie.Need-loop-again Inv-loop μ-loop
 loop-again c =
+    let pack = c .before .before .pack in
     let a = c .before .before .before .before .args in
-    let l = c .before .loop in
-    (omega arith, length-set (l .tree) (a .n + l .i) (c .before .before .pack .result) ∙ l .inv .1, put-more (a .tree .now) (l .tree) (a .n) (l .i) (c .before .before .pack .result) (l .inv .2) (omega arith) (c .before .before .pack .ensures))
+    let l = c .before .loop in (
+      omega arith,
+      length-set (l .tree) (a .n + l .i) (pack .result) ∙ l .inv .1,
+      put-more (a .tree .now) (l .tree) (a .n) (l .i) (pack .result) (l .inv .2) (omega arith) (pack .ensures),
+    )
 
 same-length : tie.Need-same-length Inv-loop μ-loop
 same-length c = c .before .loop .inv .1

@@ -22,12 +22,18 @@ kind-mark c = ⊎-elim (λ w. inl (w .0 .taken, w .1)) (λ w. inr (omega arith, 
 
 -- the mark is a byte of the query
 marked : (c : tie.Else2) → c .before .before .before .run-end .result < length (c .before .before .before .before .before .before .args .q .now)
-marked c = getD-within (c .before .before .before .before .before .before .args .q .now) (c .before .before .before .run-end .result) (c .before .before .if1 .mark) (sym (c .before .peek .ensures) ∙ c .if2 .left) (⊎-elim (λ w. omega arith) (λ w. omega arith) (c .before .before .if1 .came))
+marked c =
+    let at-if1 = c .before .before in
+    let entry = at-if1 .before .before .before .before in
+    getD-within (entry .args .q .now) (c .before .before .before .run-end .result) (at-if1 .if1 .mark) (sym (c .before .peek .ensures) ∙ c .if2 .left)
+    (⊎-elim (λ w. omega arith) (λ w. omega arith) (at-if1 .if1 .came))
 
 returns : tie.Need-returns
 returns c =
+    let run-end = c .before .before .before .run-end in
     let a = c .before .before .before .before .before .before .args in
-    label-refused (a .q .now) (a .tree .now) (a .at) (a .n) (a .kind) (c .before .before .if1 .mark) (c .before .before .before .run-end .result) (c .before .before .before .run-end .ensures) (kind-mark (c .before .before)) (λ w. c .if2 .taken (c .before .peek .ensures ∙ w))
+    label-refused (a .q .now) (a .tree .now) (a .at) (a .n) (a .kind) (c .before .before .if1 .mark) (run-end .result) (run-end .ensures) (kind-mark (c .before .before))
+    (λ w. c .if2 .taken (c .before .peek .ensures ∙ w))
 
 sub-pack : tie.Need-sub-pack
 sub-pack c = search needs
@@ -52,8 +58,11 @@ same-length c = search needs
 
 returns-2 : tie.Need-returns-2
 returns-2 c =
+    let at-run-end = c .before .before .before .before in
     let a = c .before .before .before .before .before .before .before .args in
-    label-stored (a .q .now) (a .tree .now) (a .at) (a .n) (a .kind) (c .before .before .before .if1 .mark) (c .before .before .before .before .run-end .result) (c .before .before .before .before .run-end .ensures) (c .pack .result) (c .before .before .before .before .before .before .before .pre .0) (kind-mark (c .before .before .before)) (sym (c .before .before .peek .ensures) ∙ c .before .if2 .left) (c .pack .ensures)
+    let entry = at-run-end .before .before .before in
+    label-stored (a .q .now) (a .tree .now) (a .at) (a .n) (a .kind) (c .before .before .before .if1 .mark) (at-run-end .run-end .result) (at-run-end .run-end .ensures)
+    (c .pack .result) (entry .pre .0) (kind-mark (c .before .before .before)) (sym (c .before .before .peek .ensures) ∙ c .before .if2 .left) (c .pack .ensures)
 
 pub read-label-spec : {M : Type 1} → statement M
 read-label-spec =

@@ -21,13 +21,16 @@ run-within c = let a = c .before .before .before .args in omega (arith, run-le (
 
 returns : tie.Need-returns
 returns c =
+    let pre = c .before .before .before .before .pre in
     let a = c .before .before .before .before .args in
-    name-short (a .q .now) (a .tree .now) (a .at) (a .n) (c .before .run-end .result) (c .before .run-end .ensures) (c .before .before .before .before .pre .within) (c .if1 .taken)
+    name-short (a .q .now) (a .tree .now) (a .at) (a .n) (c .before .run-end .result) (c .before .run-end .ensures) (pre .within) (c .if1 .taken)
 
 returns-2 : tie.Need-returns-2
 returns-2 c =
+    let at-run-end = c .before .before in
+    let entry = at-run-end .before .before .before in
     let a = c .before .before .before .before .before .args in
-    name-long (a .q .now) (a .tree .now) (a .at) (a .n) (c .before .before .run-end .result) (c .before .before .run-end .ensures) (c .before .before .before .before .before .pre .within) (c .if2 .taken)
+    name-long (a .q .now) (a .tree .now) (a .at) (a .n) (at-run-end .run-end .result) (at-run-end .run-end .ensures) (entry .pre .within) (c .if2 .taken)
 
 pack-requires : tie.Need-pack-requires
 pack-requires c κs = let h = run-within (c .before .before) in omega arith
@@ -46,8 +49,11 @@ same-length c = search needs
 
 returns-3 : tie.Need-returns-3
 returns-3 c =
+    let at-run-end = c .before .before .before in
+    let entry = at-run-end .before .before .before in
     let a = c .before .before .before .before .before .before .args in
-    name-stored (a .q .now) (a .tree .now) (a .at) (a .n) (c .before .before .before .run-end .result) (c .before .before .before .run-end .ensures) (c .pack .result) (c .before .before .before .before .before .before .pre) (c .before .before .if1 .left) (c .before .if2 .left) (c .pack .ensures)
+    name-stored (a .q .now) (a .tree .now) (a .at) (a .n) (at-run-end .run-end .result) (at-run-end .run-end .ensures) (c .pack .result) (entry .pre)
+    (c .before .before .if1 .left) (c .before .if2 .left) (c .pack .ensures)
 
 pub read-name-spec : {M : Type 1} → statement M
 read-name-spec =

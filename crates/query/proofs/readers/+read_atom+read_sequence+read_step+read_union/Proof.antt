@@ -12,7 +12,31 @@ use Rattle.grammar.proofs.Bytes.{getD-within, run-le}
 use Rattle.meaning.specs.Query.{nested}
 use Rattle.query.specs.Reading.{class}
 use Rattle.query.specs.Tree.{h-sequence, h-union}
-use Rattle.query.proofs.PartLaws.{is-stored, since, Sequences, Steps, union-refused, union-start, sequence-refused, sequence-start, partly-refused, partly-more, partly-done, step-refused, step-read, no-round, no-square, stay-read, leaf-read, inside-refused, not-closed, group-read, test-read, atom-round, atom-square}
+use Rattle.query.proofs.PartLaws.{
+  is-stored,
+  since,
+  Sequences,
+  Steps,
+  union-refused,
+  union-start,
+  sequence-refused,
+  sequence-start,
+  partly-refused,
+  partly-more,
+  partly-done,
+  step-refused,
+  step-read,
+  no-round,
+  no-square,
+  stay-read,
+  leaf-read,
+  inside-refused,
+  not-closed,
+  group-read,
+  test-read,
+  atom-round,
+  atom-square,
+}
 use Prim.Native.Nat.{ℕ, _<_}
 use borrow.Fn.Kinds.{In}
 use borrow.Fn.PlainCycle.{Measures, is, falls, and}
@@ -111,100 +135,170 @@ pub +read-atom+read-sequence+read-step+read-union-spec : {M : Type 1} → statem
     (λ c κs. search needs)  -- read-atom-peek-requires
     (λ c. no-round (c .before .before .before .before .before .args .left) (c .before .before .peek .ensures) (c .before .if1 .taken) (c .if2 .taken))  -- read-atom-returns
     (λ c.
-    let w = getD-within (c .before .before .before .before .before .args .q .now) (c .before .before .before .before .before .args .at) 40 (sym (c .before .before .peek .ensures) ∙ c .before .if1 .taken) (lit< tt) in
+    let w = getD-within (c .before .before .before .before .before .args .q .now) (c .before .before .before .before .before .args .at) 40
+    (sym (c .before .before .peek .ensures) ∙ c .before .if1 .taken) (lit< tt) in
     omega arith)  -- read-atom-add-peek
     (λ c κs. search needs)  -- read-atom-peek-requires-2
     (λ c κs. search needs)  -- read-atom-pack-requires
     (λ c. search needs)  -- read-atom-mul-tree
     (λ c.
-    let w = getD-within (c .before .before .before .before .before .before .before .before .args .q .now) (c .before .before .before .before .before .before .before .before .args .at) 40 (sym (c .before .before .before .before .before .peek .ensures) ∙ c .before .before .before .before .if1 .taken) (lit< tt) in
+    let w = getD-within (c .before .before .before .before .before .before .before .before .args .q .now) (c .before .before .before .before .before .before .before .before .args .at) 40
+    (sym (c .before .before .before .before .before .peek .ensures) ∙ c .before .before .before .before .if1 .taken) (lit< tt) in
     omega arith)  -- read-atom-slice-write-tree
     (λ c.
-    let w = getD-within (c .before .before .before .before .before .before .before .before .args .q .now) (c .before .before .before .before .before .before .before .before .args .at) 40 (sym (c .before .before .before .before .before .peek .ensures) ∙ c .before .before .before .before .if1 .taken) (lit< tt) in
+    let w = getD-within (c .before .before .before .before .before .before .before .before .args .q .now) (c .before .before .before .before .before .before .before .before .args .at) 40
+    (sym (c .before .before .before .before .before .peek .ensures) ∙ c .before .before .before .before .if1 .taken) (lit< tt) in
     omega arith)  -- read-atom-add-t18
     (λ c.
-    let w = getD-within (c .before .before .before .before .before .before .before .before .args .q .now) (c .before .before .before .before .before .before .before .before .args .at) 40 (sym (c .before .before .before .before .before .peek .ensures) ∙ c .before .before .before .before .if1 .taken) (lit< tt) in
+    let w = getD-within (c .before .before .before .before .before .before .before .before .args .q .now) (c .before .before .before .before .before .before .before .before .args .at) 40
+    (sym (c .before .before .before .before .before .peek .ensures) ∙ c .before .before .before .before .if1 .taken) (lit< tt) in
     omega arith)  -- read-atom-add-t20
     (λ c. search needs)  -- read-atom-same-length
-    (λ c. stay-read (c .before .before .before .before .before .before .before .before .args .left) (c .before .before .before .before .before .before .before .before .pre .1) (sym (c .before .before .before .before .before .peek .ensures) ∙ c .before .before .before .before .if1 .taken) (c .before .before .before .if2 .left) (sym (c .before .before .peek2 .ensures) ∙ c .before .if3 .taken) (c .pack .ensures))  -- read-atom-returns-2
     (λ c.
-    let w = getD-within (c .before .before .before .before .before .before .before .args .q .now) (c .before .before .before .before .before .before .before .args .at) 40 (sym (c .before .before .before .before .peek .ensures) ∙ c .before .before .before .if1 .taken) (lit< tt) in
+    let at-if1 = c .before .before .before .before in
+    let at-peek = at-if1 .before in
+    let entry = at-peek .before .before .before in
+    stay-read (entry .args .left) (entry .pre .1) (sym (at-peek .peek .ensures) ∙ at-if1 .if1 .taken) (c .before .before .before .if2 .left)
+    (sym (c .before .before .peek2 .ensures) ∙ c .before .if3 .taken) (c .pack .ensures))  -- read-atom-returns-2
+    (λ c.
+    let w = getD-within (c .before .before .before .before .before .before .before .args .q .now) (c .before .before .before .before .before .before .before .args .at) 40
+    (sym (c .before .before .before .before .peek .ensures) ∙ c .before .before .before .if1 .taken) (lit< tt) in
     omega arith)  -- read-atom-add-read-union
     (λ c.
     let h = c .before .before .if2 .left in
     omega arith)  -- read-atom-sub-read-union
     (λ c κs.
-    let w = getD-within (c .before .before .before .before .before .before .before .before .args .q .now) (c .before .before .before .before .before .before .before .before .args .at) 40 (sym (c .before .before .before .before .before .peek .ensures) ∙ c .before .before .before .before .if1 .taken) (lit< tt) in
+    let w = getD-within (c .before .before .before .before .before .before .before .before .args .q .now) (c .before .before .before .before .before .before .before .before .args .at) 40
+    (sym (c .before .before .before .before .before .peek .ensures) ∙ c .before .before .before .before .if1 .taken) (lit< tt) in
     omega arith)  -- read-atom-read-union-requires
     (λ c. search needs)  -- read-atom-same-length-2
     (λ c.
+    let at-if3 = c .before .before .before .before .before in
+    let at-peek2 = at-if3 .before in
+    let at-if2 = at-peek2 .before in
+    let at-if1 = at-if2 .before in
+    let at-peek = at-if1 .before in
     let args = c .before .before .before .before .before .before .before .before .before .before .before .before .args in
     let inner = c .before .before .before .read-union in
-    inside-refused (args .at) (args .left) (λ e. e) (lit< tt) (inner .ensures) (c .before .before .before .before .before .before .before .if2 .left) (λ o. atom-round (args .q .now) (args .at) (args .left) o (sym (c .before .before .before .before .before .before .before .before .before .peek .ensures) ∙ c .before .before .before .before .before .before .before .before .if1 .taken) (c .before .before .before .before .before .before .before .if2 .left) (λ w. c .before .before .before .before .before .if3 .left (c .before .before .before .before .before .before .peek2 .ensures ∙ w))) (not-true (inner .result .0) (c .if4 .taken)))  -- read-atom-returns-3
+    inside-refused (args .at) (args .left) (λ e. e) (lit< tt) (inner .ensures) (at-if2 .if2 .left)
+    (λ o. atom-round (args .q .now) (args .at) (args .left) o (sym (at-peek .peek .ensures) ∙ at-if1 .if1 .taken) (at-if2 .if2 .left)
+    (λ w. at-if3 .if3 .left (at-peek2 .peek2 .ensures ∙ w))) (not-true (inner .result .0) (c .if4 .taken)))  -- read-atom-returns-3
     (λ c κs. search needs)  -- read-atom-peek-requires-3
     (λ c. search needs)  -- read-atom-same-length-3
     (λ c.
+    let at-if3 = c .before .before .before .before .before .before .before in
+    let at-peek2 = at-if3 .before in
+    let at-if2 = at-peek2 .before in
+    let at-if1 = at-if2 .before in
+    let at-peek = at-if1 .before in
     let args = c .before .before .before .before .before .before .before .before .before .before .before .before .before .before .args in
     let inner = c .before .before .before .before .before .read-union in
-    not-closed (args .at) (args .left) (λ e. e) (lit< tt) (inner .ensures) (c .before .before .before .before .before .before .before .before .before .if2 .left) (λ o. atom-round (args .q .now) (args .at) (args .left) o (sym (c .before .before .before .before .before .before .before .before .before .before .before .peek .ensures) ∙ c .before .before .before .before .before .before .before .before .before .before .if1 .taken) (c .before .before .before .before .before .before .before .before .before .if2 .left) (λ w. c .before .before .before .before .before .before .before .if3 .left (c .before .before .before .before .before .before .before .before .peek2 .ensures ∙ w))) (not-false (inner .result .0) (c .before .before .if4 .left)) (λ w. c .if5 .taken (c .before .peek3 .ensures ∙ w)))  -- read-atom-returns-4
+    not-closed (args .at) (args .left) (λ e. e) (lit< tt) (inner .ensures) (at-if2 .if2 .left)
+    (λ o. atom-round (args .q .now) (args .at) (args .left) o (sym (at-peek .peek .ensures) ∙ at-if1 .if1 .taken) (at-if2 .if2 .left)
+    (λ w. at-if3 .if3 .left (at-peek2 .peek2 .ensures ∙ w))) (not-false (inner .result .0) (c .before .before .if4 .left))
+    (λ w. c .if5 .taken (c .before .peek3 .ensures ∙ w)))  -- read-atom-returns-4
     (λ c.
-    let b = is-stored (c .before .before .before .before .before .read-union .ensures) (not-false (c .before .before .before .before .before .read-union .result .0) (c .before .before .if4 .left)) in
+    let b = is-stored (c .before .before .before .before .before .read-union .ensures)
+    (not-false (c .before .before .before .before .before .read-union .result .0) (c .before .before .if4 .left)) in
     omega arith)  -- read-atom-add-t15
     (λ c. search needs)  -- read-atom-same-length-4
     (λ c.
+    let at-if3 = c .before .before .before .before .before .before .before in
     let args = c .before .before .before .before .before .before .before .before .before .before .before .before .before .before .args in
     let inner = c .before .before .before .before .before .read-union in
-    group-read (args .at) (args .left) (λ e. e) (lit< tt) (inner .ensures) (c .before .before .before .before .before .before .before .before .before .if2 .left) (λ o. atom-round (args .q .now) (args .at) (args .left) o (sym (c .before .before .before .before .before .before .before .before .before .before .before .peek .ensures) ∙ c .before .before .before .before .before .before .before .before .before .before .if1 .taken) (c .before .before .before .before .before .before .before .before .before .if2 .left) (λ w. c .before .before .before .before .before .before .before .if3 .left (c .before .before .before .before .before .before .before .before .peek2 .ensures ∙ w))) (not-false (inner .result .0) (c .before .before .if4 .left)) (sym (c .before .peek3 .ensures) ∙ c .if5 .left) (λ a. refl))  -- read-atom-returns-5
+    let at-peek2 = at-if3 .before in
+    let at-if2 = at-peek2 .before in
+    let at-if1 = at-if2 .before in
+    let at-peek = at-if1 .before in
+    group-read (args .at) (args .left) (λ e. e) (lit< tt) (inner .ensures) (at-if2 .if2 .left)
+    (λ o. atom-round (args .q .now) (args .at) (args .left) o (sym (at-peek .peek .ensures) ∙ at-if1 .if1 .taken) (at-if2 .if2 .left)
+    (λ w. at-if3 .if3 .left (at-peek2 .peek2 .ensures ∙ w))) (not-false (inner .result .0) (c .before .before .if4 .left)) (sym (c .before .peek3 .ensures) ∙ c .if5 .left)
+    (λ a. refl))  -- read-atom-returns-5
     (λ c. no-square (c .before .before .before .before .before .before .args .left) (c .before .before .before .peek .ensures) (c .before .if6 .taken) (c .if7 .taken))  -- read-atom-returns-6
     (λ c.
-    let w = getD-within (c .before .before .before .before .before .before .args .q .now) (c .before .before .before .before .before .before .args .at) 91 (sym (c .before .before .before .peek .ensures) ∙ c .before .if6 .taken) (lit< tt) in
+    let w = getD-within (c .before .before .before .before .before .before .args .q .now) (c .before .before .before .before .before .before .args .at) 91
+    (sym (c .before .before .before .peek .ensures) ∙ c .before .if6 .taken) (lit< tt) in
     omega arith)  -- read-atom-add-read-union-2
     (λ c.
     let h = c .if7 .left in
     omega arith)  -- read-atom-sub-read-union-2
     (λ c κs.
-    let w = getD-within (c .before .before .before .before .before .before .before .args .q .now) (c .before .before .before .before .before .before .before .args .at) 91 (sym (c .before .before .before .before .peek .ensures) ∙ c .before .before .if6 .taken) (lit< tt) in
+    let w = getD-within (c .before .before .before .before .before .before .before .args .q .now) (c .before .before .before .before .before .before .before .args .at) 91
+    (sym (c .before .before .before .before .peek .ensures) ∙ c .before .before .if6 .taken) (lit< tt) in
     omega arith)  -- read-atom-read-union-requires-2
     (λ c. search needs)  -- read-atom-same-length-5
     (λ c.
+    let at-if7 = c .before .before .before .before .before in
+    let at-if6 = at-if7 .before in
+    let at-peek = at-if6 .before .before in
     let args = c .before .before .before .before .before .before .before .before .before .before .before .args in
     let inner = c .before .before .before .read-union2 in
-    inside-refused (args .at) (args .left) nested (lit< tt) (inner .ensures) (c .before .before .before .before .before .if7 .left) (λ o. atom-square (args .q .now) (args .at) (args .left) o (sym (c .before .before .before .before .before .before .before .before .peek .ensures) ∙ c .before .before .before .before .before .before .if6 .taken) (c .before .before .before .before .before .if7 .left)) (not-true (inner .result .0) (c .if8 .taken)))  -- read-atom-returns-7
+    inside-refused (args .at) (args .left) nested (lit< tt) (inner .ensures) (at-if7 .if7 .left)
+    (λ o. atom-square (args .q .now) (args .at) (args .left) o (sym (at-peek .peek .ensures) ∙ at-if6 .if6 .taken) (at-if7 .if7 .left))
+    (not-true (inner .result .0) (c .if8 .taken)))  -- read-atom-returns-7
     (λ c κs. search needs)  -- read-atom-peek-requires-4
     (λ c. search needs)  -- read-atom-same-length-6
     (λ c.
+    let at-if7 = c .before .before .before .before .before .before .before in
+    let at-if6 = at-if7 .before in
+    let at-peek = at-if6 .before .before in
     let args = c .before .before .before .before .before .before .before .before .before .before .before .before .before .args in
     let inner = c .before .before .before .before .before .read-union2 in
-    not-closed (args .at) (args .left) nested (lit< tt) (inner .ensures) (c .before .before .before .before .before .before .before .if7 .left) (λ o. atom-square (args .q .now) (args .at) (args .left) o (sym (c .before .before .before .before .before .before .before .before .before .before .peek .ensures) ∙ c .before .before .before .before .before .before .before .before .if6 .taken) (c .before .before .before .before .before .before .before .if7 .left)) (not-false (inner .result .0) (c .before .before .if8 .left)) (λ w. c .if9 .taken (c .before .peek4 .ensures ∙ w)))  -- read-atom-returns-8
+    not-closed (args .at) (args .left) nested (lit< tt) (inner .ensures) (at-if7 .if7 .left)
+    (λ o. atom-square (args .q .now) (args .at) (args .left) o (sym (at-peek .peek .ensures) ∙ at-if6 .if6 .taken) (at-if7 .if7 .left))
+    (not-false (inner .result .0) (c .before .before .if8 .left)) (λ w. c .if9 .taken (c .before .peek4 .ensures ∙ w)))  -- read-atom-returns-8
     (λ c κs. search needs)  -- read-atom-pack-requires-2
     (λ c.
-    let b = is-stored (c .before .before .before .before .before .before .read-union2 .ensures) (not-false (c .before .before .before .before .before .before .read-union2 .result .0) (c .before .before .before .if8 .left)) in
-    let w₂ = getD-within (c .before .before .before .before .before .before .before .before .before .before .before .before .before .before .args .q .now) (c .before .before .before .before .before .before .read-union2 .result .1) 93 (sym (c .before .before .peek4 .ensures) ∙ c .before .if9 .left) (lit< tt) in
+    let b = is-stored (c .before .before .before .before .before .before .read-union2 .ensures)
+    (not-false (c .before .before .before .before .before .before .read-union2 .result .0) (c .before .before .before .if8 .left)) in
+    let w₂ = getD-within (c .before .before .before .before .before .before .before .before .before .before .before .before .before .before .args .q .now)
+    (c .before .before .before .before .before .before .read-union2 .result .1) 93 (sym (c .before .before .peek4 .ensures) ∙ c .before .if9 .left) (lit< tt) in
     omega arith)  -- read-atom-mul-tree-2
     (λ c.
-    let b = is-stored (c .before .before .before .before .before .before .read-union2 .ensures) (not-false (c .before .before .before .before .before .before .read-union2 .result .0) (c .before .before .before .if8 .left)) in
-    let w₂ = getD-within (c .before .before .before .before .before .before .before .before .before .before .before .before .before .before .args .q .now) (c .before .before .before .before .before .before .read-union2 .result .1) 93 (sym (c .before .before .peek4 .ensures) ∙ c .before .if9 .left) (lit< tt) in
+    let b = is-stored (c .before .before .before .before .before .before .read-union2 .ensures)
+    (not-false (c .before .before .before .before .before .before .read-union2 .result .0) (c .before .before .before .if8 .left)) in
+    let w₂ = getD-within (c .before .before .before .before .before .before .before .before .before .before .before .before .before .before .args .q .now)
+    (c .before .before .before .before .before .before .read-union2 .result .1) 93 (sym (c .before .before .peek4 .ensures) ∙ c .before .if9 .left) (lit< tt) in
     let s = c .before .before .before .before .before .before .read-union2 .kept .1 .1 .1 .0 in
     omega arith)  -- read-atom-slice-write-tree-2
     (λ c.
-    let b = is-stored (c .before .before .before .before .before .before .read-union2 .ensures) (not-false (c .before .before .before .before .before .before .read-union2 .result .0) (c .before .before .before .if8 .left)) in
-    let w₂ = getD-within (c .before .before .before .before .before .before .before .before .before .before .before .before .before .before .args .q .now) (c .before .before .before .before .before .before .read-union2 .result .1) 93 (sym (c .before .before .peek4 .ensures) ∙ c .before .if9 .left) (lit< tt) in
+    let b = is-stored (c .before .before .before .before .before .before .read-union2 .ensures)
+    (not-false (c .before .before .before .before .before .before .read-union2 .result .0) (c .before .before .before .if8 .left)) in
+    let w₂ = getD-within (c .before .before .before .before .before .before .before .before .before .before .before .before .before .before .args .q .now)
+    (c .before .before .before .before .before .before .read-union2 .result .1) 93 (sym (c .before .before .peek4 .ensures) ∙ c .before .if9 .left) (lit< tt) in
     omega arith)  -- read-atom-add-t27
     (λ c.
-    let b = is-stored (c .before .before .before .before .before .before .read-union2 .ensures) (not-false (c .before .before .before .before .before .before .read-union2 .result .0) (c .before .before .before .if8 .left)) in
-    let w₂ = getD-within (c .before .before .before .before .before .before .before .before .before .before .before .before .before .before .args .q .now) (c .before .before .before .before .before .before .read-union2 .result .1) 93 (sym (c .before .before .peek4 .ensures) ∙ c .before .if9 .left) (lit< tt) in
+    let b = is-stored (c .before .before .before .before .before .before .read-union2 .ensures)
+    (not-false (c .before .before .before .before .before .before .read-union2 .result .0) (c .before .before .before .if8 .left)) in
+    let w₂ = getD-within (c .before .before .before .before .before .before .before .before .before .before .before .before .before .before .args .q .now)
+    (c .before .before .before .before .before .before .read-union2 .result .1) 93 (sym (c .before .before .peek4 .ensures) ∙ c .before .if9 .left) (lit< tt) in
     omega arith)  -- read-atom-add-t26
     (λ c.
     let inner = c .before .before .before .before .before .before .read-union2 in
     length-set (inner .last .1 .1 .1 .0) (inner .result .2) (c .pack2 .result) ∙ inner .kept .1 .1 .1 .0)  -- read-atom-same-length-7
     (λ c.
-    let b = is-stored (c .before .before .before .before .before .before .read-union2 .ensures) (not-false (c .before .before .before .before .before .before .read-union2 .result .0) (c .before .before .before .if8 .left)) in
-    let w₂ = getD-within (c .before .before .before .before .before .before .before .before .before .before .before .before .before .before .args .q .now) (c .before .before .before .before .before .before .read-union2 .result .1) 93 (sym (c .before .before .peek4 .ensures) ∙ c .before .if9 .left) (lit< tt) in
-    let s = c .before .before .before .before .before .before .read-union2 .kept .1 .1 .1 .0 in
-    test-read (c .before .before .before .before .before .before .before .before .before .before .before .before .before .before .args .at) (c .before .before .before .before .before .before .before .before .before .before .before .before .before .before .args .left) nested (lit< tt) (c .before .before .before .before .before .before .read-union2 .ensures) (c .before .before .before .before .before .before .before .before .if7 .left) (λ o. atom-square (c .before .before .before .before .before .before .before .before .before .before .before .before .before .before .args .q .now) (c .before .before .before .before .before .before .before .before .before .before .before .before .before .before .args .at) (c .before .before .before .before .before .before .before .before .before .before .before .before .before .before .args .left) o (sym (c .before .before .before .before .before .before .before .before .before .before .before .peek .ensures) ∙ c .before .before .before .before .before .before .before .before .before .if6 .taken) (c .before .before .before .before .before .before .before .before .if7 .left)) (not-false (c .before .before .before .before .before .before .read-union2 .result .0) (c .before .before .before .if8 .left)) (sym (c .before .before .peek4 .ensures) ∙ c .before .if9 .left) (λ a. refl) (c .pack2 .result) (c .pack2 .ensures) (omega arith))  -- read-atom-returns-9
+    let at-peek4 = c .before .before in
+    let at-if8 = at-peek4 .before in
+    let at-read-union2 = at-if8 .before .before .before in
+    let at-if7 = at-read-union2 .before .before in
+    let at-if6 = at-if7 .before in
+    let at-peek = at-if6 .before .before in
+    let entry = at-peek .before .before .before in
+    let b = is-stored (at-read-union2 .read-union2 .ensures) (not-false (at-read-union2 .read-union2 .result .0) (at-if8 .if8 .left)) in
+    let w₂ = getD-within (entry .args .q .now) (at-read-union2 .read-union2 .result .1) 93 (sym (at-peek4 .peek4 .ensures) ∙ c .before .if9 .left) (lit< tt) in
+    let s = at-read-union2 .read-union2 .kept .1 .1 .1 .0 in
+    test-read (entry .args .at) (entry .args .left) nested (lit< tt) (at-read-union2 .read-union2 .ensures) (at-if7 .if7 .left)
+    (λ o. atom-square (entry .args .q .now) (entry .args .at) (entry .args .left) o (sym (at-peek .peek .ensures) ∙ at-if6 .if6 .taken) (at-if7 .if7 .left))
+    (not-false (at-read-union2 .read-union2 .result .0) (at-if8 .if8 .left)) (sym (at-peek4 .peek4 .ensures) ∙ c .before .if9 .left) (λ a. refl) (c .pack2 .result)
+    (c .pack2 .ensures) (omega arith))  -- read-atom-returns-9
     (λ c κs. search needs)  -- read-atom-read-leaf-requires
     (λ c. search needs)  -- read-atom-same-length-8
-    (λ c. leaf-read (c .before .before .before .before .before .before .before .before .before .args .left) (c .before .before .read-leaf .ensures) (c .before .before .before .before .before .before .peek .ensures) (c .before .before .before .before .before .if1 .left) (c .before .before .before .before .if6 .left)))  -- read-atom-returns-10
+    (λ c.
+    let at-if6 = c .before .before .before .before in
+    let at-if1 = at-if6 .before in
+    let at-peek = at-if1 .before in
+    let entry = at-peek .before .before .before in
+    leaf-read (entry .args .left) (c .before .before .read-leaf .ensures) (at-peek .peek .ensures) (at-if1 .if1 .left) (at-if6 .if6 .left)))  -- read-atom-returns-10
     (λ t. read-sequence-lts.spec (
       read-step-below t,
       read-step.Post,
@@ -231,41 +325,57 @@ pub +read-atom+read-sequence+read-step+read-union-spec : {M : Type 1} → statem
     let mv = p .moved in
     let pf = p .few in
     let ps = p .some in
-    let w = getD-within (c .before .before .before .before .before .before .before .before .before .before .args .q .now) (c .before .before .loop .end) 47 (sym (c .before .peek .ensures) ∙ c .if2 .taken) (lit< tt) in
+    let w = getD-within (c .before .before .before .before .before .before .before .before .before .before .args .q .now) (c .before .before .loop .end) 47
+    (sym (c .before .peek .ensures) ∙ c .if2 .taken) (lit< tt) in
     omega arith)  -- read-sequence-add-read-step
     (λ c κs.
     let p = c .before .before .before .loop .inv .1 in
     let mv = p .moved in
     let pf = p .few in
     let ps = p .some in
-    let w = getD-within (c .before .before .before .before .before .before .before .before .before .before .before .args .q .now) (c .before .before .before .loop .end) 47 (sym (c .before .before .peek .ensures) ∙ c .before .if2 .taken) (lit< tt) in
+    let w = getD-within (c .before .before .before .before .before .before .before .before .before .before .before .args .q .now) (c .before .before .before .loop .end) 47
+    (sym (c .before .before .peek .ensures) ∙ c .before .if2 .taken) (lit< tt) in
     let l₁ = c .before .before .before .loop .inv .0 in
     let l₂ = c .before .before .before .before .before .before .before .read-step .kept .1 .1 .1 .0 in
     omega arith)  -- read-sequence-read-step-requires-2
-    (λ c. c .before .before .before .read-step2 .kept .1 .1 .1 .0 ∙ c .before .before .before .before .before .before .before .loop .inv .0 ∙ c .before .before .before .before .before .before .before .before .before .before .before .read-step .kept .1 .1 .1 .0)  -- read-sequence-same-length-2
     (λ c.
+    let at-loop = c .before .before .before .before .before .before .before in
+    let at-read-step = at-loop .before .before .before .before in
+    c .before .before .before .read-step2 .kept .1 .1 .1 .0 ∙ at-loop .loop .inv .0 ∙ at-read-step .read-step .kept .1 .1 .1 .0)  -- read-sequence-same-length-2
+    (λ c.
+    let at-if2 = c .before .before .before .before .before in
     let two = c .before .before .before .read-step2 in
-    since (c .before .before .before .before .before .before .before .before .before .before .before .read-step .ensures .kept) (partly-refused (c .before .before .before .before .before .before .before .loop .inv .1) (lit< tt) (sym (c .before .before .before .before .before .before .peek .ensures) ∙ c .before .before .before .before .before .if2 .taken) (two .ensures) (not-true (two .result .0) (c .if3 .taken))))  -- read-sequence-returns-2
+    let at-peek = at-if2 .before in
+    let at-loop = at-peek .before in
+    let at-read-step = at-loop .before .before .before .before in
+    since (at-read-step .read-step .ensures .kept) (partly-refused (at-loop .loop .inv .1) (lit< tt) (sym (at-peek .peek .ensures) ∙ at-if2 .if2 .taken) (two .ensures)
+    (not-true (two .result .0) (c .if3 .taken))))  -- read-sequence-returns-2
     (λ c.
     let p = c .before .before .before .before .before .before .before .loop .inv .1 in
     let mv = p .moved in
     let pf = p .few in
     let ps = p .some in
-    let w = getD-within (c .before .before .before .before .before .before .before .before .before .before .before .before .before .before .before .args .q .now) (c .before .before .before .before .before .before .before .loop .end) 47 (sym (c .before .before .before .before .before .before .peek .ensures) ∙ c .before .before .before .before .before .if2 .taken) (lit< tt) in
+    let w = getD-within (c .before .before .before .before .before .before .before .before .before .before .before .before .before .before .before .args .q .now)
+    (c .before .before .before .before .before .before .before .loop .end) 47
+    (sym (c .before .before .before .before .before .before .peek .ensures) ∙ c .before .before .before .before .before .if2 .taken) (lit< tt) in
     omega arith)  -- read-sequence-sub-pack
     (λ c κs.
     let p = c .before .before .before .before .before .before .before .loop .inv .1 in
     let mv = p .moved in
     let pf = p .few in
     let ps = p .some in
-    let w = getD-within (c .before .before .before .before .before .before .before .before .before .before .before .before .before .before .before .args .q .now) (c .before .before .before .before .before .before .before .loop .end) 47 (sym (c .before .before .before .before .before .before .peek .ensures) ∙ c .before .before .before .before .before .if2 .taken) (lit< tt) in
+    let w = getD-within (c .before .before .before .before .before .before .before .before .before .before .before .before .before .before .before .args .q .now)
+    (c .before .before .before .before .before .before .before .loop .end) 47
+    (sym (c .before .before .before .before .before .before .peek .ensures) ∙ c .before .before .before .before .before .if2 .taken) (lit< tt) in
     omega arith)  -- read-sequence-pack-requires
     (λ c.
     let p = c .before .before .before .before .before .before .before .before .loop .inv .1 in
     let mv = p .moved in
     let pf = p .few in
     let ps = p .some in
-    let w = getD-within (c .before .before .before .before .before .before .before .before .before .before .before .before .before .before .before .before .args .q .now) (c .before .before .before .before .before .before .before .before .loop .end) 47 (sym (c .before .before .before .before .before .before .before .peek .ensures) ∙ c .before .before .before .before .before .before .if2 .taken) (lit< tt) in
+    let w = getD-within (c .before .before .before .before .before .before .before .before .before .before .before .before .before .before .before .before .args .q .now)
+    (c .before .before .before .before .before .before .before .before .loop .end) 47
+    (sym (c .before .before .before .before .before .before .before .peek .ensures) ∙ c .before .before .before .before .before .before .if2 .taken) (lit< tt) in
     let b = is-stored (c .before .before .before .before .read-step2 .ensures) (not-false (c .before .before .before .before .read-step2 .result .0) (c .before .if3 .left)) in
     omega arith)  -- read-sequence-mul-tree
     (λ c.
@@ -273,7 +383,9 @@ pub +read-atom+read-sequence+read-step+read-union-spec : {M : Type 1} → statem
     let mv = p .moved in
     let pf = p .few in
     let ps = p .some in
-    let w = getD-within (c .before .before .before .before .before .before .before .before .before .before .before .before .before .before .before .before .args .q .now) (c .before .before .before .before .before .before .before .before .loop .end) 47 (sym (c .before .before .before .before .before .before .before .peek .ensures) ∙ c .before .before .before .before .before .before .if2 .taken) (lit< tt) in
+    let w = getD-within (c .before .before .before .before .before .before .before .before .before .before .before .before .before .before .before .before .args .q .now)
+    (c .before .before .before .before .before .before .before .before .loop .end) 47
+    (sym (c .before .before .before .before .before .before .before .peek .ensures) ∙ c .before .before .before .before .before .before .if2 .taken) (lit< tt) in
     let b = is-stored (c .before .before .before .before .read-step2 .ensures) (not-false (c .before .before .before .before .read-step2 .result .0) (c .before .if3 .left)) in
     let l = c .before .before .before .before .read-step2 .kept .1 .1 .1 .0 in
     let l₁ = c .before .before .before .before .before .before .before .before .loop .inv .0 in
@@ -284,7 +396,9 @@ pub +read-atom+read-sequence+read-step+read-union-spec : {M : Type 1} → statem
     let mv = p .moved in
     let pf = p .few in
     let ps = p .some in
-    let w = getD-within (c .before .before .before .before .before .before .before .before .before .before .before .before .before .before .before .before .args .q .now) (c .before .before .before .before .before .before .before .before .loop .end) 47 (sym (c .before .before .before .before .before .before .before .peek .ensures) ∙ c .before .before .before .before .before .before .if2 .taken) (lit< tt) in
+    let w = getD-within (c .before .before .before .before .before .before .before .before .before .before .before .before .before .before .before .before .args .q .now)
+    (c .before .before .before .before .before .before .before .before .loop .end) 47
+    (sym (c .before .before .before .before .before .before .before .peek .ensures) ∙ c .before .before .before .before .before .before .if2 .taken) (lit< tt) in
     let b = is-stored (c .before .before .before .before .read-step2 .ensures) (not-false (c .before .before .before .before .read-step2 .result .0) (c .before .if3 .left)) in
     omega arith)  -- read-sequence-add-m
     (λ c.
@@ -292,24 +406,36 @@ pub +read-atom+read-sequence+read-step+read-union-spec : {M : Type 1} → statem
     let mv = p .moved in
     let pf = p .few in
     let ps = p .some in
-    let w = getD-within (c .before .before .before .before .before .before .before .before .before .before .before .before .before .before .before .before .args .q .now) (c .before .before .before .before .before .before .before .before .loop .end) 47 (sym (c .before .before .before .before .before .before .before .peek .ensures) ∙ c .before .before .before .before .before .before .if2 .taken) (lit< tt) in
+    let w = getD-within (c .before .before .before .before .before .before .before .before .before .before .before .before .before .before .before .before .args .q .now)
+    (c .before .before .before .before .before .before .before .before .loop .end) 47
+    (sym (c .before .before .before .before .before .before .before .peek .ensures) ∙ c .before .before .before .before .before .before .if2 .taken) (lit< tt) in
     let b = is-stored (c .before .before .before .before .read-step2 .ensures) (not-false (c .before .before .before .before .read-step2 .result .0) (c .before .if3 .left)) in
     omega arith)  -- read-sequence-loop-less
     (λ c.
-    let p = c .before .before .before .before .before .before .before .before .loop .inv .1 in
+    let at-read-step2 = c .before .before .before .before in
+    let at-if2 = at-read-step2 .before .before in
+    let at-peek = at-if2 .before in
+    let at-loop = at-peek .before in
+    let at-read-step = at-loop .before .before .before .before in
+    let entry = at-read-step .before .before .before .before in
+    let p = at-loop .loop .inv .1 in
     let mv = p .moved in
     let pf = p .few in
     let ps = p .some in
-    let w = getD-within (c .before .before .before .before .before .before .before .before .before .before .before .before .before .before .before .before .args .q .now) (c .before .before .before .before .before .before .before .before .loop .end) 47 (sym (c .before .before .before .before .before .before .before .peek .ensures) ∙ c .before .before .before .before .before .before .if2 .taken) (lit< tt) in
-    let b = is-stored (c .before .before .before .before .read-step2 .ensures) (not-false (c .before .before .before .before .read-step2 .result .0) (c .before .if3 .left)) in
-    let l = c .before .before .before .before .read-step2 .kept .1 .1 .1 .0 in
-    let l₁ = c .before .before .before .before .before .before .before .before .loop .inv .0 in
-    let l₂ = c .before .before .before .before .before .before .before .before .before .before .before .before .read-step .kept .1 .1 .1 .0 in (
-      length-set (c .before .before .before .before .read-step2 .last .1 .1 .1 .0) (c .before .before .before .before .read-step2 .result .2) (c .pack .result) ∙ c .before .before .before .before .read-step2 .kept .1 .1 .1 .0 ∙ c .before .before .before .before .before .before .before .before .loop .inv .0,
-      partly-more (c .before .before .before .before .before .before .before .before .loop .inv .1) (lit< tt) (sym (c .before .before .before .before .before .before .before .peek .ensures) ∙ c .before .before .before .before .before .before .if2 .taken) (c .before .before .before .before .read-step2 .ensures) (not-false (c .before .before .before .before .read-step2 .result .0) (c .before .if3 .left)) 7 (c .pack .ensures) (omega arith) (λ t a b x y z. h-sequence x y z),
+    let w = getD-within (entry .args .q .now) (at-loop .loop .end) 47 (sym (at-peek .peek .ensures) ∙ at-if2 .if2 .taken) (lit< tt) in
+    let b = is-stored (at-read-step2 .read-step2 .ensures) (not-false (at-read-step2 .read-step2 .result .0) (c .before .if3 .left)) in
+    let l = at-read-step2 .read-step2 .kept .1 .1 .1 .0 in
+    let l₁ = at-loop .loop .inv .0 in
+    let l₂ = at-read-step .read-step .kept .1 .1 .1 .0 in (
+      length-set (at-read-step2 .read-step2 .last .1 .1 .1 .0) (at-read-step2 .read-step2 .result .2) (c .pack .result) ∙ at-read-step2 .read-step2 .kept .1 .1 .1 .0
+          ∙ at-loop .loop .inv .0,
+      partly-more (at-loop .loop .inv .1) (lit< tt) (sym (at-peek .peek .ensures) ∙ at-if2 .if2 .taken) (at-read-step2 .read-step2 .ensures)
+          (not-false (at-read-step2 .read-step2 .result .0) (c .before .if3 .left)) 7 (c .pack .ensures) (omega arith) (λ t a b x y z. h-sequence x y z),
     ))  -- read-sequence-loop-again
     (λ c. c .before .before .loop .inv .0 ∙ c .before .before .before .before .before .before .read-step .kept .1 .1 .1 .0)  -- read-sequence-same-length-3
-    (λ c. since (c .before .before .before .before .before .before .read-step .ensures .kept) (partly-done (c .before .before .loop .inv .1) (λ w. c .if2 .left (c .before .peek .ensures ∙ w)))))  -- read-sequence-returns-3
+    (λ c.
+    let read-step = c .before .before .before .before .before .before .read-step in
+    since (read-step .ensures .kept) (partly-done (c .before .before .loop .inv .1) (λ w. c .if2 .left (c .before .peek .ensures ∙ w)))))  -- read-sequence-returns-3
     (λ t. read-step-lts.spec (
       read-atom-below t,
       read-atom.Post,
@@ -330,22 +456,30 @@ pub +read-atom+read-sequence+read-step+read-union-spec : {M : Type 1} → statem
     omega arith)  -- read-step-run-end-requires
     (λ c. omega arith)  -- read-step-sub-k
     (λ c κs.
-    let b = is-stored (c .before .before .before .before .before .read-atom .ensures) (not-false (c .before .before .before .before .before .read-atom .result .0) (c .before .before .if1 .left)) in
-    let rl = run-le (class 6) (drop (c .before .before .before .before .before .read-atom .result .1) (c .before .before .before .before .before .before .before .before .before .args .q .now)) in
-    let dl = length-drop (c .before .before .before .before .before .read-atom .result .1) (c .before .before .before .before .before .before .before .before .before .args .q .now) in
+    let now = c .before .before .before .before .before .before .before .before .before .args .q .now in
+    let part = c .before .before .before .before .before .read-atom .result .1 in
+    let b = is-stored (c .before .before .before .before .before .read-atom .ensures)
+    (not-false (c .before .before .before .before .before .read-atom .result .0) (c .before .before .if1 .left)) in
+    let rl = run-le (class 6) (drop (part) (now)) in
+    let dl = length-drop (part) (now) in
     let s = c .before .before .before .before .before .read-atom .kept .1 .1 .1 .0 in
     omega arith)  -- read-step-put-stars-requires
     (λ c.
-    let b = is-stored (c .before .before .before .before .before .before .before .before .read-atom .ensures) (not-false (c .before .before .before .before .before .before .before .before .read-atom .result .0) (c .before .before .before .before .before .if1 .left)) in
-    let rl = run-le (class 6) (drop (c .before .before .before .before .before .before .before .before .read-atom .result .1) (c .before .before .before .before .before .before .before .before .before .before .before .before .args .q .now)) in
-    let dl = length-drop (c .before .before .before .before .before .before .before .before .read-atom .result .1) (c .before .before .before .before .before .before .before .before .before .before .before .before .args .q .now) in
+    let now = c .before .before .before .before .before .before .before .before .before .before .before .before .args .q .now in
+    let part = c .before .before .before .before .before .before .before .before .read-atom .result .1 in
+    let b = is-stored (c .before .before .before .before .before .before .before .before .read-atom .ensures)
+    (not-false (c .before .before .before .before .before .before .before .before .read-atom .result .0) (c .before .before .before .before .before .if1 .left)) in
+    let rl = run-le (class 6) (drop (part) (now)) in
+    let dl = length-drop (part) (now) in
     omega arith)  -- read-step-add-t18
     (λ c. c .before .before .put-stars .kept .0 ∙ c .before .before .before .before .before .before .before .before .read-atom .kept .1 .1 .1 .0)  -- read-step-same-length-2
     (λ c.
+    let at-if1 = c .before .before .before .before .before in
+    let entry = at-if1 .before .before .before .before .before .before .before in
     let one = c .before .before .before .before .before .before .before .before .read-atom in
     let ran = c .before .before .before .before .run-end in
     let put = c .before .before .put-stars in
-    step-read (c .before .before .before .before .before .before .before .before .before .before .before .before .args .left) (one .ensures) (not-false (one .result .0) (c .before .before .before .before .before .if1 .left)) (ran .result) (ran .ensures) (put .last .0) (put .ensures)))  -- read-step-returns-2
+    step-read (entry .args .left) (one .ensures) (not-false (one .result .0) (at-if1 .if1 .left)) (ran .result) (ran .ensures) (put .last .0) (put .ensures)))  -- read-step-returns-2
     λ t. read-union-lts.spec (
       read-sequence-below t,
       read-sequence.Post,
@@ -372,41 +506,57 @@ pub +read-atom+read-sequence+read-step+read-union-spec : {M : Type 1} → statem
     let mv = p .moved in
     let pf = p .few in
     let ps = p .some in
-    let w = getD-within (c .before .before .before .before .before .before .before .before .before .before .args .q .now) (c .before .before .loop .end) 124 (sym (c .before .peek .ensures) ∙ c .if2 .taken) (lit< tt) in
+    let w = getD-within (c .before .before .before .before .before .before .before .before .before .before .args .q .now) (c .before .before .loop .end) 124
+    (sym (c .before .peek .ensures) ∙ c .if2 .taken) (lit< tt) in
     omega arith)  -- read-union-add-read-sequence
     (λ c κs.
     let p = c .before .before .before .loop .inv .1 in
     let mv = p .moved in
     let pf = p .few in
     let ps = p .some in
-    let w = getD-within (c .before .before .before .before .before .before .before .before .before .before .before .args .q .now) (c .before .before .before .loop .end) 124 (sym (c .before .before .peek .ensures) ∙ c .before .if2 .taken) (lit< tt) in
+    let w = getD-within (c .before .before .before .before .before .before .before .before .before .before .before .args .q .now) (c .before .before .before .loop .end) 124
+    (sym (c .before .before .peek .ensures) ∙ c .before .if2 .taken) (lit< tt) in
     let l₁ = c .before .before .before .loop .inv .0 in
     let l₂ = c .before .before .before .before .before .before .before .read-sequence .kept .1 .1 .1 .0 in
     omega arith)  -- read-union-read-sequence-requires-2
-    (λ c. c .before .before .before .read-sequence2 .kept .1 .1 .1 .0 ∙ c .before .before .before .before .before .before .before .loop .inv .0 ∙ c .before .before .before .before .before .before .before .before .before .before .before .read-sequence .kept .1 .1 .1 .0)  -- read-union-same-length-2
     (λ c.
+    let at-loop = c .before .before .before .before .before .before .before in
+    let at-read-sequence = at-loop .before .before .before .before in
+    c .before .before .before .read-sequence2 .kept .1 .1 .1 .0 ∙ at-loop .loop .inv .0 ∙ at-read-sequence .read-sequence .kept .1 .1 .1 .0)  -- read-union-same-length-2
+    (λ c.
+    let at-if2 = c .before .before .before .before .before in
     let two = c .before .before .before .read-sequence2 in
-    since (c .before .before .before .before .before .before .before .before .before .before .before .read-sequence .ensures .kept) (partly-refused (c .before .before .before .before .before .before .before .loop .inv .1) (lit< tt) (sym (c .before .before .before .before .before .before .peek .ensures) ∙ c .before .before .before .before .before .if2 .taken) (two .ensures) (not-true (two .result .0) (c .if3 .taken))))  -- read-union-returns-2
+    let at-peek = at-if2 .before in
+    let at-loop = at-peek .before in
+    let at-read-sequence = at-loop .before .before .before .before in
+    since (at-read-sequence .read-sequence .ensures .kept)
+    (partly-refused (at-loop .loop .inv .1) (lit< tt) (sym (at-peek .peek .ensures) ∙ at-if2 .if2 .taken) (two .ensures) (not-true (two .result .0) (c .if3 .taken))))  -- read-union-returns-2
     (λ c.
     let p = c .before .before .before .before .before .before .before .loop .inv .1 in
     let mv = p .moved in
     let pf = p .few in
     let ps = p .some in
-    let w = getD-within (c .before .before .before .before .before .before .before .before .before .before .before .before .before .before .before .args .q .now) (c .before .before .before .before .before .before .before .loop .end) 124 (sym (c .before .before .before .before .before .before .peek .ensures) ∙ c .before .before .before .before .before .if2 .taken) (lit< tt) in
+    let w = getD-within (c .before .before .before .before .before .before .before .before .before .before .before .before .before .before .before .args .q .now)
+    (c .before .before .before .before .before .before .before .loop .end) 124
+    (sym (c .before .before .before .before .before .before .peek .ensures) ∙ c .before .before .before .before .before .if2 .taken) (lit< tt) in
     omega arith)  -- read-union-sub-pack
     (λ c κs.
     let p = c .before .before .before .before .before .before .before .loop .inv .1 in
     let mv = p .moved in
     let pf = p .few in
     let ps = p .some in
-    let w = getD-within (c .before .before .before .before .before .before .before .before .before .before .before .before .before .before .before .args .q .now) (c .before .before .before .before .before .before .before .loop .end) 124 (sym (c .before .before .before .before .before .before .peek .ensures) ∙ c .before .before .before .before .before .if2 .taken) (lit< tt) in
+    let w = getD-within (c .before .before .before .before .before .before .before .before .before .before .before .before .before .before .before .args .q .now)
+    (c .before .before .before .before .before .before .before .loop .end) 124
+    (sym (c .before .before .before .before .before .before .peek .ensures) ∙ c .before .before .before .before .before .if2 .taken) (lit< tt) in
     omega arith)  -- read-union-pack-requires
     (λ c.
     let p = c .before .before .before .before .before .before .before .before .loop .inv .1 in
     let mv = p .moved in
     let pf = p .few in
     let ps = p .some in
-    let w = getD-within (c .before .before .before .before .before .before .before .before .before .before .before .before .before .before .before .before .args .q .now) (c .before .before .before .before .before .before .before .before .loop .end) 124 (sym (c .before .before .before .before .before .before .before .peek .ensures) ∙ c .before .before .before .before .before .before .if2 .taken) (lit< tt) in
+    let w = getD-within (c .before .before .before .before .before .before .before .before .before .before .before .before .before .before .before .before .args .q .now)
+    (c .before .before .before .before .before .before .before .before .loop .end) 124
+    (sym (c .before .before .before .before .before .before .before .peek .ensures) ∙ c .before .before .before .before .before .before .if2 .taken) (lit< tt) in
     let b = is-stored (c .before .before .before .before .read-sequence2 .ensures) (not-false (c .before .before .before .before .read-sequence2 .result .0) (c .before .if3 .left)) in
     omega arith)  -- read-union-mul-tree
     (λ c.
@@ -414,7 +564,9 @@ pub +read-atom+read-sequence+read-step+read-union-spec : {M : Type 1} → statem
     let mv = p .moved in
     let pf = p .few in
     let ps = p .some in
-    let w = getD-within (c .before .before .before .before .before .before .before .before .before .before .before .before .before .before .before .before .args .q .now) (c .before .before .before .before .before .before .before .before .loop .end) 124 (sym (c .before .before .before .before .before .before .before .peek .ensures) ∙ c .before .before .before .before .before .before .if2 .taken) (lit< tt) in
+    let w = getD-within (c .before .before .before .before .before .before .before .before .before .before .before .before .before .before .before .before .args .q .now)
+    (c .before .before .before .before .before .before .before .before .loop .end) 124
+    (sym (c .before .before .before .before .before .before .before .peek .ensures) ∙ c .before .before .before .before .before .before .if2 .taken) (lit< tt) in
     let b = is-stored (c .before .before .before .before .read-sequence2 .ensures) (not-false (c .before .before .before .before .read-sequence2 .result .0) (c .before .if3 .left)) in
     let l = c .before .before .before .before .read-sequence2 .kept .1 .1 .1 .0 in
     let l₁ = c .before .before .before .before .before .before .before .before .loop .inv .0 in
@@ -425,7 +577,9 @@ pub +read-atom+read-sequence+read-step+read-union-spec : {M : Type 1} → statem
     let mv = p .moved in
     let pf = p .few in
     let ps = p .some in
-    let w = getD-within (c .before .before .before .before .before .before .before .before .before .before .before .before .before .before .before .before .args .q .now) (c .before .before .before .before .before .before .before .before .loop .end) 124 (sym (c .before .before .before .before .before .before .before .peek .ensures) ∙ c .before .before .before .before .before .before .if2 .taken) (lit< tt) in
+    let w = getD-within (c .before .before .before .before .before .before .before .before .before .before .before .before .before .before .before .before .args .q .now)
+    (c .before .before .before .before .before .before .before .before .loop .end) 124
+    (sym (c .before .before .before .before .before .before .before .peek .ensures) ∙ c .before .before .before .before .before .before .if2 .taken) (lit< tt) in
     let b = is-stored (c .before .before .before .before .read-sequence2 .ensures) (not-false (c .before .before .before .before .read-sequence2 .result .0) (c .before .if3 .left)) in
     omega arith)  -- read-union-add-m
     (λ c.
@@ -433,21 +587,33 @@ pub +read-atom+read-sequence+read-step+read-union-spec : {M : Type 1} → statem
     let mv = p .moved in
     let pf = p .few in
     let ps = p .some in
-    let w = getD-within (c .before .before .before .before .before .before .before .before .before .before .before .before .before .before .before .before .args .q .now) (c .before .before .before .before .before .before .before .before .loop .end) 124 (sym (c .before .before .before .before .before .before .before .peek .ensures) ∙ c .before .before .before .before .before .before .if2 .taken) (lit< tt) in
+    let w = getD-within (c .before .before .before .before .before .before .before .before .before .before .before .before .before .before .before .before .args .q .now)
+    (c .before .before .before .before .before .before .before .before .loop .end) 124
+    (sym (c .before .before .before .before .before .before .before .peek .ensures) ∙ c .before .before .before .before .before .before .if2 .taken) (lit< tt) in
     let b = is-stored (c .before .before .before .before .read-sequence2 .ensures) (not-false (c .before .before .before .before .read-sequence2 .result .0) (c .before .if3 .left)) in
     omega arith)  -- read-union-loop-less
     (λ c.
-    let p = c .before .before .before .before .before .before .before .before .loop .inv .1 in
+    let at-read-sequence2 = c .before .before .before .before in
+    let at-if2 = at-read-sequence2 .before .before in
+    let at-peek = at-if2 .before in
+    let at-loop = at-peek .before in
+    let at-read-sequence = at-loop .before .before .before .before in
+    let entry = at-read-sequence .before .before .before .before in
+    let p = at-loop .loop .inv .1 in
     let mv = p .moved in
     let pf = p .few in
     let ps = p .some in
-    let w = getD-within (c .before .before .before .before .before .before .before .before .before .before .before .before .before .before .before .before .args .q .now) (c .before .before .before .before .before .before .before .before .loop .end) 124 (sym (c .before .before .before .before .before .before .before .peek .ensures) ∙ c .before .before .before .before .before .before .if2 .taken) (lit< tt) in
-    let b = is-stored (c .before .before .before .before .read-sequence2 .ensures) (not-false (c .before .before .before .before .read-sequence2 .result .0) (c .before .if3 .left)) in
-    let l = c .before .before .before .before .read-sequence2 .kept .1 .1 .1 .0 in
-    let l₁ = c .before .before .before .before .before .before .before .before .loop .inv .0 in
-    let l₂ = c .before .before .before .before .before .before .before .before .before .before .before .before .read-sequence .kept .1 .1 .1 .0 in (
-      length-set (c .before .before .before .before .read-sequence2 .last .1 .1 .1 .0) (c .before .before .before .before .read-sequence2 .result .2) (c .pack .result) ∙ c .before .before .before .before .read-sequence2 .kept .1 .1 .1 .0 ∙ c .before .before .before .before .before .before .before .before .loop .inv .0,
-      partly-more (c .before .before .before .before .before .before .before .before .loop .inv .1) (lit< tt) (sym (c .before .before .before .before .before .before .before .peek .ensures) ∙ c .before .before .before .before .before .before .if2 .taken) (c .before .before .before .before .read-sequence2 .ensures) (not-false (c .before .before .before .before .read-sequence2 .result .0) (c .before .if3 .left)) 8 (c .pack .ensures) (omega arith) (λ t a b x y z. h-union x y z),
+    let w = getD-within (entry .args .q .now) (at-loop .loop .end) 124 (sym (at-peek .peek .ensures) ∙ at-if2 .if2 .taken) (lit< tt) in
+    let b = is-stored (at-read-sequence2 .read-sequence2 .ensures) (not-false (at-read-sequence2 .read-sequence2 .result .0) (c .before .if3 .left)) in
+    let l = at-read-sequence2 .read-sequence2 .kept .1 .1 .1 .0 in
+    let l₁ = at-loop .loop .inv .0 in
+    let l₂ = at-read-sequence .read-sequence .kept .1 .1 .1 .0 in (
+      length-set (at-read-sequence2 .read-sequence2 .last .1 .1 .1 .0) (at-read-sequence2 .read-sequence2 .result .2) (c .pack .result)
+          ∙ at-read-sequence2 .read-sequence2 .kept .1 .1 .1 .0 ∙ at-loop .loop .inv .0,
+      partly-more (at-loop .loop .inv .1) (lit< tt) (sym (at-peek .peek .ensures) ∙ at-if2 .if2 .taken) (at-read-sequence2 .read-sequence2 .ensures)
+          (not-false (at-read-sequence2 .read-sequence2 .result .0) (c .before .if3 .left)) 8 (c .pack .ensures) (omega arith) (λ t a b x y z. h-union x y z),
     ))  -- read-union-loop-again
     (λ c. c .before .before .loop .inv .0 ∙ c .before .before .before .before .before .before .read-sequence .kept .1 .1 .1 .0)  -- read-union-same-length-3
-    (λ c. since (c .before .before .before .before .before .before .read-sequence .ensures .kept) (partly-done (c .before .before .loop .inv .1) (λ w. c .if2 .left (c .before .peek .ensures ∙ w))))  -- read-union-returns-3
+    (λ c.
+    let read-sequence = c .before .before .before .before .before .before .read-sequence in
+    since (read-sequence .ensures .kept) (partly-done (c .before .before .loop .inv .1) (λ w. c .if2 .left (c .before .peek .ensures ∙ w))))  -- read-union-returns-3

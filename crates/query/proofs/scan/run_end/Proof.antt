@@ -33,7 +33,8 @@ returns : tie.Need-returns Inv-loop μ-loop
 returns c =
     let a = c .before .before .before .before .before .before .args in
     let i = c .before .before .before .before .loop .i in
-    let r = run-stop (class (a .kind)) (a .q .now) i (c .before .before .before .loop-test .taken) (sym (c .before .passes .ensures) ∙ not-true (c .before .passes .result) (c .if1 .taken)) in
+    let r = run-stop (class (a .kind)) (a .q .now) i (c .before .before .before .loop-test .taken) (sym (c .before .passes .ensures) ∙ not-true (c .before .passes .result) (c .if1 .taken))
+    in
     omega arith
 
 add-i : tie.Need-add-i Inv-loop μ-loop
@@ -44,9 +45,11 @@ loop-less c = omega arith
 
 loop-again : tie.Need-loop-again Inv-loop μ-loop
 loop-again c =
+    let loop = c .before .before .before .before .loop in
     let a = c .before .before .before .before .before .before .args in
-    let i = c .before .before .before .before .loop .i in
-    let r = run-more (class (a .kind)) (a .q .now) i (c .before .before .before .loop-test .taken) (sym (c .before .passes .ensures) ∙ not-false (c .before .passes .result) (c .if1 .left)) in
+    let i = loop .i in
+    let r = run-more (class (a .kind)) (a .q .now) i (c .before .before .before .loop-test .taken) (sym (c .before .passes .ensures) ∙ not-false (c .before .passes .result) (c .if1 .left))
+    in
     (omega arith, omega arith)
 
 returns-2 : tie.Need-returns-2 Inv-loop μ-loop

@@ -49,50 +49,58 @@ load-record-spec =
     let v = c .before .row in
     (row-fits (e .args .s .now) (e .args .c) (v .result) (v .ensures), rw (c .before .before .enum-told8 .given .1) at (e .pre .2)))
     (λ c. search needs)  -- same-length
-    (λ c.  -- returns
+    (λ c.
+    let enum-told = c .before .before .before .before .before .enum-told in
     let a = c .before .before .before .before .before .before .before .before .before .args in
     let v = c .before .before .before .before .value in
     let k = c .before .before .keep-text in
-    rw (c .before .before .before .before .before .enum-told .given .1) (value-kept (a .s .now) (a .c) (a .at) (a .out .now) (k .last .1 .0) (k .result) (v .result) (v .ensures) (k .ensures)))
+    rw (enum-told .given .1) (value-kept (a .s .now) (a .c) (a .at) (a .out .now) (k .last .1 .0) (k .result) (v .result) (v .ensures) (k .ensures)))  -- returns
     (λ c. search needs)  -- same-length-2
-    (λ c.  -- returns-2
+    (λ c.
+    let enum-told2 = c .before .before .before .before .before .enum-told2 in
     let a = c .before .before .before .before .before .before .before .before .before .args in
     let v = c .before .before .before .before .relation in
     let k = c .before .before .keep-byte in
-    rw (c .before .before .before .before .before .enum-told2 .given .1) (relation-kept (a .s .now) (a .c) (a .at) (a .out .now) (k .last .1 .0) (k .result) (v .result) (v .ensures) (k .ensures)))
+    rw (enum-told2 .given .1) (relation-kept (a .s .now) (a .c) (a .at) (a .out .now) (k .last .1 .0) (k .result) (v .result) (v .ensures) (k .ensures)))  -- returns-2
     (λ c. search needs)  -- same-length-3
-    (λ c.  -- returns-3
+    (λ c.
+    let enum-told3 = c .before .before .before .before .before .enum-told3 in
     let a = c .before .before .before .before .before .before .before .before .before .args in
     let v = c .before .before .before .before .dependency in
     let k = c .before .before .keep-dependency in
-    rw (c .before .before .before .before .before .enum-told3 .given .1) (dependency-kept (a .s .now) (a .c) (a .at) (a .out .now) (k .last .1 .0) (k .result) (v .result) (v .ensures) (k .ensures)))
+    rw (enum-told3 .given .1) (dependency-kept (a .s .now) (a .c) (a .at) (a .out .now) (k .last .1 .0) (k .result) (v .result) (v .ensures) (k .ensures)))  -- returns-3
     (λ c. search needs)  -- same-length-4
-    (λ c.  -- returns-4
+    (λ c.
+    let enum-told4 = c .before .before .before .before .before .enum-told4 in
     let a = c .before .before .before .before .before .before .before .before .before .args in
     let v = c .before .before .before .before .name in
     let k = c .before .before .keep-text2 in
-    rw (c .before .before .before .before .before .enum-told4 .given .1) (name-kept (a .s .now) (a .c) (a .at) (a .out .now) (k .last .1 .0) (k .result) (v .result) (v .ensures) (k .ensures)))
+    rw (enum-told4 .given .1) (name-kept (a .s .now) (a .c) (a .at) (a .out .now) (k .last .1 .0) (k .result) (v .result) (v .ensures) (k .ensures)))  -- returns-4
     (λ c. search needs)  -- same-length-5
-    (λ c.  -- returns-5
+    (λ c.
+    let enum-told5 = c .before .before .before .before .before .enum-told5 in
     let a = c .before .before .before .before .before .before .before .before .before .args in
     let v = c .before .before .before .before .shape in
     let k = c .before .before .keep-shape in
-    rw (c .before .before .before .before .before .enum-told5 .given .1) (shape-kept (a .s .now) (a .c) (a .at) (a .out .now) (k .last .1 .0) (k .result) (v .result) (v .ensures) (k .ensures)))
+    rw (enum-told5 .given .1) (shape-kept (a .s .now) (a .c) (a .at) (a .out .now) (k .last .1 .0) (k .result) (v .result) (v .ensures) (k .ensures)))  -- returns-5
     (λ c. search needs)  -- same-length-6
-    (λ c.  -- returns-6
+    (λ c.
+    let enum-told6 = c .before .before .before .before .before .enum-told6 in
     let a = c .before .before .before .before .before .before .before .before .before .args in
     let v = c .before .before .before .before .constructor in
     let k = c .before .before .keep-constructor in
-    rw (c .before .before .before .before .before .enum-told6 .given .1) (constructor-kept (a .s .now) (a .c) (a .at) (a .out .now) (k .last .1 .0) (k .result) (v .result) (v .ensures) (k .ensures)))
+    rw (enum-told6 .given .1) (constructor-kept (a .s .now) (a .c) (a .at) (a .out .now) (k .last .1 .0) (k .result) (v .result) (v .ensures) (k .ensures)))  -- returns-6
     (λ c. search needs)  -- same-length-7
-    (λ c.  -- returns-7
+    (λ c.
+    let enum-told7 = c .before .before .before .before .before .enum-told7 in
     let a = c .before .before .before .before .before .before .before .before .before .args in
     let v = c .before .before .before .before .rule in
     let k = c .before .before .keep-rule in
-    rw (c .before .before .before .before .before .enum-told7 .given .1) (rule-kept (a .s .now) (a .c) (a .at) (a .out .now) (k .last .1 .1 .0) (k .result) (v .result) (v .ensures) (k .ensures)))
+    rw (enum-told7 .given .1) (rule-kept (a .s .now) (a .c) (a .at) (a .out .now) (k .last .1 .1 .0) (k .result) (v .result) (v .ensures) (k .ensures)))  -- returns-7
     (λ c. search needs)  -- same-length-8
-    (λ c.  -- returns-8
+    (λ c.
+    let enum-told8 = c .before .before .before .before .before .enum-told8 in
     let a = c .before .before .before .before .before .before .before .before .before .args in
     let v = c .before .before .before .before .row in
     let k = c .before .before .keep-row in
-    rw (c .before .before .before .before .before .enum-told8 .given .1) (row-kept (a .s .now) (a .c) (a .at) (a .out .now) (k .last .1 .1 .0) (k .result) (v .result) (v .ensures) (k .ensures))))
+    rw (enum-told8 .given .1) (row-kept (a .s .now) (a .c) (a .at) (a .out .now) (k .last .1 .1 .0) (k .result) (v .result) (v .ensures) (k .ensures))))  -- returns-8

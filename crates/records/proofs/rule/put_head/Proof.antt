@@ -20,10 +20,11 @@ put-head-spec =
     (λ c. search needs)  -- add-put-2
     (λ c κs. search needs)  -- put-requires-3
     (λ c. search needs)  -- same-length
-    (λ c.  -- returns
-    let c2 = c .before .before .before .before .before .before .before .before in
+    (λ c.
+    let at-head-numbers = c .before .before .before .before .before in
+    let c2 = at-head-numbers .before .before .before in
     let c1 = c2 .before .before .before .before .before .before in
     let p = c1 .before .before .before .before .before .before .pre in
     let count = c1 .before .before .before .variable-count .ensures _ (p .0) (p .1) in
-    let head = c .before .before .before .before .before .head-numbers .ensures _ (p .0) (p .1) in
-    put-head _ _ _ _ _ (p .3) count (c1 .put .ensures) (c2 .before .before .before .head-variables .ensures) (c2 .put2 .ensures) head (c .before .before .put3 .ensures)))
+    let head = at-head-numbers .head-numbers .ensures _ (p .0) (p .1) in
+    put-head _ _ _ _ _ (p .3) count (c1 .put .ensures) (c2 .before .before .before .head-variables .ensures) (c2 .put2 .ensures) head (c .before .before .put3 .ensures)))  -- returns

@@ -28,18 +28,25 @@ rule-atoms-spec =
     (λ c. search needs)  -- slice-aggregate-put
     (λ c. search (atoms-long, needs))  -- slice-aggregate-put-2
     (λ c. search needs)  -- mul-put
-    (λ c κs.  -- put-requires
+    (λ c κs.
+    let loop = c .before .before .before .before .before .before .before .before .loop in
+    let loop-test = c .before .before .before .before .before .before .before .loop-test in
     let p = c .before .before .before .before .before .before .before .before .before .before .pre in
-    omega (arith, atoms-long (c .before .before .before .before .before .before .before .before .loop .inv) (p .1), c .before .before .before .before .before .before .before .loop-test .taken, p .1))
+    omega (arith, atoms-long (loop .inv) (p .1), loop-test .taken, p .1))  -- put-requires
     (λ c. search needs)  -- enum-told
     (λ c. λ as′ d g.  -- returns
     let n = no-tuple atomOf (c .enum-told .given .1) (c .before .before .atom .ensures) in
     atoms-stuck (c .before .before .before .before .loop .inv) (c .before .before .before .loop-test .taken) n g)
     (λ c. search needs)  -- add-i
     (λ c. search needs)  -- loop-less
-    (λ c.  -- loop-again
-    let g = as-tuple (c .before .before .before .before .before .before .tuple .given .1) (c .before .before .before .before .before .before .before .before .atom .ensures) in
+    (λ c.
+    let at-atom-numbers = c .before .before .before .before in
+    let at-tuple = at-atom-numbers .before .before in
+    let at-atom = at-tuple .before .before in
+    let at-loop-test = at-atom .before in
+    let at-loop = at-loop-test .before in
     let p = c .before .before .before .before .before .before .before .before .before .before .before .before .pre in
-    let q = put-as (c .before .before .before .before .atom-numbers .ensures) (c .before .put .ensures) in
-    atoms-on (c .before .before .before .before .before .before .before .before .before .before .loop .inv) g (c .before .before .before .before .before .before .before .before .before .loop-test .taken) (p .1) q)
+    let g = as-tuple (at-tuple .tuple .given .1) (at-atom .atom .ensures) in
+    let q = put-as (at-atom-numbers .atom-numbers .ensures) (c .before .put .ensures) in
+    atoms-on (at-loop .loop .inv) g (at-loop-test .loop-test .taken) (p .1) q)  -- loop-again
     (λ c. λ as′ d g. atoms-done (c .before .loop .inv) (c .loop-test .left) (c .before .before .before .pre .1) g))  -- returns-2

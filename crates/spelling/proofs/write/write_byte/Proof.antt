@@ -33,5 +33,7 @@ write-byte-spec =
     (λ c. simp length-set (omega (arith, three (c .before .before))))  -- slice-write-dst-4
     (λ c. omega (arith, three (c .before .before)))  -- add-result-2
     (λ c. search needs)  -- same-length-2
-    (λ c. let s = c .before .before .before .before .before in
-    escaped-written (s .args .b) (s .args .at) (s .args .dst .now) (s .pre) _ _ (sym (c .before .before .before .stays .ensures) ∙ c .before .before .if1 .left) (c .before .hex-digit .ensures) (c .hex-digit2 .ensures)))  -- returns-2
+    (λ c.
+    let s = c .before .before .before .before .before in
+    escaped-written (s .args .b) (s .args .at) (s .args .dst .now) (s .pre) _ _ (sym (c .before .before .before .stays .ensures) ∙ c .before .before .if1 .left)
+    (c .before .hex-digit .ensures) (c .hex-digit2 .ensures)))  -- returns-2

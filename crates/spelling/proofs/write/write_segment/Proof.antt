@@ -24,7 +24,9 @@ write-segment-spec =
     (λ c. let s = c .before .before .before .args in no-place (segment (s .value .now)) (s .at) (s .dst .now) (c .if1 .taken))  -- returns
     (λ c. search needs)  -- sub-fits
     (λ c κs. search needs)  -- fits-requires
-    (λ c. let s = c .before .before .before .before .before .args in fits-not (s .value .now) (s .at) (s .dst .now) (c .before .before .if1 .left) _ (c .before .fits2 .ensures) (c .if2 .taken))  -- returns-2
+    (λ c.
+    let s = c .before .before .before .before .before .args in
+    fits-not (s .value .now) (s .at) (s .dst .now) (c .before .before .if1 .left) _ (c .before .fits2 .ensures) (c .if2 .taken))  -- returns-2
     (λ c. (search needs, search needs, search (fits-start, needs)))  -- loop-holds
     (λ c. search needs)  -- shared-slice-read-write-byte
     (λ c κs. search (writing-room, needs))  -- write-byte-requires
@@ -32,4 +34,8 @@ write-segment-spec =
     (λ c. search needs)  -- loop-less
     (λ c. (search needs, search needs, search (writing-again, needs)))  -- loop-again
     (λ c. search needs)  -- same-length
-    (λ c. let s = c .before .before .before .before .before .before .before .args in fits-done (s .value .now) (s .at) (s .dst .now) (c .before .before .before .before .if1 .left) _ (c .before .before .before .fits2 .ensures) (c .before .before .if2 .left) (c .before .loop .inv .2) (omega arith)))  -- returns-3
+    (λ c.
+    let if1 = c .before .before .before .before .if1 in
+    let s = c .before .before .before .before .before .before .before .args in
+    fits-done (s .value .now) (s .at) (s .dst .now) (if1 .left) _ (c .before .before .before .fits2 .ensures) (c .before .before .if2 .left) (c .before .loop .inv .2)
+    (omega arith)))  -- returns-3

@@ -29,5 +29,11 @@ agreeing-spec =
     (λ c. c .before .before .before .before .loop .inv)  -- returns
     (λ c. search needs)  -- add-i
     (λ c. search needs)  -- loop-less
-    (λ c. (omega arith, eight-same _ (λ k. omega (arith, c .before .before .before .before .before .shared-slice-known .given k)) _ _ _ (c .before .before .before .before .loop .inv .1) (sym (c .before .before .eight .ensures) ∙ c .if1 .left ∙ c .before .eight2 .ensures)))  -- loop-again
+    (λ c.
+    let at-loop = c .before .before .before .before in
+    let at-shared-slice-known = at-loop .before in (
+      omega arith,
+      eight-same _ (λ k. omega (arith, at-shared-slice-known .shared-slice-known .given k)) _ _ _ (at-loop .loop .inv .1)
+          (sym (c .before .before .eight .ensures) ∙ c .if1 .left ∙ c .before .eight2 .ensures),
+    ))  -- loop-again
     (λ c. c .before .loop .inv))  -- returns-2

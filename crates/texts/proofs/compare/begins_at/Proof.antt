@@ -19,7 +19,9 @@ begins-at-spec =
     μ-loop
     (λ c. too-long _ _ _ _ _ (c .before .before .pre .0) (c .before .before .pre .1) (c .if1 .taken))  -- returns
     (λ c κs. search needs)  -- agreeing-requires
-    (λ c. agreeing-from (agreeing-start _ _ _ _ _ (c .before .if1 .left) (c .before .before .before .pre .0) (c .before .before .before .pre .1)) _ (c .agreeing .ensures .0) (c .agreeing .ensures .1))  -- loop-holds
+    (λ c.
+    let pre = c .before .before .before .pre in
+    agreeing-from (agreeing-start _ _ _ _ _ (c .before .if1 .left) (pre .0) (pre .1)) _ (c .agreeing .ensures .0) (c .agreeing .ensures .1))  -- loop-holds
     (λ c. search needs)  -- add-if2
     (λ c. search needs)  -- shared-slice-read-if2
     (λ c. search needs)  -- add-if2-2

@@ -23,8 +23,13 @@ atoms-spec =
     (λ c κs. c .before .loop .inv .placed)  -- atom-requires
     (λ c. search needs)  -- enum-known-next
     (λ c. search needs)  -- enum-told
-    (λ c. atoms-stuck (c .before .before .before .before .loop .inv) (c .before .before .before .loop-test .taken) (no-tuple atomOf (c .enum-told .given .1) (c .before .before .atom .ensures)))  -- returns
+    (λ c.
+    let loop = c .before .before .before .before .loop in
+    atoms-stuck (loop .inv) (c .before .before .before .loop-test .taken) (no-tuple atomOf (c .enum-told .given .1) (c .before .before .atom .ensures)))  -- returns
     (λ c. search needs)  -- add-i
     (λ c. search needs)  -- loop-less
-    (λ c. atoms-on (c .before .before .before .before .before .loop .inv) (c .before .before .before .before .loop-test .taken) (as-tuple (c .before .next .given .1) (c .before .before .before .atom .ensures)))  -- loop-again
+    (λ c.
+    let at-loop-test = c .before .before .before .before in
+    let at-loop = at-loop-test .before in
+    atoms-on (at-loop .loop .inv) (at-loop-test .loop-test .taken) (as-tuple (c .before .next .given .1) (c .before .before .before .atom .ensures)))  -- loop-again
     (λ c. atoms-done (c .before .loop .inv) (c .loop-test .left)))  -- returns-2

@@ -15,5 +15,11 @@ byte-in-spec =
     (λ c. search needs)  -- enum-told
     (λ c. byte-in-not _ _ (no-byte (c .enum-told .given .1) (c .before .before .byte .ensures)))  -- returns
     (λ c κs. search needs)  -- in-range-requires
-    (λ c. byte-in-out _ _ (as-byte (c .before .before .before .value .given .1) (c .before .before .before .before .before .byte .ensures)) (sym (c .before .in-range .ensures) ∙ not-true (c .before .in-range .result) (c .if1 .taken)))  -- returns-2
-    (λ c. byte-in-got _ _ (as-byte (c .before .before .before .value .given .1) (c .before .before .before .before .before .byte .ensures)) (sym (c .before .in-range .ensures) ∙ not-false (c .before .in-range .result) (c .if1 .left))))  -- returns-3
+    (λ c.
+    let byte = c .before .before .before .before .before .byte in
+    byte-in-out _ _ (as-byte (c .before .before .before .value .given .1) (byte .ensures))
+    (sym (c .before .in-range .ensures) ∙ not-true (c .before .in-range .result) (c .if1 .taken)))  -- returns-2
+    (λ c.
+    let byte = c .before .before .before .before .before .byte in
+    byte-in-got _ _ (as-byte (c .before .before .before .value .given .1) (byte .ensures))
+    (sym (c .before .in-range .ensures) ∙ not-false (c .before .in-range .result) (c .if1 .left))))  -- returns-3

@@ -19,6 +19,15 @@ constructor-spec =
     (λ c κs. as-byte (c .before .arity .given .1) (c .before .before .before .byte-in .ensures) .placed)  -- sized-requires
     (λ c. search needs)  -- enum-known-start
     (λ c. search needs)  -- enum-told-2
-    (λ c. then-bad _ (as-byte (c .before .before .before .before .arity .given .1) (c .before .before .before .before .before .before .byte-in .ensures)) (then-not _ (no-text (c .enum-told2 .given .1) (c .before .before .sized .ensures))))  -- returns-2
-    (λ c. let last = as-text (c .before .start .given .1) (c .before .before .before .sized .ensures) in  -- returns-3
-    record { got = then-got _ (as-byte (c .before .before .before .before .before .arity .given .1) (c .before .before .before .before .before .before .before .byte-in .ensures)) (then-got _ (last .got) (give-got (last .got .placed))); inside = last .inside }))
+    (λ c.
+    let at-arity = c .before .before .before .before in
+    let at-byte-in = at-arity .before .before in
+    then-bad _ (as-byte (at-arity .arity .given .1) (at-byte-in .byte-in .ensures)) (then-not _ (no-text (c .enum-told2 .given .1) (c .before .before .sized .ensures))))  -- returns-2
+    (λ c.
+    let at-arity = c .before .before .before .before .before in
+    let at-byte-in = at-arity .before .before in
+    let last = as-text (c .before .start .given .1) (c .before .before .before .sized .ensures) in
+    record {
+      got = then-got _ (as-byte (at-arity .arity .given .1) (at-byte-in .byte-in .ensures)) (then-got _ (last .got) (give-got (last .got .placed)));
+      inside = last .inside;
+    }))  -- returns-3

@@ -17,13 +17,38 @@ rule-spec =
     (λ c κs. as-byte (c .before .count .given .1) (c .before .before .before .byte-in .ensures) .placed)  -- atoms-requires
     (λ c. search needs)  -- enum-known-a
     (λ c. search needs)  -- enum-told-2
-    (λ c. rule-no-atoms (as-byte (c .before .before .before .before .count .given .1) (c .before .before .before .before .before .before .byte-in .ensures)) (not-moved (c .enum-told2 .given .1) (c .before .before .atoms .ensures)))  -- returns-2
+    (λ c.
+    let at-count = c .before .before .before .before in
+    let at-byte-in = at-count .before .before in
+    rule-no-atoms (as-byte (at-count .count .given .1) (at-byte-in .byte-in .ensures)) (not-moved (c .enum-told2 .given .1) (c .before .before .atoms .ensures)))  -- returns-2
     (λ c κs. as-moved (c .before .a .given .1) (c .before .before .before .atoms .ensures) .got .placed)  -- byte-in-requires-2
     (λ c. search needs)  -- enum-known-kind
     (λ c. search needs)  -- enum-told-3
-    (λ c. rule-no-kind (as-byte (c .before .before .before .before .before .before .before .before .count .given .1) (c .before .before .before .before .before .before .before .before .before .before .byte-in .ensures)) (as-moved (c .before .before .before .before .a .given .1) (c .before .before .before .before .before .before .atoms .ensures)) (no-byte (c .enum-told3 .given .1) (c .before .before .byte-in2 .ensures)))  -- returns-3
+    (λ c.
+    let at-a = c .before .before .before .before in
+    let at-atoms = at-a .before .before in
+    let at-count = at-atoms .before .before in
+    let at-byte-in = at-count .before .before in
+    rule-no-kind (as-byte (at-count .count .given .1) (at-byte-in .byte-in .ensures)) (as-moved (at-a .a .given .1) (at-atoms .atoms .ensures))
+    (no-byte (c .enum-told3 .given .1) (c .before .before .byte-in2 .ensures)))  -- returns-3
     (λ c κs. as-byte (c .before .kind .given .1) (c .before .before .before .byte-in2 .ensures) .placed)  -- head-requires
     (λ c. search needs)  -- enum-known-subject
     (λ c. search needs)  -- enum-told-4
-    (λ c. rule-headless (as-byte (c .before .before .before .before .before .before .before .before .before .before .before .before .count .given .1) (c .before .before .before .before .before .before .before .before .before .before .before .before .before .before .byte-in .ensures)) (as-moved (c .before .before .before .before .before .before .before .before .a .given .1) (c .before .before .before .before .before .before .before .before .before .before .atoms .ensures)) (as-byte (c .before .before .before .before .kind .given .1) (c .before .before .before .before .before .before .byte-in2 .ensures)) (no-head _ (c .enum-told4 .given .1) (c .before .before .head .ensures)))  -- returns-4
-    (λ c. rule-got (as-byte (c .before .before .before .before .before .before .before .before .before .before .before .before .before .count .given .1) (c .before .before .before .before .before .before .before .before .before .before .before .before .before .before .before .byte-in .ensures)) (as-moved (c .before .before .before .before .before .before .before .before .before .a .given .1) (c .before .before .before .before .before .before .before .before .before .before .before .atoms .ensures)) (as-byte (c .before .before .before .before .before .kind .given .1) (c .before .before .before .before .before .before .before .byte-in2 .ensures)) (as-head (c .before .subject .given .1) (c .before .before .before .head .ensures))))  -- returns-5
+    (λ c.
+    let at-kind = c .before .before .before .before in
+    let at-byte-in2 = at-kind .before .before in
+    let at-a = at-byte-in2 .before .before in
+    let at-atoms = at-a .before .before in
+    let at-count = at-atoms .before .before in
+    let at-byte-in = at-count .before .before in
+    rule-headless (as-byte (at-count .count .given .1) (at-byte-in .byte-in .ensures)) (as-moved (at-a .a .given .1) (at-atoms .atoms .ensures))
+    (as-byte (at-kind .kind .given .1) (at-byte-in2 .byte-in2 .ensures)) (no-head _ (c .enum-told4 .given .1) (c .before .before .head .ensures)))  -- returns-4
+    (λ c.
+    let at-kind = c .before .before .before .before .before in
+    let at-byte-in2 = at-kind .before .before in
+    let at-a = at-byte-in2 .before .before in
+    let at-atoms = at-a .before .before in
+    let at-count = at-atoms .before .before in
+    let at-byte-in = at-count .before .before in
+    rule-got (as-byte (at-count .count .given .1) (at-byte-in .byte-in .ensures)) (as-moved (at-a .a .given .1) (at-atoms .atoms .ensures))
+    (as-byte (at-kind .kind .given .1) (at-byte-in2 .byte-in2 .ensures)) (as-head (c .before .subject .given .1) (c .before .before .before .head .ensures))))  -- returns-5

@@ -21,8 +21,16 @@ sized-spec =
     (λ c κs.  -- all-pass-requires
     let g = as-byte (c .before .before .value .given .1) (c .before .before .before .before .byte-in .ensures) in
     omega (arith, g .placed .before, g .placed .inside))
-    (λ c. sized-bad _ _ _ (as-byte (c .before .before .before .before .value .given .1) (c .before .before .before .before .before .before .byte-in .ensures)) (c .before .before .if1 .left) (sym (c .before .all-pass .ensures) ∙ not-true (c .before .all-pass .result) (c .if2 .taken)))  -- returns-3
+    (λ c.
+    let at-value = c .before .before .before .before in
+    let at-byte-in = at-value .before .before in
+    sized-bad _ _ _ (as-byte (at-value .value .given .1) (at-byte-in .byte-in .ensures)) (c .before .before .if1 .left)
+    (sym (c .before .all-pass .ensures) ∙ not-true (c .before .all-pass .result) (c .if2 .taken)))  -- returns-3
     (λ c.  -- add-t12
     let g = as-byte (c .before .before .before .before .value .given .1) (c .before .before .before .before .before .before .byte-in .ensures) in
     omega (arith, g .placed .before, g .placed .inside))
-    (λ c. sized-got _ _ _ (as-byte (c .before .before .before .before .value .given .1) (c .before .before .before .before .before .before .byte-in .ensures)) (c .before .before .if1 .left) (sym (c .before .all-pass .ensures) ∙ not-false (c .before .all-pass .result) (c .if2 .left))))  -- returns-4
+    (λ c.
+    let at-value = c .before .before .before .before in
+    let at-byte-in = at-value .before .before in
+    sized-got _ _ _ (as-byte (at-value .value .given .1) (at-byte-in .byte-in .ensures)) (c .before .before .if1 .left)
+    (sym (c .before .all-pass .ensures) ∙ not-false (c .before .all-pass .result) (c .if2 .left))))  -- returns-4

@@ -16,5 +16,11 @@ tuple-spec =
     (λ c κs. as-byte (c .before .number .given .1) (c .before .before .before .byte .ensures) .placed)  -- sized-requires
     (λ c. search needs)  -- enum-known-start
     (λ c. search needs)  -- enum-told-2
-    (λ c. tuple-bad pair _ _ (as-byte (c .before .before .before .before .number .given .1) (c .before .before .before .before .before .before .byte .ensures)) (no-text (c .enum-told2 .given .1) (c .before .before .sized .ensures)))  -- returns-2
-    (λ c. tuple-got pair _ _ (as-byte (c .before .before .before .before .before .number .given .1) (c .before .before .before .before .before .before .before .byte .ensures)) (as-text (c .before .start .given .1) (c .before .before .before .sized .ensures))))  -- returns-3
+    (λ c.
+    let at-number = c .before .before .before .before in
+    let at-byte = at-number .before .before in
+    tuple-bad pair _ _ (as-byte (at-number .number .given .1) (at-byte .byte .ensures)) (no-text (c .enum-told2 .given .1) (c .before .before .sized .ensures)))  -- returns-2
+    (λ c.
+    let at-number = c .before .before .before .before .before in
+    let at-byte = at-number .before .before in
+    tuple-got pair _ _ (as-byte (at-number .number .given .1) (at-byte .byte .ensures)) (as-text (c .before .start .given .1) (c .before .before .before .sized .ensures))))  -- returns-3
