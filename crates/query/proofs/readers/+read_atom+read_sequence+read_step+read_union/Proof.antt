@@ -7,11 +7,11 @@ use lib.Dec.{lit<}
 use lib.ListN.{length, length-set, length-drop, drop}
 use mathlib.Core.Path.{_≡_, refl, sym, _∙_}
 use native.Mathlib.Omega.{arith}
-use Prim.Native.Nat.{_+_, _-_, _*_, _<_}
-use Rattle.grammar.proofs.Bytes.{getD-within, run-le}
+use Prim.Native.Nat.{_+_, _-_, _*_}
 use Rattle.meaning.specs.Query.{nested}
 use Rattle.query.specs.Reading.{class}
 use Rattle.query.specs.Tree.{h-sequence, h-union}
+use Rattle.grammar.proofs.Bytes.{getD-within, run-le}
 use Rattle.query.proofs.PartLaws.{
   is-stored,
   since,
@@ -40,24 +40,24 @@ use Rattle.query.proofs.PartLaws.{
 use Prim.Native.Nat.{ℕ, _<_}
 use borrow.Fn.Kinds.{In}
 use borrow.Fn.PlainCycle.{Measures, is, falls, and}
+use Rattle.query.proofs.readers.read_atom.Reads as read-atom
+use Rattle.query.proofs.readers.read_atom.Kinds as read-atom-kinds
+use Rattle.query.proofs.readers.+read_atom+read_sequence+read_step+read_union.Lts-read_atom as read-atom-lts
+use Rattle.query.proofs.readers.read_sequence.Reads as read-sequence
+use Rattle.query.proofs.readers.read_sequence.Kinds as read-sequence-kinds
+use Rattle.query.proofs.readers.+read_atom+read_sequence+read_step+read_union.Lts-read_sequence as read-sequence-lts
+use Rattle.query.proofs.readers.read_step.Reads as read-step
+use Rattle.query.proofs.readers.read_step.Kinds as read-step-kinds
+use Rattle.query.proofs.readers.+read_atom+read_sequence+read_step+read_union.Lts-read_step as read-step-lts
+use Rattle.query.proofs.readers.read_union.Reads as read-union
+use Rattle.query.proofs.readers.read_union.Kinds as read-union-kinds
+use Rattle.query.proofs.readers.+read_atom+read_sequence+read_step+read_union.Lts-read_union as read-union-lts
 use Rattle.query.proofs.leaves.put_stars.Reads as put-stars-reads
 use Rattle.query.proofs.leaves.read_leaf.Reads as read-leaf-reads
 use Rattle.query.proofs.parts.pack.Reads as pack-reads
-use Rattle.query.proofs.readers.+read_atom+read_sequence+read_step+read_union.{statement}
-use Rattle.query.proofs.readers.+read_atom+read_sequence+read_step+read_union.Lts-read_atom as read-atom-lts
-use Rattle.query.proofs.readers.+read_atom+read_sequence+read_step+read_union.Lts-read_sequence as read-sequence-lts
-use Rattle.query.proofs.readers.+read_atom+read_sequence+read_step+read_union.Lts-read_step as read-step-lts
-use Rattle.query.proofs.readers.+read_atom+read_sequence+read_step+read_union.Lts-read_union as read-union-lts
-use Rattle.query.proofs.readers.read_atom.Kinds as read-atom-kinds
-use Rattle.query.proofs.readers.read_atom.Reads as read-atom
-use Rattle.query.proofs.readers.read_sequence.Kinds as read-sequence-kinds
-use Rattle.query.proofs.readers.read_sequence.Reads as read-sequence
-use Rattle.query.proofs.readers.read_step.Kinds as read-step-kinds
-use Rattle.query.proofs.readers.read_step.Reads as read-step
-use Rattle.query.proofs.readers.read_union.Kinds as read-union-kinds
-use Rattle.query.proofs.readers.read_union.Reads as read-union
 use Rattle.query.proofs.scan.peek.Reads as peek-reads
 use Rattle.query.proofs.scan.run_end.Reads as run-end-reads
+use Rattle.query.proofs.readers.+read_atom+read_sequence+read_step+read_union.{statement}
 use Rattle.query.proofs.readers.+read_atom+read_sequence+read_step+read_union.Tie.{close}
 
 abbrev μ-read-atom : Measures 2 read-atom-kinds.ps ℕ
@@ -164,38 +164,36 @@ pub +read-atom+read-sequence+read-step+read-union-spec : {M : Type 1} → statem
     let w = getD-within (c .before .before .before .before .before .before .before .args .q .now) (c .before .before .before .before .before .before .before .args .at) 40
     (sym (c .before .before .before .before .peek .ensures) ∙ c .before .before .before .if1 .taken) (lit< tt) in
     omega arith)  -- read-atom-add-read-union
-    (λ c.
-    let h = c .before .before .if2 .left in
-    omega arith)  -- read-atom-sub-read-union
+    (λ c. let h = c .before .before .if2 .left in omega arith)  -- read-atom-sub-read-union
     (λ c κs.
     let w = getD-within (c .before .before .before .before .before .before .before .before .args .q .now) (c .before .before .before .before .before .before .before .before .args .at) 40
     (sym (c .before .before .before .before .before .peek .ensures) ∙ c .before .before .before .before .if1 .taken) (lit< tt) in
     omega arith)  -- read-atom-read-union-requires
     (λ c. search needs)  -- read-atom-same-length-2
     (λ c.
-    let at-if3 = c .before .before .before .before .before in
+    let at-read-union = c .before .before .before in
+    let at-if3 = at-read-union .before .before in
     let at-peek2 = at-if3 .before in
     let at-if2 = at-peek2 .before in
     let at-if1 = at-if2 .before in
     let at-peek = at-if1 .before in
-    let args = c .before .before .before .before .before .before .before .before .before .before .before .before .args in
-    let inner = c .before .before .before .read-union in
-    inside-refused (args .at) (args .left) (λ e. e) (lit< tt) (inner .ensures) (at-if2 .if2 .left)
-    (λ o. atom-round (args .q .now) (args .at) (args .left) o (sym (at-peek .peek .ensures) ∙ at-if1 .if1 .taken) (at-if2 .if2 .left)
-    (λ w. at-if3 .if3 .left (at-peek2 .peek2 .ensures ∙ w))) (not-true (inner .result .0) (c .if4 .taken)))  -- read-atom-returns-3
+    let entry = at-peek .before .before .before in
+    inside-refused (entry .args .at) (entry .args .left) (λ e. e) (lit< tt) (at-read-union .read-union .ensures) (at-if2 .if2 .left)
+    (λ o. atom-round (entry .args .q .now) (entry .args .at) (entry .args .left) o (sym (at-peek .peek .ensures) ∙ at-if1 .if1 .taken) (at-if2 .if2 .left)
+    (λ w. at-if3 .if3 .left (at-peek2 .peek2 .ensures ∙ w))) (not-true (at-read-union .read-union .result .0) (c .if4 .taken)))  -- read-atom-returns-3
     (λ c κs. search needs)  -- read-atom-peek-requires-3
     (λ c. search needs)  -- read-atom-same-length-3
     (λ c.
-    let at-if3 = c .before .before .before .before .before .before .before in
+    let at-read-union = c .before .before .before .before .before in
+    let at-if3 = at-read-union .before .before in
     let at-peek2 = at-if3 .before in
     let at-if2 = at-peek2 .before in
     let at-if1 = at-if2 .before in
     let at-peek = at-if1 .before in
-    let args = c .before .before .before .before .before .before .before .before .before .before .before .before .before .before .args in
-    let inner = c .before .before .before .before .before .read-union in
-    not-closed (args .at) (args .left) (λ e. e) (lit< tt) (inner .ensures) (at-if2 .if2 .left)
-    (λ o. atom-round (args .q .now) (args .at) (args .left) o (sym (at-peek .peek .ensures) ∙ at-if1 .if1 .taken) (at-if2 .if2 .left)
-    (λ w. at-if3 .if3 .left (at-peek2 .peek2 .ensures ∙ w))) (not-false (inner .result .0) (c .before .before .if4 .left))
+    let entry = at-peek .before .before .before in
+    not-closed (entry .args .at) (entry .args .left) (λ e. e) (lit< tt) (at-read-union .read-union .ensures) (at-if2 .if2 .left)
+    (λ o. atom-round (entry .args .q .now) (entry .args .at) (entry .args .left) o (sym (at-peek .peek .ensures) ∙ at-if1 .if1 .taken) (at-if2 .if2 .left)
+    (λ w. at-if3 .if3 .left (at-peek2 .peek2 .ensures ∙ w))) (not-false (at-read-union .read-union .result .0) (c .before .before .if4 .left))
     (λ w. c .if5 .taken (c .before .peek3 .ensures ∙ w)))  -- read-atom-returns-4
     (λ c.
     let b = is-stored (c .before .before .before .before .before .read-union .ensures)
@@ -203,50 +201,48 @@ pub +read-atom+read-sequence+read-step+read-union-spec : {M : Type 1} → statem
     omega arith)  -- read-atom-add-t15
     (λ c. search needs)  -- read-atom-same-length-4
     (λ c.
-    let at-if3 = c .before .before .before .before .before .before .before in
-    let args = c .before .before .before .before .before .before .before .before .before .before .before .before .before .before .args in
-    let inner = c .before .before .before .before .before .read-union in
+    let at-read-union = c .before .before .before .before .before in
+    let at-if3 = at-read-union .before .before in
     let at-peek2 = at-if3 .before in
     let at-if2 = at-peek2 .before in
     let at-if1 = at-if2 .before in
     let at-peek = at-if1 .before in
-    group-read (args .at) (args .left) (λ e. e) (lit< tt) (inner .ensures) (at-if2 .if2 .left)
-    (λ o. atom-round (args .q .now) (args .at) (args .left) o (sym (at-peek .peek .ensures) ∙ at-if1 .if1 .taken) (at-if2 .if2 .left)
-    (λ w. at-if3 .if3 .left (at-peek2 .peek2 .ensures ∙ w))) (not-false (inner .result .0) (c .before .before .if4 .left)) (sym (c .before .peek3 .ensures) ∙ c .if5 .left)
-    (λ a. refl))  -- read-atom-returns-5
+    let entry = at-peek .before .before .before in
+    group-read (entry .args .at) (entry .args .left) (λ e. e) (lit< tt) (at-read-union .read-union .ensures) (at-if2 .if2 .left)
+    (λ o. atom-round (entry .args .q .now) (entry .args .at) (entry .args .left) o (sym (at-peek .peek .ensures) ∙ at-if1 .if1 .taken) (at-if2 .if2 .left)
+    (λ w. at-if3 .if3 .left (at-peek2 .peek2 .ensures ∙ w))) (not-false (at-read-union .read-union .result .0) (c .before .before .if4 .left))
+    (sym (c .before .peek3 .ensures) ∙ c .if5 .left) (λ a. refl))  -- read-atom-returns-5
     (λ c. no-square (c .before .before .before .before .before .before .args .left) (c .before .before .before .peek .ensures) (c .before .if6 .taken) (c .if7 .taken))  -- read-atom-returns-6
     (λ c.
     let w = getD-within (c .before .before .before .before .before .before .args .q .now) (c .before .before .before .before .before .before .args .at) 91
     (sym (c .before .before .before .peek .ensures) ∙ c .before .if6 .taken) (lit< tt) in
     omega arith)  -- read-atom-add-read-union-2
-    (λ c.
-    let h = c .if7 .left in
-    omega arith)  -- read-atom-sub-read-union-2
+    (λ c. let h = c .if7 .left in omega arith)  -- read-atom-sub-read-union-2
     (λ c κs.
     let w = getD-within (c .before .before .before .before .before .before .before .args .q .now) (c .before .before .before .before .before .before .before .args .at) 91
     (sym (c .before .before .before .before .peek .ensures) ∙ c .before .before .if6 .taken) (lit< tt) in
     omega arith)  -- read-atom-read-union-requires-2
     (λ c. search needs)  -- read-atom-same-length-5
     (λ c.
-    let at-if7 = c .before .before .before .before .before in
+    let at-read-union2 = c .before .before .before in
+    let at-if7 = at-read-union2 .before .before in
     let at-if6 = at-if7 .before in
     let at-peek = at-if6 .before .before in
-    let args = c .before .before .before .before .before .before .before .before .before .before .before .args in
-    let inner = c .before .before .before .read-union2 in
-    inside-refused (args .at) (args .left) nested (lit< tt) (inner .ensures) (at-if7 .if7 .left)
-    (λ o. atom-square (args .q .now) (args .at) (args .left) o (sym (at-peek .peek .ensures) ∙ at-if6 .if6 .taken) (at-if7 .if7 .left))
-    (not-true (inner .result .0) (c .if8 .taken)))  -- read-atom-returns-7
+    let entry = at-peek .before .before .before in
+    inside-refused (entry .args .at) (entry .args .left) nested (lit< tt) (at-read-union2 .read-union2 .ensures) (at-if7 .if7 .left)
+    (λ o. atom-square (entry .args .q .now) (entry .args .at) (entry .args .left) o (sym (at-peek .peek .ensures) ∙ at-if6 .if6 .taken) (at-if7 .if7 .left))
+    (not-true (at-read-union2 .read-union2 .result .0) (c .if8 .taken)))  -- read-atom-returns-7
     (λ c κs. search needs)  -- read-atom-peek-requires-4
     (λ c. search needs)  -- read-atom-same-length-6
     (λ c.
-    let at-if7 = c .before .before .before .before .before .before .before in
+    let at-read-union2 = c .before .before .before .before .before in
+    let at-if7 = at-read-union2 .before .before in
     let at-if6 = at-if7 .before in
     let at-peek = at-if6 .before .before in
-    let args = c .before .before .before .before .before .before .before .before .before .before .before .before .before .args in
-    let inner = c .before .before .before .before .before .read-union2 in
-    not-closed (args .at) (args .left) nested (lit< tt) (inner .ensures) (at-if7 .if7 .left)
-    (λ o. atom-square (args .q .now) (args .at) (args .left) o (sym (at-peek .peek .ensures) ∙ at-if6 .if6 .taken) (at-if7 .if7 .left))
-    (not-false (inner .result .0) (c .before .before .if8 .left)) (λ w. c .if9 .taken (c .before .peek4 .ensures ∙ w)))  -- read-atom-returns-8
+    let entry = at-peek .before .before .before in
+    not-closed (entry .args .at) (entry .args .left) nested (lit< tt) (at-read-union2 .read-union2 .ensures) (at-if7 .if7 .left)
+    (λ o. atom-square (entry .args .q .now) (entry .args .at) (entry .args .left) o (sym (at-peek .peek .ensures) ∙ at-if6 .if6 .taken) (at-if7 .if7 .left))
+    (not-false (at-read-union2 .read-union2 .result .0) (c .before .before .if8 .left)) (λ w. c .if9 .taken (c .before .peek4 .ensures ∙ w)))  -- read-atom-returns-8
     (λ c κs. search needs)  -- read-atom-pack-requires-2
     (λ c.
     let b = is-stored (c .before .before .before .before .before .before .read-union2 .ensures)
@@ -274,8 +270,8 @@ pub +read-atom+read-sequence+read-step+read-union-spec : {M : Type 1} → statem
     (c .before .before .before .before .before .before .read-union2 .result .1) 93 (sym (c .before .before .peek4 .ensures) ∙ c .before .if9 .left) (lit< tt) in
     omega arith)  -- read-atom-add-t26
     (λ c.
-    let inner = c .before .before .before .before .before .before .read-union2 in
-    length-set (inner .last .1 .1 .1 .0) (inner .result .2) (c .pack2 .result) ∙ inner .kept .1 .1 .1 .0)  -- read-atom-same-length-7
+    let read-union2 = c .before .before .before .before .before .before .read-union2 in
+    length-set (read-union2 .last .1 .1 .1 .0) (read-union2 .result .2) (c .pack2 .result) ∙ read-union2 .kept .1 .1 .1 .0)  -- read-atom-same-length-7
     (λ c.
     let at-peek4 = c .before .before in
     let at-if8 = at-peek4 .before in
@@ -314,11 +310,13 @@ pub +read-atom+read-sequence+read-step+read-union-spec : {M : Type 1} → statem
     (λ c κs. omega arith)  -- read-sequence-read-step-requires
     (λ c. search needs)  -- read-sequence-same-length
     (λ c.
-    let one = c .before .before .before .read-step in
-    sequence-refused (c .before .before .before .before .before .before .before .args .left) (one .ensures) (not-true (one .result .0) (c .if1 .taken)))  -- read-sequence-returns
+    let at-read-step = c .before .before .before in
+    let entry = at-read-step .before .before .before .before in
+    sequence-refused (entry .args .left) (at-read-step .read-step .ensures) (not-true (at-read-step .read-step .result .0) (c .if1 .taken)))  -- read-sequence-returns
     (λ c.
-    let one = c .before .before .before .read-step in
-    (refl, sequence-start (c .before .before .before .before .before .before .before .args .left) (one .ensures) (not-false (one .result .0) (c .if1 .left))))  -- read-sequence-loop-holds
+    let at-read-step = c .before .before .before in
+    let entry = at-read-step .before .before .before .before in
+    (refl, sequence-start (entry .args .left) (at-read-step .read-step .ensures) (not-false (at-read-step .read-step .result .0) (c .if1 .left))))  -- read-sequence-loop-holds
     (λ c κs. search needs)  -- read-sequence-peek-requires
     (λ c.
     let p = c .before .before .loop .inv .1 in
@@ -343,13 +341,13 @@ pub +read-atom+read-sequence+read-step+read-union-spec : {M : Type 1} → statem
     let at-read-step = at-loop .before .before .before .before in
     c .before .before .before .read-step2 .kept .1 .1 .1 .0 ∙ at-loop .loop .inv .0 ∙ at-read-step .read-step .kept .1 .1 .1 .0)  -- read-sequence-same-length-2
     (λ c.
-    let at-if2 = c .before .before .before .before .before in
-    let two = c .before .before .before .read-step2 in
+    let at-read-step2 = c .before .before .before in
+    let at-if2 = at-read-step2 .before .before in
     let at-peek = at-if2 .before in
     let at-loop = at-peek .before in
     let at-read-step = at-loop .before .before .before .before in
-    since (at-read-step .read-step .ensures .kept) (partly-refused (at-loop .loop .inv .1) (lit< tt) (sym (at-peek .peek .ensures) ∙ at-if2 .if2 .taken) (two .ensures)
-    (not-true (two .result .0) (c .if3 .taken))))  -- read-sequence-returns-2
+    since (at-read-step .read-step .ensures .kept) (partly-refused (at-loop .loop .inv .1) (lit< tt) (sym (at-peek .peek .ensures) ∙ at-if2 .if2 .taken)
+    (at-read-step2 .read-step2 .ensures) (not-true (at-read-step2 .read-step2 .result .0) (c .if3 .taken))))  -- read-sequence-returns-2
     (λ c.
     let p = c .before .before .before .before .before .before .before .loop .inv .1 in
     let mv = p .moved in
@@ -449,8 +447,9 @@ pub +read-atom+read-sequence+read-step+read-union-spec : {M : Type 1} → statem
     (λ c κs. omega arith)  -- read-step-read-atom-requires
     (λ c. search needs)  -- read-step-same-length
     (λ c.
-    let one = c .before .before .before .read-atom in
-    step-refused (c .before .before .before .before .before .before .before .args .left) (one .ensures) (not-true (one .result .0) (c .if1 .taken)))  -- read-step-returns
+    let at-read-atom = c .before .before .before in
+    let entry = at-read-atom .before .before .before .before in
+    step-refused (entry .args .left) (at-read-atom .read-atom .ensures) (not-true (at-read-atom .read-atom .result .0) (c .if1 .taken)))  -- read-step-returns
     (λ c κs.
     let b = is-stored (c .before .before .before .read-atom .ensures) (not-false (c .before .before .before .read-atom .result .0) (c .if1 .left)) in
     omega arith)  -- read-step-run-end-requires
@@ -474,12 +473,13 @@ pub +read-atom+read-sequence+read-step+read-union-spec : {M : Type 1} → statem
     omega arith)  -- read-step-add-t18
     (λ c. c .before .before .put-stars .kept .0 ∙ c .before .before .before .before .before .before .before .before .read-atom .kept .1 .1 .1 .0)  -- read-step-same-length-2
     (λ c.
-    let at-if1 = c .before .before .before .before .before in
-    let entry = at-if1 .before .before .before .before .before .before .before in
-    let one = c .before .before .before .before .before .before .before .before .read-atom in
-    let ran = c .before .before .before .before .run-end in
-    let put = c .before .before .put-stars in
-    step-read (entry .args .left) (one .ensures) (not-false (one .result .0) (at-if1 .if1 .left)) (ran .result) (ran .ensures) (put .last .0) (put .ensures)))  -- read-step-returns-2
+    let at-put-stars = c .before .before in
+    let at-run-end = at-put-stars .before .before in
+    let at-if1 = at-run-end .before in
+    let at-read-atom = at-if1 .before .before .before in
+    let entry = at-read-atom .before .before .before .before in
+    step-read (entry .args .left) (at-read-atom .read-atom .ensures) (not-false (at-read-atom .read-atom .result .0) (at-if1 .if1 .left)) (at-run-end .run-end .result)
+    (at-run-end .run-end .ensures) (at-put-stars .put-stars .last .0) (at-put-stars .put-stars .ensures)))  -- read-step-returns-2
     λ t. read-union-lts.spec (
       read-sequence-below t,
       read-sequence.Post,
@@ -495,11 +495,13 @@ pub +read-atom+read-sequence+read-step+read-union-spec : {M : Type 1} → statem
     (λ c κs. omega arith)  -- read-union-read-sequence-requires
     (λ c. search needs)  -- read-union-same-length
     (λ c.
-    let one = c .before .before .before .read-sequence in
-    union-refused (c .before .before .before .before .before .before .before .args .left) (one .ensures) (not-true (one .result .0) (c .if1 .taken)))  -- read-union-returns
+    let at-read-sequence = c .before .before .before in
+    let entry = at-read-sequence .before .before .before .before in
+    union-refused (entry .args .left) (at-read-sequence .read-sequence .ensures) (not-true (at-read-sequence .read-sequence .result .0) (c .if1 .taken)))  -- read-union-returns
     (λ c.
-    let one = c .before .before .before .read-sequence in
-    (refl, union-start (c .before .before .before .before .before .before .before .args .left) (one .ensures) (not-false (one .result .0) (c .if1 .left))))  -- read-union-loop-holds
+    let at-read-sequence = c .before .before .before in
+    let entry = at-read-sequence .before .before .before .before in
+    (refl, union-start (entry .args .left) (at-read-sequence .read-sequence .ensures) (not-false (at-read-sequence .read-sequence .result .0) (c .if1 .left))))  -- read-union-loop-holds
     (λ c κs. search needs)  -- read-union-peek-requires
     (λ c.
     let p = c .before .before .loop .inv .1 in
@@ -524,13 +526,14 @@ pub +read-atom+read-sequence+read-step+read-union-spec : {M : Type 1} → statem
     let at-read-sequence = at-loop .before .before .before .before in
     c .before .before .before .read-sequence2 .kept .1 .1 .1 .0 ∙ at-loop .loop .inv .0 ∙ at-read-sequence .read-sequence .kept .1 .1 .1 .0)  -- read-union-same-length-2
     (λ c.
-    let at-if2 = c .before .before .before .before .before in
-    let two = c .before .before .before .read-sequence2 in
+    let at-read-sequence2 = c .before .before .before in
+    let at-if2 = at-read-sequence2 .before .before in
     let at-peek = at-if2 .before in
     let at-loop = at-peek .before in
     let at-read-sequence = at-loop .before .before .before .before in
     since (at-read-sequence .read-sequence .ensures .kept)
-    (partly-refused (at-loop .loop .inv .1) (lit< tt) (sym (at-peek .peek .ensures) ∙ at-if2 .if2 .taken) (two .ensures) (not-true (two .result .0) (c .if3 .taken))))  -- read-union-returns-2
+    (partly-refused (at-loop .loop .inv .1) (lit< tt) (sym (at-peek .peek .ensures) ∙ at-if2 .if2 .taken) (at-read-sequence2 .read-sequence2 .ensures)
+    (not-true (at-read-sequence2 .read-sequence2 .result .0) (c .if3 .taken))))  -- read-union-returns-2
     (λ c.
     let p = c .before .before .before .before .before .before .before .loop .inv .1 in
     let mv = p .moved in
