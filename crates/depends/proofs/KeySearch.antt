@@ -1,22 +1,17 @@
 -- The loops that look for another right key, part by part of the lists. Assumes nothing.
 use lib.Dec.{eqb}
-use lib.ListN.{drop, drop-of-length-le, getD, length, take, take-append-drop}
-use lib.Seq.{drop-append-le, length-slice, length-take-le, slice, slice-empty, take-take}
+use lib.ListN.{drop-of-length-le, getD, length, take}
+use lib.Seq.{length-slice, length-take-le, slice, slice-empty}
 use mathlib.Core.Bool.{Bool, true, false, not, _&&_, _||_, or-assoc, or-false}
 use mathlib.Core.List.{List, [], _∷_, _++_}
 use mathlib.Core.Path.{_≡_, refl, sym, ap, _∙_}
 use native.Mathlib.Omega.{arith}
 use Prim.Native.Nat.{ℕ, _+_, _≤_, _<_}
-use Rattle.meaning.proofs.Lists.Parts.{slice-front}
+use Rattle.meaning.proofs.Lists.Parts.{slice-front, slice-join}
 use Rattle.meaning.specs.Limits.{maxRows}
 use Rattle.depends.specs.Keys.{differs, hasLeft}
 
 -- ---- parts
-
-slice-join : (f m t : ℕ) (xs : List ℕ) → f ≤ m → m ≤ t → t ≤ length xs → slice f t xs ≡ slice f m xs ++ slice m t xs
-slice-join f m t xs h k g =
-    let e : take t xs ≡ take m xs ++ drop m (take t xs) = sym (rw (take-take m t xs k) at (take-append-drop m (take t xs))) in
-    ap (drop f) e ∙ drop-append-le f (take m xs) (drop m (take t xs)) (omega (arith, length-take-le m xs (omega arith)))
 
 differs-join : (l r : ℕ) (ws xs ys zs : List ℕ) → length ws ≡ length ys → differs l r (ws ++ xs) (ys ++ zs) ≡ (differs l r ws ys || differs l r xs zs)
 unfolding differs
@@ -28,7 +23,7 @@ differs-join l r (w ∷ ws) xs (y ∷ ys) zs e =
 
 -- no left key is this one, so none has another right key
 pub left-differs : (l r : ℕ) (xs ys : List ℕ) → hasLeft l xs ≡ false → false ≡ differs l r xs ys
-unfolding differs hasLeft
+unfolding differs
 left-differs l r [] ys e = refl
 left-differs l r (x ∷ xs) [] e = refl
 left-differs l r (x ∷ xs) (y ∷ ys) e = go (eqb x l) e (left-differs l r xs ys)
@@ -84,11 +79,9 @@ module _ {ls rs : List ℕ} {l r from n i : ℕ} (p : Looking ls rs l r from n i
 
 module _ (ls : List ℕ) (l i : ℕ) (h : i + 4 ≤ length ls) where
   front : (f g : ℕ) → g ≡ f + 1 → f < i + 4 → hasLeft l (slice f (i + 4) ls) ≡ (eqb (getD ls f 0) l || hasLeft l (slice g (i + 4) ls))
-  unfolding hasLeft
   front f g e k = rw (e, slice-front f (i + 4) ls 0 k h)
 
   last : hasLeft l (slice (i + 3) (i + 4) ls) ≡ eqb (getD ls (i + 3) 0) l
-  unfolding hasLeft
   last = rw (front (i + 3) (i + 4) (omega arith) (omega arith), slice-empty (i + 4) ls) (or-false (eqb (getD ls (i + 3) 0) l))
 
   pub four-left : (eqb (getD ls i 0) l || eqb (getD ls (i + 1) 0) l || eqb (getD ls (i + 2) 0) l || eqb (getD ls (i + 3) 0) l) ≡ hasLeft l (slice i (i + 4) ls)

@@ -6,6 +6,7 @@ use mathlib.Core.List.{List, [], _∷_, map}
 use Prim.Native.Nat.{ℕ, _/_, _%_}
 use Rattle.meaning.specs.Limits.{maxColumns, maxValues}
 use Rattle.meaning.specs.Tables.{packed}
+use Rattle.meaning.specs.Tests.{any}
 
 -- a column's place in a key: none, where the mask's lowest bit is 0
 abbrev pub named : Bool → ℕ → List ℕ → List ℕ
@@ -29,9 +30,8 @@ unfoldable pub columnsAt : List ℕ → ℕ → List ℕ
 columnsAt rows first = map low (take maxColumns (drop first rows))
 
 -- some entry has this left key
-unfoldable pub hasLeft : ℕ → List ℕ → Bool
-hasLeft l [] = false
-hasLeft l (x ∷ xs) = eqb x l || hasLeft l xs
+abbrev pub hasLeft : ℕ → List ℕ → Bool
+hasLeft l = any (λ x. eqb x l)
 
 -- some entry has this left key and another right key
 unfoldable pub differs : ℕ → ℕ → List ℕ → List ℕ → Bool

@@ -9,7 +9,7 @@ ghost use Rattle.meaning.specs.Limits.{maxColumns, maxRows, rowsLength};
 ghost use Rattle.meaning.specs.WellFormed.{broken};
 ghost use Rattle.names.specs.PackGiven.{ForResolved, IsResolved};
 ghost use Rattle.depends.specs.Answer.{dependencyOf, SaysBreaks, SaysBroken};
-ghost use Rattle.depends.specs.Keys.{columnsAt, differs, hasLeft, columnsKey};
+ghost use Rattle.depends.specs.Keys.{columnsAt, columnsKey, differs, hasLeft};
 use meaning::BODIES;
 use meaning::DEPENDENCIES_AT;
 use meaning::DEPENDENCIES_BODY;

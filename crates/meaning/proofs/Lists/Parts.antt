@@ -1,7 +1,7 @@
 -- Parts of a list by their places. Assumes nothing.
-use lib.ListN.{drop, getD, length, length-drop, length-take, take}
-use lib.Seq.{drop-drop, ext-getD, getD-drop, getD-take, slice, slice-cons, take-take}
-use mathlib.Core.List.{List, [], _∷_}
+use lib.ListN.{drop, getD, length, length-drop, length-take, take, take-append-drop}
+use lib.Seq.{drop-append-le, drop-drop, ext-getD, getD-drop, getD-take, length-take-le, slice, slice-cons, take-take}
+use mathlib.Core.List.{List, [], _∷_, _++_}
 use mathlib.Core.Path.{_≡_, sym, ap, _∙_}
 use native.Mathlib.Nat.{zero-add, suc-add, add-sub-cancel-left}
 use native.Mathlib.Numerals.{add-one}
@@ -27,6 +27,12 @@ module _ {A : Type 0} where
 
   pub slice-front : (f t : ℕ) (l : List A) (d : A) → f < t → t ≤ length l → slice f t l ≡ getD l f d ∷ slice (f + 1) t l
   slice-front f t l d h k = rw add-one (slice-cons f t l d h k)
+
+  -- a part in two
+  pub slice-join : (f m t : ℕ) (l : List A) → f ≤ m → m ≤ t → t ≤ length l → slice f t l ≡ slice f m l ++ slice m t l
+  slice-join f m t l h k g =
+      let e : take t l ≡ take m l ++ drop m (take t l) = sym (rw (take-take m t l k) at (take-append-drop m (take t l))) in
+      ap (drop f) e ∙ drop-append-le f (take m l) (drop m (take t l)) (omega (arith, length-take-le m l (omega arith)))
 
   -- a part of the front of a list
   pub part-of : (l p : List A) (m k w : ℕ) → take m l ≡ p → k + w ≤ m → take w (drop k l) ≡ take w (drop k p)
