@@ -78,8 +78,8 @@ module _ {counts numbers : List ℕ} {found : AllHeads} {heads : List ℕ} {tabl
   large-answer e q x y P g =
       large (subst (λ (o : Outcome). CoreAnswer o table rules (found .count) heads (found .counts) nodes triples masks) e (k .answer) P (heads-held (k .tables) g) (within g)) q x y
 
-  module _ {n t : ℕ} (e : r ≡ Held n t) where
-    listed : CoreListed n t table rules (found .count) heads (found .counts) nodes triples masks
+  module _ {n t rounds : ℕ} (e : r ≡ Held n t rounds) where
+    listed : CoreListed n t rounds table rules (found .count) heads (found .counts) nodes triples masks
     listed = subst (λ (o : Outcome). CoreAnswer o table rules (found .count) heads (found .counts) nodes triples masks) e (k .answer)
 
     -- as many as are taken of the two lists

@@ -131,7 +131,7 @@ fn from_heads(
         &mut masks,
     ) {
         Outcome::TooLarge => refused(9),
-        Outcome::Held(n, t) => from_core(
+        Outcome::Held(n, t, _) => from_core(
             shapes,
             arities(counts, numbers),
             &keys[..n],

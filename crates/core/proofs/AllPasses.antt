@@ -9,11 +9,13 @@ use native.Mathlib.Omega.{arith}
 use Prim.Native.Nat.{ℕ, _≤_, _<_}
 use Rattle.core.proofs.NodeKeys.{link-keys, subject-in}
 use Rattle.core.proofs.TripleKeys.{link-triple, no-triple}
-use Rattle.core.proofs.TypeSources.{decoded, types-at}
+use Rattle.core.proofs.Rounds.{few-rounds, rounds-over, rounds-some}
+use Rattle.core.proofs.TypeSources.{decoded, spread-over, types-at}
 use Rattle.core.specs.Bounds.{HeadFits, HeadsFit}
 use Rattle.core.specs.Collected.{FromRules, SetGrown, KnownMatch, KnownRules, TypesMarked, HeadType, nodeKeys, objectKey, subjectKey, tripleKeys}
 use Rattle.core.specs.Heads.{kindNumber, namedNumber}
 use Rattle.core.specs.Outcomes.{CoreListed, NodeKeysListed, TripleKeysListed, TypesAnswer}
+use Rattle.core.specs.Rounds.{SettledIn}
 use Rattle.core.specs.Spread.{AllTriplesFit, TripleFits, SpreadFrom}
 use Rattle.meaning.specs.Limits.{maxCoreNodes, maxCoreTriples, maxIris}
 use Rattle.meaning.specs.Member.{_∈_}
@@ -25,15 +27,23 @@ use Rattle.sets.specs.Buffers.{zeros}
 use Rattle.sets.specs.Ordered.{rankOf}
 use Rattle.meaning.proofs.Lists.Members.{only-new}
 use Rattle.meaning.proofs.Lists.Places.{zeros-at}
+use Rattle.meaning.proofs.Model.Core.{spread-number}
+use Rattle.meaning.proofs.Model.Resolved.{resolved}
 
 -- ---- types, from cleared masks on
 
 module _ {rules : List (List ℕ)} {count : ℕ} {heads counts : List ℕ} (fit : HeadsFit rules count heads counts) where
   pub types-answer : (nodes : List ℕ) → length nodes ≤ maxCoreNodes → (triples before : List ℕ) → before ≡ zeros (length before) → (start : List ℕ)
       → TypesMarked (FromRules (HeadType nodes) rules count heads counts) before start → (table : List (List ℕ)) (after : List ℕ)
-      → SpreadFrom table triples start after → TypesAnswer table rules count heads counts nodes triples after
-  types-answer nodes few triples before e start marked table after spread P h b tab l ts =
-      types-at fit nodes few P h b l triples ts before start (λ i. ap (λ (x : List ℕ). getD x i 0) e ∙ zeros-at (length before) i) marked table tab after spread
+      → SpreadFrom table triples start after → {rounds : ℕ} → SettledIn table triples rounds start after
+      → TypesAnswer rounds table rules count heads counts nodes triples after
+  types-answer nodes few triples before e start marked table after spread settled P h b tab l ts =
+      let none : (i : ℕ) → getD before i 0 ≡ 0 = λ i. ap (λ (x : List ℕ). getD x i 0) e ∙ zeros-at (length before) i in
+      let made = settled (P .setting) tab .made in (
+        types-at fit nodes few P h b l triples ts before start none marked table tab after spread,
+        few-rounds (rounds-some made) (λ k m. spread-over fit nodes few P h b l triples ts before start none marked tab spread (rounds-over made k m))
+            (spread-number P (resolved P (b .resolved)) .1),
+      )
 
   -- ---- what the passes suppose of each other
 
@@ -66,18 +76,19 @@ module _ {rules : List (List ℕ)} {count : ℕ} {heads counts : List ℕ} (fit 
 
 -- ---- the whole
 
-pub core-listed : {n t : ℕ} {table rules : List (List ℕ)} {count : ℕ} {heads counts nodes₀ nodes triples₀ triples masks : List ℕ}
+pub core-listed : {n t rounds : ℕ} {table rules : List (List ℕ)} {count : ℕ} {heads counts nodes₀ nodes triples₀ triples masks : List ℕ}
     → NodeKeysListed n rules count heads counts nodes₀ nodes → TripleKeysListed t (take n nodes) rules count heads counts triples₀ triples
-    → TypesAnswer table rules count heads counts (take n nodes) (take t triples) masks
+    → TypesAnswer rounds table rules count heads counts (take n nodes) (take t triples) masks
     → length nodes ≡ maxCoreNodes → length triples ≡ maxCoreTriples → maxCoreNodes ≤ length masks
-    → CoreListed n t table rules count heads counts nodes triples masks
+    → CoreListed n t rounds table rules count heads counts nodes triples masks
 core-listed {n} {t} {nodes = nodes} {triples = triples} a b c l k m = record {
   few-nodes = omega (arith, a .grown .fits, l);
   few-triples = omega (arith, b .grown .fits, k);
   held = λ P h bd tab.
       let ns = a .list P h bd in
       let ts = b .list P h bd ns in
-      record { node-keys = ns; triple-keys = ts; long = omega (arith, length-take n nodes, a .grown .fits, l, m); types = c P h bd tab ns ts };
+      record { node-keys = ns; triple-keys = ts; long = omega (arith, length-take n nodes, a .grown .fits, l, m); types = c P h bd tab ns ts .0 };
+  settled = λ P h bd tab. let ns = a .list P h bd in c P h bd tab ns (b .list P h bd ns) .1;
   within = λ P h bd. neither P (a .within P h bd) (b .within P h bd (a .list P h bd));
 }
   where

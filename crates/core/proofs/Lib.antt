@@ -13,6 +13,8 @@ pub mod TypeSources
 pub mod NodeKeys
 pub mod TripleKeys
 pub mod Marking
+pub mod Walks
+pub mod Rounds
 pub mod Spreading
 pub mod Declared
 pub mod Shapes

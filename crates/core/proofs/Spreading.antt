@@ -1,28 +1,37 @@
--- Types passed along one triple, along all in a round, and round by round until nothing changes. Assumes nothing.
+-- Types passed along one triple, along all in a round, and round by round until nothing is added. Assumes nothing.
 use lib.Bits.{bitOr, and-le-r, or-add-and, or-lt}
-use lib.ListN.{length, getD, set, take}
-use lib.Seq.{getD-set-same, getD-set-other, set-getD, take-all}
+use lib.ListN.{length, length-reverse, getD, set, take}
+use lib.Seq.{getD-set-same, getD-set-other, set-getD, take-all, take-suc}
 use mathlib.Core.Bool.{Bool, true, false}
-use mathlib.Core.List.{List, [], _∷_}
+use mathlib.Core.List.{List, [], _∷_, _++_}
 use mathlib.Core.Logic.{_↔_, _⊎_, inl, inr}
-use mathlib.Core.Path.{_≡_, refl, sym, _∙_, subst}
+use mathlib.Core.Path.{_≡_, refl, sym, ap, _∙_, subst}
 use native.Mathlib.Decide.{ℕ-discrete}
 use native.Mathlib.Nat.{not-suc-le-zero, le-of-suc-le-suc}
+use native.Mathlib.Numerals.{add-one}
 use native.Mathlib.Omega.{arith}
-use Prim.Native.Nat.{ℕ, zero, suc, _+_, _^_, _≤_, _<_, zero-le}
+use Prim.Native.Nat.{ℕ, zero, suc, _+_, _*_, _^_, _≤_, _<_, zero-le}
 use Rattle.core.specs.Keys.{objectOf, predicateOf, subjectOf}
-use Rattle.core.specs.Spread.{Carried, PassShown, Passed, PassedOnce, Passes, SpreadRoundShown, SpreadFrom, along, held, maskRoom}
-use Rattle.meaning.specs.Member.{_∈_}
+use Rattle.core.proofs.Rounds.{rounds-least, settled}
+use Rattle.core.proofs.Walks.{walk-keeps, walk-on}
+use Rattle.core.specs.Rounds.{Rounds, RoundsOn, SettledIn, SomeAdded, Walked, done, inTurn, last, more, turnAt}
+use Rattle.core.specs.Spread.{Carried, PassShown, PassedOnce, Passes, SpreadFrom, maskRoom}
+use Rattle.meaning.specs.Limits.{maxCoreNodes}
 use Rattle.meaning.specs.Pack.{Setting, Shape, Target, type}
 use Rattle.meaning.specs.Tables.{setOfMask}
 use Rattle.meaning.specs.TypeSet.{_∈ₜ_}
-use Rattle.shapes.proofs.Sets.{none-in, union-in}
+use Rattle.shapes.proofs.Sets.{new-member, none-in, union-in}
 use Rattle.shapes.specs.Shapes.{SomeShape, Tabled, TargetsOf}
 use Rattle.sets.proofs.Progress.{nearer}
 use Rattle.sets.specs.Buffers.{zeros}
 use Rattle.sets.specs.Progress.{Progress}
-use Rattle.meaning.proofs.Lists.Places.{zeros-at, ∈-at}
-use Rattle.meaning.proofs.Lists.Members.{front-more}
+use Rattle.meaning.proofs.Lists.Places.{reverse-at, zeros-at}
+
+pub true-not-false : {A : Type 0} → true ≡ false → A
+true-not-false e = absurd (let z : _≡_ {A = ℕ} 0 1 = cc in omega arith)
+
+pub false-not-true : {A : Type 0} → false ≡ true → A
+false-not-true e = true-not-false (sym e)
 
 -- ---- one triple
 
@@ -62,6 +71,11 @@ module _ (table : List (List ℕ)) (k t : ℕ) (d : List ℕ) (l : objectOf k < 
 
     pub pass-same : new ≡ getD d (objectOf k) 0 → PassedOnce S k d d
     pass-same e = let same : set d (objectOf k) new ≡ d = rw e (set-getD d (objectOf k) 0) in subst (PassedOnce S k d) same pass-more
+
+  pub pass-adds : (new ≡ getD d (objectOf k) 0 → ⊥) → SomeAdded d (set d (objectOf k) new)
+  pass-adds n =
+      let (R, h, g) = new-member (getD d (objectOf k) 0) t a b n in
+      ((objectOf k, R), record { has = rw (getD-set-same d (objectOf k) new 0 l) h; had-not = g })
 
   pub pass-nearer : (new ≡ getD d (objectOf k) 0 → ⊥) → maskRoom (set d (objectOf k) new) < maskRoom d
   pass-nearer n = room-set d (objectOf k) new l (omega (arith, n, or-ge (getD d (objectOf k) 0) t)) (or-lt 16 (getD d (objectOf k) 0) t a b)
@@ -109,133 +123,156 @@ module _ {S : Setting} {triples passed d : List ℕ} (car : Carried S triples pa
 carried-start : (S : Setting) (triples d : List ℕ) (n : ℕ) → Carried S triples (zeros n) d
 carried-start S triples d n = record { held = λ i h R s. absurd (no-shape (rw (zeros-at n i) at s)) }
 
--- ---- one round: the first i triples are done
+-- ---- one round: the first i turns are taken
 
-record RoundOf (S : Setting) (triples : List ℕ) (i : ℕ) (changed : Bool) (d₀ d : List ℕ) : Type 0 where
-  keeps : (j : ℕ) (R : Target) → R ∈ₜ setOfMask (getD d₀ j 0) → R ∈ₜ setOfMask (getD d j 0)
-  only : (j : ℕ) (R : Target) → R ∈ₜ setOfMask (getD d j 0) → Passed S triples d₀ j R
-  all : changed ≡ false → (k : ℕ) → k ∈ take i triples → (j : ℕ) (R : Target) → Passes S d k j R → R ∈ₜ setOfMask (getD d j 0)
+record Turns (S : Setting) (triples : List ℕ) (back : Bool) (i : ℕ) (changed : Bool) (p d₀ d : List ℕ) : Type 0 where
+  walked : Walked S (take i (inTurn back triples)) d₀ d
+  carried : Carried S triples p d
+  added : changed ≡ true → SomeAdded d₀ d
 
-pub record RoundDone (table : List (List ℕ)) (triples : List ℕ) (i : ℕ) (changed : Bool) (p₀ p d₀ d : List ℕ) : Type 0 where
+pub record RoundDone (table : List (List ℕ)) (triples : List ℕ) (back : Bool) (i : ℕ) (changed : Bool) (p₀ p d₀ d : List ℕ) : Type 0 where
   pub within : i ≤ length triples
   pub long : length d ≡ length d₀
-  done : (S : Setting) → Tabled S table → Carried S triples p₀ d₀ → RoundOf S triples i changed d₀ d × Carried S triples p d
+  turns : (S : Setting) → Tabled S table → Carried S triples p₀ d₀ → Turns S triples back i changed p d₀ d
   pub progress : Progress maskRoom changed d₀ d
 
-pub round-start : (table : List (List ℕ)) (triples p d : List ℕ) → RoundDone table triples 0 false p p d d
-round-start table triples p d = record {
+pub round-start : (table : List (List ℕ)) (triples : List ℕ) (back : Bool) (p d : List ℕ) → RoundDone table triples back 0 false p p d d
+round-start table triples back p d = record {
   within = zero-le;
   long = refl;
-  done = λ S tab car. (record { keeps = λ j R h. h; only = λ j R h. held h; all = λ e k m. elim m [ ] }, car);
+  turns = λ S tab car. record { walked = done; carried = car; added = false-not-true };
   progress = refl;
 }
 
-true-not-false : {A : Type 0} → true ≡ false → A
-true-not-false e = absurd (let z : _≡_ {A = ℕ} 0 1 = cc in omega arith)
+-- the triple of a turn
+module _ (triples : List ℕ) (i : ℕ) (h : i < length triples) where
+  pub turn-inside : (back : Bool) → turnAt back (length triples) i < length triples
+  turn-inside false = h
+  turn-inside true = omega arith
 
-module _ {table : List (List ℕ)} {triples : List ℕ} {i : ℕ} {changed : Bool} {p₀ p d₀ d : List ℕ} (r : RoundDone table triples i changed p₀ p d₀ d)
-    (h : i < length triples) where
+  turn-key : (back : Bool) → getD (inTurn back triples) i 0 ≡ getD triples (turnAt back (length triples) i) 0
+  turn-key false = refl
+  turn-key true = reverse-at triples i 0 h
+
+  turns-long : (back : Bool) → length (inTurn back triples) ≡ length triples
+  turns-long false = refl
+  turns-long true = length-reverse triples
+
+  turn-more : (back : Bool) → take (i + 1) (inTurn back triples) ≡ take i (inTurn back triples) ++ (getD triples (turnAt back (length triples) i) 0 ∷ [])
+  turn-more back =
+      ap (λ k. take k (inTurn back triples)) (add-one i) ∙ take-suc (inTurn back triples) i 0 (omega (arith, turns-long back))
+      ∙ ap (λ k. take i (inTurn back triples) ++ (k ∷ [])) (turn-key back)
+
+module _ {table : List (List ℕ)} {triples : List ℕ} {back : Bool} {i : ℕ} {changed : Bool} {p₀ p d₀ d : List ℕ}
+    (r : RoundDone table triples back i changed p₀ p d₀ d) (h : i < length triples) (at : ℕ) (turn : at ≡ turnAt back (length triples) i) where
+  here-inside : at < length triples
+  here-inside = rw turn (turn-inside triples i h back)
+
   abbrev key : ℕ
-  key = getD triples i 0
+  key = getD triples at 0
 
   abbrev from : ℕ
   from = getD d (subjectOf key) 0
 
-  module _ {S : Setting} (o : RoundOf S triples i changed d₀ d) (d′ : List ℕ) (q : PassedOnce S key d d′) where
-    hit : RoundOf S triples (i + 1) true d₀ d′
-    hit = record {
-      keeps = λ j R m. q j R .1 (inl (o .keeps j R m));
-      only = λ j R m. go j R (q j R .0 m);
-      all = true-not-false;
-    }
-      where
-        go : (j : ℕ) (R : Target) → (R ∈ₜ setOfMask (getD d j 0)) ⊎ Passes S d key j R → Passed S triples d₀ j R
-        go j R (inl m) = o .only j R m
-        go j R (inr m) =
-            along (∈-at triples i h) (o .only (subjectOf key) (type (m .shape .member)) (m .shape .has)) (m .shape .declared) (m .to) (m .shape .holds)
+  walk-more : {S : Setting} {d′ : List ℕ} → Walked S (take i (inTurn back triples)) d₀ d → PassedOnce S key d d′ → Walked S (take (i + 1) (inTurn back triples)) d₀ d′
+  walk-more {S} {d′} w q =
+      let e = turn-more triples i h back ∙ ap (λ k. take i (inTurn back triples) ++ (getD triples k 0 ∷ [])) (sym turn) in
+      subst (λ (ks : List ℕ). Walked S ks d₀ d′) (sym e) (walk-on w q)
 
-    miss : d′ ≡ d → RoundOf S triples (i + 1) changed d₀ d
-    miss e = record { keeps = o .keeps; only = o .only; all = λ c k m. go c k (front-more triples i h k .0 m) }
-      where
-        go : changed ≡ false → (k : ℕ) → (k ∈ take i triples) ⊎ (k ≡ key) → (j : ℕ) (R : Target) → Passes S d k j R → R ∈ₜ setOfMask (getD d j 0)
-        go c k (inl m) j R q = o .all c k m j R q
-        go c k (inr f) j R m = subst (λ (x : List ℕ). R ∈ₜ setOfMask (getD x j 0)) e (q j R .1 (inr (subst (λ x. Passes S d x j R) f m)))
-
-  pub round-skip : getD p i 0 ≡ from → RoundDone table triples (i + 1) changed p₀ p d₀ d
+  pub round-skip : getD p at 0 ≡ from → RoundDone table triples back (i + 1) changed p₀ p d₀ d
   round-skip e = record {
     within = omega arith;
     long = r .long;
-    done = λ S tab car. let o = r .done S tab car in (miss (o .0) d (pass-skip (o .1) i h e) refl, o .1);
+    turns = λ S tab car. let o = r .turns S tab car in
+        record { walked = walk-more (o .walked) (pass-skip (o .carried) at here-inside e); carried = o .carried; added = o .added };
     progress = r .progress;
   }
 
   module _ (d′ : List ℕ) (s : PassShown table key d d′) (l : length d′ ≡ length d) where
-    pub round-hit : Progress maskRoom true d d′ → RoundDone table triples (i + 1) true p₀ (set p i from) d₀ d′
-    round-hit n = record {
+    pub round-hit : Progress maskRoom true d d′ → SomeAdded d d′ → RoundDone table triples back (i + 1) true p₀ (set p at from) d₀ d′
+    round-hit n (f, x) = record {
       within = omega arith;
       long = l ∙ r .long;
-      done = λ S tab car. let o = r .done S tab car in (hit (o .0) d′ (s S tab), pass-carried (o .1) i h (s S tab));
+      turns = λ S tab car. let o = r .turns S tab car in record {
+        walked = walk-more (o .walked) (s S tab);
+        carried = pass-carried (o .carried) at here-inside (s S tab);
+        added = λ e. (f, record { has = x .has; had-not = λ m. x .had-not (walk-keeps (o .walked) (f .0) (f .1) m) });
+      };
       progress = nearer maskRoom changed d₀ d d′ (r .progress) n;
     }
 
-    pub round-miss : Progress maskRoom false d d′ → RoundDone table triples (i + 1) changed p₀ (set p i from) d₀ d′
-    round-miss e = subst (RoundDone table triples (i + 1) changed p₀ (set p i from) d₀) (sym e) (record {
+    pub round-miss : Progress maskRoom false d d′ → RoundDone table triples back (i + 1) changed p₀ (set p at from) d₀ d′
+    round-miss e = subst (RoundDone table triples back (i + 1) changed p₀ (set p at from) d₀) (sym e) (record {
       within = omega arith;
       long = r .long;
-      done = λ S tab car. let o = r .done S tab car in (miss (o .0) d′ (s S tab) e, subst (Carried S triples (set p i from)) e (pass-carried (o .1) i h (s S tab)));
+      turns = λ S tab car. let o = r .turns S tab car in record {
+        walked = walk-more (o .walked) (subst (PassedOnce S key d) e (s S tab));
+        carried = subst (Carried S triples (set p at from)) e (pass-carried (o .carried) at here-inside (s S tab));
+        added = o .added;
+      };
       progress = r .progress;
     })
 
-pub round-done : {table : List (List ℕ)} {triples : List ℕ} {i : ℕ} {changed : Bool} {p₀ p d₀ d : List ℕ} → RoundDone table triples i changed p₀ p d₀ d
-    → length triples ≤ i → SpreadRoundShown table triples changed p₀ p d₀ d
-round-done {triples = triples} {i} r h S tab car =
-    let o = r .done S tab car in (
-      record {
-        keeps = o .0 .keeps;
-        only = o .0 .only;
-        all = λ c k m. o .0 .all c k (subst (λ (xs : List ℕ). k ∈ xs) (sym (take-all i triples h)) m);
-      },
-      o .1,
-    )
+pub round-done : {table : List (List ℕ)} {triples : List ℕ} {back : Bool} {i : ℕ} {changed : Bool} {p₀ p d₀ d : List ℕ}
+    → RoundDone table triples back i changed p₀ p d₀ d → length triples ≤ i → RoundsOn table triples back changed p₀ p d₀ d
+round-done {triples = triples} {back} {i} {d₀ = d₀} {d} r h S tab car =
+    let o = r .turns S tab car in
+    record {
+      walked = subst (λ (ks : List ℕ). Walked S ks d₀ d) (take-all i (inTurn back triples) (all back)) (o .walked);
+      carried = o .carried;
+      added = o .added;
+    }
+  where
+    all : (back : Bool) → length (inTurn back triples) ≤ i
+    all false = h
+    all true = omega (arith, length-reverse triples)
 
--- ---- round by round
+-- ---- round by round: so many are made, each of which added something
 
-record SpreadOf (S : Setting) (triples d₀ d : List ℕ) : Type 0 where
-  keeps : (j : ℕ) (R : Target) → R ∈ₜ setOfMask (getD d₀ j 0) → R ∈ₜ setOfMask (getD d j 0)
-  only : (j : ℕ) (R : Target) → R ∈ₜ setOfMask (getD d j 0) → Passed S triples d₀ j R
-
-pub record Spreading (table : List (List ℕ)) (triples p d₀ d : List ℕ) : Type 0 where
+pub record Spreading (table : List (List ℕ)) (triples : List ℕ) (rounds : ℕ) (p d₀ d : List ℕ) : Type 0 where
   pub long : length d ≡ length d₀
-  spread : (S : Setting) → Tabled S table → SpreadOf S triples d₀ d × Carried S triples p d
+  carried : (S : Setting) → Tabled S table → Carried S triples p d
+  so-far : (S : Setting) → Tabled S table → {n : ℕ} {c : List ℕ} → Rounds S triples n d c → Rounds S triples (n + rounds) d₀ c
+  pub room : rounds + maskRoom d ≤ maskRoom d₀
 
-pub spread-start : (table : List (List ℕ)) (triples d : List ℕ) (n : ℕ) → Spreading table triples (zeros n) d d
+pub spread-start : (table : List (List ℕ)) (triples d : List ℕ) (n : ℕ) → Spreading table triples 0 (zeros n) d d
 spread-start table triples d n = record {
   long = refl;
-  spread = λ S tab. (record { keeps = λ j R h. h; only = λ j R h. held h }, carried-start S triples d n);
+  carried = λ S tab. carried-start S triples d n;
+  so-far = λ S tab {n} {c} r. subst (λ k. Rounds S triples k d c) (omega arith) r;
+  room = omega arith;
 }
 
--- what follows from what follows
-passed-again : {S : Setting} {triples d₀ d : List ℕ} → ((j : ℕ) (R : Target) → R ∈ₜ setOfMask (getD d j 0) → Passed S triples d₀ j R)
-    → {j : ℕ} {R : Target} → Passed S triples d j R → Passed S triples d₀ j R
-passed-again f (held {i} {R} h) = f i R h
-passed-again f (along m q s e g) = along m (passed-again f q) s e g
+-- no overflow
+room-most : (d : List ℕ) → maskRoom d ≤ 65535 * length d
+room-most [] = omega arith
+room-most (m ∷ ms) = omega (arith, room-most ms)
 
-module _ {table : List (List ℕ)} {triples p p′ d₀ d d′ : List ℕ} {changed : Bool} (s : Spreading table triples p d₀ d) (l : length d′ ≡ length d)
-    (r : SpreadRoundShown table triples changed p p′ d d′) where
-  pub spread-again : Spreading table triples p′ d₀ d′
-  spread-again = record {
-    long = l ∙ s .long;
-    spread = λ S tab. let o = s .spread S tab in let q = r S tab (o .1) in (
-      record { keeps = λ j R h. q .0 .keeps j R (o .0 .keeps j R h); only = λ j R h. passed-again (o .0 .only) (q .0 .only j R h) },
-      q .1,
-    );
-  }
+module _ {table : List (List ℕ)} {triples : List ℕ} {rounds : ℕ} {p d₀ d : List ℕ} (s : Spreading table triples rounds p d₀ d) where
+  pub rounds-few : length d₀ ≡ maxCoreNodes → rounds ≤ 65535 * maxCoreNodes
+  rounds-few e = let r : maskRoom d₀ ≤ 65535 * maxCoreNodes = rw e at (room-most d₀) in omega (arith, s .room)
 
-  -- after a round that adds nothing these are all
-  pub spread-done : changed ≡ false → SpreadFrom table triples d₀ d′
-  spread-done c S tab j R = (spread-again .spread S tab .0 .only j R, complete)
-    where
-      complete : {j : ℕ} {R : Target} → Passed S triples d₀ j R → R ∈ₜ setOfMask (getD d′ j 0)
-      complete (held {i} {R} h) = spread-again .spread S tab .0 .keeps i R h
-      complete (along {k} {i} {t} {shape} {R} m q d e g) =
-          r S tab (s .spread S tab .1) .0 .all c k m i R (record { to = e; shape = record { member = t; shape = shape; has = complete q; declared = d; holds = g } })
+  module _ {p′ d′ : List ℕ} {back changed : Bool} (l : length d′ ≡ length d) (r : RoundsOn table triples back changed p p′ d d′) where
+    pub spread-again : changed ≡ true → maskRoom d′ < maskRoom d → Spreading table triples (rounds + 1) p′ d₀ d′
+    spread-again some less = record {
+      long = l ∙ s .long;
+      carried = λ S tab. r S tab (s .carried S tab) .carried;
+      so-far = so-far;
+      room = let k = s .room in omega arith;
+    }
+      where
+        so-far : (S : Setting) → Tabled S table → {n : ℕ} {c : List ℕ} → Rounds S triples n d′ c → Rounds S triples (n + (rounds + 1)) d₀ c
+        so-far S tab {n} {c} q =
+            let o = r S tab (s .carried S tab) in
+            subst (λ k. Rounds S triples k d₀ c) (omega arith) (s .so-far S tab (more (record { back = back; walked = o .walked }) (o .added some .1) q))
+
+    -- after a round that adds nothing these are all
+    pub all-made : d′ ≡ d → (S : Setting) → Tabled S table → Rounds S triples (rounds + 1) d₀ d′
+    all-made e S tab =
+        let o = r S tab (s .carried S tab) in
+        subst (λ k. Rounds S triples k d₀ d′) (omega arith)
+        (s .so-far S tab (last (record { back = back; walked = o .walked }) (λ f x. x .had-not (subst (λ (m : List ℕ). f .1 ∈ₜ setOfMask (getD m (f .0) 0)) e (x .has)))))
+
+pub spread-done : {table : List (List ℕ)} {triples : List ℕ} {rounds : ℕ} {d₀ d : List ℕ} → ((S : Setting) → Tabled S table → Rounds S triples rounds d₀ d)
+    → SpreadFrom table triples d₀ d × SettledIn table triples rounds d₀ d
+spread-done made = (λ S tab. rounds-least (made S tab), λ S tab. settled (made S tab))

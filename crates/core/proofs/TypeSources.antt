@@ -15,14 +15,17 @@ use Rattle.core.specs.Collected.{FromRules, TypesMarked, HeadType}
 use Rattle.core.specs.Heads.{HeadsHeld}
 use Rattle.core.specs.CoreHeld.{NodeKey, TripleKey}
 use Rattle.core.specs.Keys.{keyOf, objectOf, predicateOf, subjectOf, tripleKey}
+use Rattle.core.specs.Rounds.{AddedFact}
 use Rattle.core.specs.Spread.{Passed, SpreadFrom, along, held}
+use Rattle.meaning.proofs.Lists.Counting.{over-carried}
 use Rattle.meaning.proofs.Lists.Places.{inside}
 use Rattle.meaning.proofs.Model.Resolved.{headTerms}
 use Rattle.meaning.specs.Core.{Assignment, CoreNode, CoreType, Given, Node, asObject, asSubject, asTyped, given, headFact, nodeOf, passed, typed}
 use Rattle.meaning.specs.Limits.{maxCoreNodes, placeRoom, predicateRoom}
 use Rattle.meaning.specs.Member.{here}
-use Rattle.meaning.specs.Ordered.{ListOf}
+use Rattle.meaning.specs.Ordered.{ListOf, Over}
 use Rattle.meaning.specs.Pack.{HasShape, Head, Pack, Target, hasType, linksTo, linksToValue, type}
+use Rattle.meaning.specs.Spreading.{SpreadFact}
 use Rattle.meaning.specs.Tables.{packed, setOfMask, headArguments, headNumbers}
 use Rattle.meaning.specs.TypeSet.{_∈ₜ_}
 use Rattle.sets.proofs.Rank.{rank-le}
@@ -135,3 +138,39 @@ module _ {rules : List (List ℕ)} {count : ℕ} {heads counts : List ℕ} (fit 
         λ m. sound (spread (P .setting) tab i S .0 m) n c (sym r),
         λ t. spread (P .setting) tab i S .1 (subst (λ x. Passed (P .setting) triples start x S) r (complete t)),
       )
+
+  -- ---- what spreading added
+
+  -- whatever has a type is a node of the core
+  has-node : {i : ℕ} {R : Target} → Passed (P .setting) triples start i R → (n : Node) × CoreNode P n × (i ≡ rankOf (keyOf n) nodes)
+  has-node (held {i} {R} m) = let r = start-only i R m in (r .0, asTyped (r .1), r .2)
+  has-node (along {k} m q d e g) =
+      let x = ts .members k .0 m in
+      let o = rank-at (keyOf (x .to)) nodes (x .object) (l .ascending) (x .to-at) in
+      let y = decoded (x .subject) (x .predicate) (x .object) (omega (arith, predicate-small fit nodes few P h b l (x .edge)))
+      (omega (arith, inside nodes (x .object) (keyOf (x .to)) (x .to-at), few)) in
+      (x .to, asObject (x .edge), e ∙ ap objectOf (x .is) ∙ y .2 ∙ sym o)
+
+  -- a fact that was added, at its node
+  record FactAt (f : ℕ × Target) (g : Node × Target) : Type 0 where
+    place : f .0 ≡ rankOf (keyOf (g .0)) nodes
+    member : f .1 ≡ g .1
+
+  fact-one : (f f′ : ℕ × Target) (g : Node × Target) → FactAt f g → FactAt f′ g → f ≡ f′
+  fact-one f f′ g x y = λ i. ((x .place ∙ sym (y .place)) i, (x .member ∙ sym (y .member)) i)
+
+  module _ {table : List (List ℕ)} (tab : Tabled (P .setting) table) {after : List ℕ} (spread : SpreadFrom table triples start after) where
+    fact-at : (f : ℕ × Target) → AddedFact start after f → (g : Node × Target) × SpreadFact P g × FactAt f g
+    fact-at f x =
+        let q = spread (P .setting) tab (f .0) (f .1) .0 (x .has) in
+        let (n, c, e) = has-node q in (
+          (n, f .1),
+          record {
+            has = sound q n c e;
+            not-given = λ g. x .had-not (subst (λ i. f .1 ∈ₜ setOfMask (getD start i 0)) (sym e) (start-in n (f .1) g));
+          },
+          record { place = e; member = refl },
+        )
+
+    pub spread-over : {k : ℕ} → Over k (AddedFact start after) → Over k (SpreadFact P)
+    spread-over = over-carried (AddedFact start after) (SpreadFact P) FactAt fact-at fact-one

@@ -4,4 +4,5 @@ pub mod Heads
 pub mod Bounds
 pub mod Collected
 pub mod Spread
+pub mod Rounds
 pub mod Outcomes

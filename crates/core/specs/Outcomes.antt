@@ -15,6 +15,7 @@ use Rattle.meaning.specs.Member.{_∈_}
 use Rattle.meaning.specs.NoGraph.{CoreIri, CoreTriple, TooLarge as CoreTooLarge}
 use Rattle.meaning.specs.Ordered.{ListOf, Over}
 use Rattle.meaning.specs.Pack.{Pack}
+use Rattle.meaning.specs.Spreading.{FewRounds, SpreadFact}
 use Rattle.shapes.specs.Shapes.{Tabled}
 
 -- The node keys: all of them in the first m places, or the core has too many IRIs.
@@ -39,21 +40,23 @@ TriplesAnswer (Count m) nodes rules count heads counts before after = TripleKeys
 TriplesAnswer TooLarge nodes rules count heads counts before after =
     (P : Pack) → HeadsHeld P rules count heads counts → Bounded P → ListOf _<_ (NodeKey P) nodes → Over maxCoreTriples (CoreTriple P)
 
--- The types of the nodes, as masks by place.
-abbrev pub TypesAnswer : List (List ℕ) → List (List ℕ) → ℕ → List ℕ → List ℕ → List ℕ → List ℕ → List ℕ → Type 0
-TypesAnswer table rules count heads counts nodes triples masks =
+-- The types of the nodes, as masks by place, and in how many rounds they spread.
+abbrev pub TypesAnswer : ℕ → List (List ℕ) → List (List ℕ) → ℕ → List ℕ → List ℕ → List ℕ → List ℕ → List ℕ → Type 0
+TypesAnswer rounds table rules count heads counts nodes triples masks =
     (P : Pack) → HeadsHeld P rules count heads counts → Bounded P → Tabled (P .setting) table → ListOf _<_ (NodeKey P) nodes
-    → ListOf _<_ (TripleKey P nodes) triples → TypesAt P nodes masks
+    → ListOf _<_ (TripleKey P nodes) triples → TypesAt P nodes masks × FewRounds (SpreadFact P) rounds
 
--- The whole core: n nodes and t triples, or that it is too large (9: "The core has over 512 IRI nodes or 1,024 triples.").
-pub record CoreListed (n t : ℕ) (table rules : List (List ℕ)) (count : ℕ) (heads counts nodes triples masks : List ℕ) : Type 0 where
+-- The whole core: n nodes and t triples, its types spread in so many rounds; or that it is too large (9: "The core has over 512
+-- IRI nodes or 1,024 triples.").
+pub record CoreListed (n t rounds : ℕ) (table rules : List (List ℕ)) (count : ℕ) (heads counts nodes triples masks : List ℕ) : Type 0 where
   pub few-nodes : n ≤ maxCoreNodes
   pub few-triples : t ≤ maxCoreTriples
   pub held : (P : Pack) → HeadsHeld P rules count heads counts → Bounded P → Tabled (P .setting) table
       → CoreHeld P (take n nodes) (take t triples) masks
+  pub settled : (P : Pack) → HeadsHeld P rules count heads counts → Bounded P → Tabled (P .setting) table → FewRounds (SpreadFact P) rounds
   pub within : (P : Pack) → HeadsHeld P rules count heads counts → Bounded P → ¬ CoreTooLarge P
 
 abbrev pub CoreAnswer : Outcome → List (List ℕ) → List (List ℕ) → ℕ → List ℕ → List ℕ → List ℕ → List ℕ → List ℕ → Type 0
-CoreAnswer (Held n t) table rules count heads counts nodes triples masks = CoreListed n t table rules count heads counts nodes triples masks
+CoreAnswer (Held n t rounds) table rules count heads counts nodes triples masks = CoreListed n t rounds table rules count heads counts nodes triples masks
 CoreAnswer NotHeld table rules count heads counts nodes triples masks =
     (P : Pack) → HeadsHeld P rules count heads counts → Bounded P → CoreTooLarge P

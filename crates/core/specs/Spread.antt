@@ -1,6 +1,5 @@
 -- Types passed along the triples: the least set. Assumes nothing.
 use lib.ListN.{getD, length}
-use mathlib.Core.Bool.{Bool, false}
 use mathlib.Core.List.{List, [], _∷_}
 use mathlib.Core.Logic.{_↔_, _⊎_}
 use mathlib.Core.Path.{_≡_}
@@ -36,7 +35,7 @@ abbrev pub SpreadFrom : List (List ℕ) → List ℕ → List ℕ → List ℕ �
 SpreadFrom table triples start after =
     (S : Setting) → Tabled S table → (i : ℕ) (R : Target) → (R ∈ₜ setOfMask (getD after i 0)) ↔ Passed S triples start i R
 
--- ---- one triple, one round
+-- ---- one triple
 
 -- the triple passes R to place i, by the masks
 pub record Passes (S : Setting) (masks : List ℕ) (k i : ℕ) (R : Target) : Type 0 where
@@ -60,13 +59,3 @@ pub record Carried (S : Setting) (triples passed masks : List ℕ) : Type 0 wher
 abbrev pub maskRoom : List ℕ → ℕ
 maskRoom [] = 0
 maskRoom (m ∷ ms) = (65535 - m) + maskRoom ms
-
--- Types are only passed along; every triple's are, if nothing changed.
-pub record SpreadRound (S : Setting) (triples : List ℕ) (changed : Bool) (before after : List ℕ) : Type 0 where
-  pub keeps : (i : ℕ) (R : Target) → R ∈ₜ setOfMask (getD before i 0) → R ∈ₜ setOfMask (getD after i 0)
-  pub only : (i : ℕ) (R : Target) → R ∈ₜ setOfMask (getD after i 0) → Passed S triples before i R
-  pub all : changed ≡ false → (k : ℕ) → k ∈ triples → (i : ℕ) (R : Target) → Passes S after k i R → R ∈ₜ setOfMask (getD after i 0)
-
-abbrev pub SpreadRoundShown : List (List ℕ) → List ℕ → Bool → List ℕ → List ℕ → List ℕ → List ℕ → Type 0
-SpreadRoundShown table triples changed passed passed′ before after =
-    (S : Setting) → Tabled S table → Carried S triples passed before → SpreadRound S triples changed before after × Carried S triples passed′ after

@@ -4,7 +4,6 @@ use crate::heads::Counts;
 use crate::heads::HeadTable;
 use meaning::ShapeTable;
 ghost use mathlib.Core.Path.{_≡_};
-ghost use Prim.Native.Nat.{_≤_};
 ghost use lib.ListN.{length};
 ghost use Rattle.meaning.specs.Limits.{maxCoreNodes, maxCoreTriples};
 ghost use Rattle.sets.specs.Buffers.{zeros};
@@ -19,9 +18,9 @@ mod nodes; // the nodes
 mod triples; // the triples
 mod typing; // the types
 
-// How many nodes and triples the core has, or that it is too large.
+// How many nodes and triples the core has and in how many rounds its types spread, or that it is too large.
 pub enum Outcome {
-    Held(usize, usize),
+    Held(usize, usize, usize),
     TooLarge,
 }
 
@@ -37,7 +36,7 @@ pub fn core(
     masks: &mut [u16],
 ) -> Outcome
     requires { ⌜ CodesFit shapes × HeadsFit rules count (now heads) counts × (length (now nodes) ≡ maxCoreNodes)
-        × (length (now triples) ≡ maxCoreTriples) × (maxCoreNodes ≤ length (now masks)) × (now masks ≡ zeros (length (now masks))) ⌝ }
+        × (length (now triples) ≡ maxCoreTriples) × (length (now masks) ≡ maxCoreNodes) × (now masks ≡ zeros (length (now masks))) ⌝ }
     ensures { λ r. ⌜ CoreAnswer r shapes rules count (now (heads .entry)) counts (now (nodes .exit)) (now (triples .exit)) (now (masks .exit)) ⌝ }
 {
     let listed = crate::nodes::nodes(rules, count, heads, counts, nodes);
@@ -48,7 +47,7 @@ pub fn core(
             match linked {
                 Counted::TooLarge => Outcome::TooLarge,
                 Counted::Count(t) => {
-                    crate::typing::typing(
+                    let rounds = crate::typing::typing(
                         shapes,
                         rules,
                         count,
@@ -58,7 +57,7 @@ pub fn core(
                         &triples[..t],
                         masks,
                     );
-                    Outcome::Held(n, t)
+                    Outcome::Held(n, t, rounds)
                 }
             }
         }

@@ -10,6 +10,7 @@ use meaning::PLACE_ROOM;
 use meaning::PREDICATE_ROOM;
 use meaning::SUBJECT_ROOM;
 use meaning::ShapeTable;
+ghost use mathlib.Core.Bool.{true};
 ghost use mathlib.Core.Path.{_≡_};
 ghost use Prim.Native.Nat.{_≤_, _<_};
 ghost use lib.ListN.{length};
@@ -20,7 +21,8 @@ ghost use Rattle.shapes.specs.Shapes.{CodesFit};
 ghost use Rattle.core.specs.Bounds.{HeadFits, KeyFits, KeysFit, HeadsFit};
 ghost use Rattle.core.specs.Collected.{FromKeys, FromRules, KnownMatch, KnownKeys, KnownRules, TypesMarked, HeadType};
 ghost use Rattle.core.specs.Outcomes.{TypesAnswer};
-ghost use Rattle.core.specs.Spread.{AllTriplesFit, maskRoom, PassShown, TripleFits, SpreadRoundShown, SpreadFrom};
+ghost use Rattle.core.specs.Rounds.{RoundsOn, SettledIn, SomeAdded, turnAt};
+ghost use Rattle.core.specs.Spread.{AllTriplesFit, maskRoom, PassShown, TripleFits, SpreadFrom};
 ghost use Rattle.sets.specs.Progress.{Progress};
 
 // Marks the type of one match, if the head gives one. Looks for the subject at near first, and answers its place, or near
@@ -68,10 +70,11 @@ fn mark_rules(
     }
 }
 
-// Passes the subject's types along one triple; says whether that changed the object's.
+// Passes the subject's types along one triple; says whether that added to the object's.
 fn pass(shapes: &ShapeTable, key: u64, masks: &mut [u16]) -> bool
     requires { ⌜ CodesFit (now shapes) × TripleFits key × (maxCoreNodes ≤ length (now masks)) ⌝ }
-    ensures { λ r. ⌜ PassShown (now (shapes .entry)) key (now (masks .entry)) (now (masks .exit)) × Progress maskRoom r (now (masks .entry)) (now (masks .exit)) ⌝ }
+    ensures { λ r. ⌜ PassShown (now (shapes .entry)) key (now (masks .entry)) (now (masks .exit)) × Progress maskRoom r (now (masks .entry)) (now (masks .exit))
+        × (r ≡ true → SomeAdded (now (masks .entry)) (now (masks .exit))) ⌝ }
 {
     let s = (key / SUBJECT_ROOM) as usize;
     let p = (key / PLACE_ROOM % PREDICATE_ROOM) as usize;
@@ -85,25 +88,38 @@ fn pass(shapes: &ShapeTable, key: u64, masks: &mut [u16]) -> bool
     true
 }
 
-// Passes along every triple whose subject's types are not those that passed last; says whether anything changed.
+// The place of the i-th of n triples in a walk over them, which may go back from the last.
+fn turn(n: usize, back: bool, i: usize) -> usize
+    requires { ⌜ i < n ⌝ }
+    ensures { λ r. ⌜ r ≡ turnAt back n i ⌝ }
+{
+    if back {
+        return n - 1 - i;
+    }
+    i
+}
+
+// Passes along every triple whose subject's types are not those that passed last; says whether anything was added.
 fn round(
     shapes: &ShapeTable,
     triples: &[u64],
+    back: bool,
     passed: &mut [u16; MAX_CORE_TRIPLES],
     masks: &mut [u16],
 ) -> bool
     requires { ⌜ CodesFit (now shapes) × AllTriplesFit (now triples) × (length (now triples) ≤ maxCoreTriples) × (maxCoreNodes ≤ length (now masks)) ⌝ }
-    ensures { λ r. ⌜ SpreadRoundShown (now (shapes .entry)) (now (triples .entry)) r (now (passed .entry)) (now (passed .exit)) (now (masks .entry))
-        (now (masks .exit)) × Progress maskRoom r (now (masks .entry)) (now (masks .exit)) ⌝ }
+    ensures { λ r. ⌜ RoundsOn (now (shapes .entry)) (now (triples .entry)) back r (now (passed .entry)) (now (passed .exit)) (now (masks .entry)) (now (masks .exit))
+        × Progress maskRoom r (now (masks .entry)) (now (masks .exit)) ⌝ }
 {
     let mut changed = false;
     for i in 0..triples.len() {
-        let key = triples[i];
+        let at = turn(triples.len(), back, i);
+        let key = triples[at];
         let from = masks[(key / SUBJECT_ROOM) as usize];
-        if passed[i] == from {
+        if passed[at] == from {
             continue;
         }
-        passed[i] = from;
+        passed[at] = from;
         if pass(shapes, key, masks) {
             changed = true;
         }
@@ -111,21 +127,25 @@ fn round(
     changed
 }
 
-// Passes along the triples until a round adds nothing. At the start nothing has passed along any.
-fn spread(shapes: &ShapeTable, triples: &[u64], masks: &mut [u16])
-    requires { ⌜ CodesFit (now shapes) × AllTriplesFit (now triples) × (length (now triples) ≤ maxCoreTriples) × (maxCoreNodes ≤ length (now masks)) ⌝ }
-    ensures { λ _. ⌜ SpreadFrom (now (shapes .entry)) (now (triples .entry)) (now (masks .entry)) (now (masks .exit)) ⌝ }
+// Passes along the triples until a round adds nothing, every other round from the last triple back; says how many rounds were
+// made. At the start nothing has passed along any.
+fn spread(shapes: &ShapeTable, triples: &[u64], masks: &mut [u16]) -> usize
+    requires { ⌜ CodesFit (now shapes) × AllTriplesFit (now triples) × (length (now triples) ≤ maxCoreTriples) × (length (now masks) ≡ maxCoreNodes) ⌝ }
+    ensures { λ r. ⌜ SpreadFrom (now (shapes .entry)) (now (triples .entry)) (now (masks .entry)) (now (masks .exit))
+        × SettledIn (now (shapes .entry)) (now (triples .entry)) r (now (masks .entry)) (now (masks .exit)) ⌝ }
 {
     let mut passed = [0u16; MAX_CORE_TRIPLES];
+    let mut rounds = 0;
     loop {
-        let changed = round(shapes, triples, &mut passed, masks);
+        let changed = round(shapes, triples, rounds % 2 == 1, &mut passed, masks);
+        rounds += 1;
         if !changed {
-            return;
+            return rounds;
         }
     }
 }
 
-// The types of the nodes, in masks that are zero at the start.
+// The types of the nodes, in masks that are zero at the start; says in how many rounds they spread.
 pub fn typing(
     shapes: ShapeTable,
     rules: HeadTable,
@@ -135,12 +155,12 @@ pub fn typing(
     nodes: &[u64],
     triples: &[u64],
     masks: &mut [u16],
-)
+) -> usize
     requires { ⌜ CodesFit shapes × HeadsFit rules count (now heads) counts × InOrder _<_ (now nodes) × (length (now nodes) ≤ maxCoreNodes)
         × KnownRules (now nodes) rules count (now heads) counts × AllTriplesFit (now triples) × (length (now triples) ≤ maxCoreTriples)
-        × (maxCoreNodes ≤ length (now masks)) × (now masks ≡ zeros (length (now masks))) ⌝ }
-    ensures { λ _. ⌜ TypesAnswer shapes rules count (now (heads .entry)) counts (now (nodes .entry)) (now (triples .entry)) (now (masks .exit)) ⌝ }
+        × (length (now masks) ≡ maxCoreNodes) × (now masks ≡ zeros (length (now masks))) ⌝ }
+    ensures { λ r. ⌜ TypesAnswer r shapes rules count (now (heads .entry)) counts (now (nodes .entry)) (now (triples .entry)) (now (masks .exit)) ⌝ }
 {
     mark_rules(rules, count, heads, counts, nodes, masks);
-    spread(&shapes, triples, masks);
+    spread(&shapes, triples, masks)
 }

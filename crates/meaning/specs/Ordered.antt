@@ -24,6 +24,12 @@ pub record Over {A : Type 0} (k : ℕ) (Q : A → Type 0) : Type 0 where
   pub members : (x : A) → x ∈ some → Q x
   pub over : k < length some
 
+-- The set Q has n elements: some list holds exactly these, each once.
+pub record Number {A : Type 0} (Q : A → Type 0) (n : ℕ) : Type 0 where
+  pub all : List A
+  pub list : ListOf _≢_ Q all
+  pub many : n ≡ length all
+
 -- Lists of numbers, compared entry by entry; a list comes before its continuations.
 infix 50 _≺_
 pub data _≺_ : List ℕ → List ℕ → Type 0 where

@@ -1,18 +1,22 @@
 -- A mask of 16 bits as a type set: type t's bit is bit t, Literal's is bit 15. Assumes nothing.
 use lib.Bits.{bitAnd, bitOr, and-le-r, and-mask, or-lt}
-use lib.Dec.{leb→le, le→leb, lit<}
+use lib.Dec.{T, leb, leb→le, le→leb, lit<}
 use lib.Pow.{pow-lt}
 use mathlib.Core.Logic.{_↔_, _⊎_, inl, inr}
 use mathlib.Core.Path.{_≡_, refl, sym, ap, _∙_, subst}
 use native.Mathlib.Decide.{ℕ-discrete}
 use native.Mathlib.Omega.{arith}
 use Prim.Native.Nat.{ℕ, _-_, _/_, _%_, _^_, _≤_, _<_}
-use Rattle.meaning.proofs.Lists.Bits.{bit-one, bit-other, bit-shift, zero-bits}
+use Rattle.meaning.proofs.Cases.{case-lt}
+use Rattle.meaning.proofs.Lists.Bits.{bit-one, bit-other, bit-shift, members, members-in, members-only, same-members, zero-bits}
 use Rattle.meaning.proofs.Lists.Masks.{low-member, union-member}
-use Rattle.meaning.specs.Limits.{literalBit, typeSets}
+use Rattle.meaning.proofs.Lists.Members.{find, ∈-dec}
+use Rattle.meaning.proofs.Model.Same.{same-target}
+use Rattle.meaning.specs.Limits.{literalBit, literalWeight, typeSets}
+use Rattle.meaning.specs.Member.{_∈_}
 use Rattle.meaning.specs.Pack.{Target, Literal, type}
 use Rattle.meaning.specs.Tables.{targetCode, setOfMask}
-use Rattle.meaning.specs.TypeSet.{bit, _∈ₜ_}
+use Rattle.meaning.specs.TypeSet.{TypeSet, bit, _∈ₜ_}
 
 -- the types of a mask
 abbrev pub typesIn : ℕ → ℕ
@@ -91,3 +95,40 @@ one-in R t h = (
 -- nothing is in the empty mask
 pub none-in : (R : Target) → ¬ (R ∈ₜ setOfMask 0)
 none-in R h = let q = target-in R 0 (lit< tt) .0 h in omega (arith, zero-bits (targetCode R), q .1)
+
+-- whether a target is in a mask
+pub in? : (R : Target) (m : ℕ) → Dec (R ∈ₜ setOfMask m)
+in? R m = go (∈-dec same-target R (members (setOfMask m)))
+  where
+    go : Dec (R ∈ members (setOfMask m)) → Dec (R ∈ₜ setOfMask m)
+    go (yes i) = yes (members-only (setOfMask m) R i)
+    go (no n) = no (λ h. n (members-in (setOfMask m) R h))
+
+-- masks with the same members are one
+mask-one : (a b : ℕ) → a < 2 ^ 16 → b < 2 ^ 16 → ((R : Target) → (R ∈ₜ setOfMask a) ↔ (R ∈ₜ setOfMask b)) → a ≡ b
+unfolding setOfMask
+mask-one a b ha hb f =
+    let e = same-members (setOfMask a) (setOfMask b) f in
+    let l : leb literalWeight a ≡ leb literalWeight b = ap (λ (X : TypeSet). X .literal) e in
+    let m : a % literalWeight ≡ b % literalWeight = ap (λ (X : TypeSet). X .mask) e in
+    case-lt a literalWeight
+    (λ x. case-lt b literalWeight (λ y. omega arith) (λ y. absurd (let z = leb→le literalWeight a (subst T (sym l) (le→leb literalWeight b y)) in omega arith)))
+    (λ x. case-lt b literalWeight (λ y. absurd (let z = leb→le literalWeight b (subst T l (le→leb literalWeight a x)) in omega arith)) (λ y. omega arith))
+
+-- a union that is not its first part has a new member
+pub new-member : (a b : ℕ) → a < 2 ^ 16 → b < 2 ^ 16 → ¬ (bitOr a b ≡ a) → (R : Target) × (R ∈ₜ setOfMask (bitOr a b)) × ¬ (R ∈ₜ setOfMask a)
+new-member a b ha hb differ = go (find {Q = λ R. ¬ (R ∈ₜ setOfMask a)} (λ R. out R (in? R a)) (members (setOfMask (bitOr a b))))
+  where
+    out : (R : Target) → Dec (R ∈ₜ setOfMask a) → Dec (¬ (R ∈ₜ setOfMask a))
+    out R (yes h) = no (λ n. n h)
+    out R (no n) = yes n
+
+    back : (R : Target) → Dec (R ∈ₜ setOfMask a) → ¬ ¬ (R ∈ₜ setOfMask a) → R ∈ₜ setOfMask a
+    back R (yes h) n = h
+    back R (no k) n = absurd (n k)
+
+    go : ((R : Target) × (R ∈ members (setOfMask (bitOr a b))) × ¬ (R ∈ₜ setOfMask a)) ⊎ ((R : Target) → R ∈ members (setOfMask (bitOr a b)) → ¬ ¬ (R ∈ₜ setOfMask a))
+        → (R : Target) × (R ∈ₜ setOfMask (bitOr a b)) × ¬ (R ∈ₜ setOfMask a)
+    go (inl (R, i, n)) = (R, members-only (setOfMask (bitOr a b)) R i, n)
+    go (inr none) = absurd (differ (mask-one (bitOr a b) a (or-lt 16 a b ha hb) ha
+        (λ R. (λ h. back R (in? R a) (none R (members-in (setOfMask (bitOr a b)) R h)), λ h. union-in R a b ha hb .1 (inl h)))))

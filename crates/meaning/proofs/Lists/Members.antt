@@ -10,6 +10,8 @@ use mathlib.Core.List.{
   _++_,
   map,
   flatMap,
+  reverse,
+  reverse-cons,
   filterMap,
   filterMap-cons-none,
   filterMap-cons-some,
@@ -241,6 +243,21 @@ below-in t (suc n) h = go (ℕ-discrete t n) (below-in t n)
     go : Dec (t ≡ n) → (t < n → t ∈ below n) → t ∈ (n ∷ below n)
     go (yes e) rest = here e
     go (no ne) rest = there (rest (omega arith))
+
+-- ---- a list backwards
+
+module _ {A : Type 0} where
+  pub reverse-in : {x : A} {xs : List A} → x ∈ xs → x ∈ reverse xs
+  reverse-in (here {x = y} {xs = ys} e) = rw (reverse-cons y ys) (∈-append (reverse ys) (y ∷ []) (inr (here e)))
+  reverse-in (there {x = y} {xs = ys} m) = rw (reverse-cons y ys) (∈-append (reverse ys) (y ∷ []) (inl (reverse-in m)))
+
+  pub reverse-only : {x : A} (xs : List A) → x ∈ reverse xs → x ∈ xs
+  reverse-only [] m = elim m [ ]
+  reverse-only {x} (y ∷ ys) m = go (List·Memᴰ·append-cases (reverse ys) (rw (reverse-cons y ys) at m)) (reverse-only ys)
+    where
+      go : (x ∈ reverse ys) ⊎ (x ∈ (y ∷ [])) → (x ∈ reverse ys → x ∈ ys) → x ∈ (y ∷ ys)
+      go (inl i) rest = there (rest i)
+      go (inr i) rest = here (List·Memᴰ·eq-of-singleton i)
 
 -- ---- what is computed of each element
 

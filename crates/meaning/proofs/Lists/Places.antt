@@ -1,11 +1,13 @@
 -- Elements of lists by their places. Assumes nothing.
-use lib.ListN.{drop, getD, getElem?, length, replicate, take, take-append-drop}
-use mathlib.Core.List.{List, [], _∷_, _++_, map}
+use lib.ListN.{drop, getD, getElem?, length, length-reverse, List·getD-append, replicate, take, take-append-drop}
+use lib.Seq.{getD-append-seam}
+use mathlib.Core.List.{List, [], _∷_, _++_, map, reverse, reverse-cons}
 use mathlib.Core.Option.{none, some, Option·none-ne-some, Option·some-injective}
 use mathlib.Core.Path.{_≡_, refl, sym, ap, _∙_}
 use native.Mathlib.Nat.{le-of-suc-le-suc, not-suc-le-zero}
 use native.Mathlib.Omega.{arith}
-use Prim.Native.Nat.{ℕ, zero, suc, _+_, _≤_, _<_, suc-le-suc, zero-le}
+use Prim.Native.Nat.{ℕ, zero, suc, _+_, _-_, _≤_, _<_, suc-le-suc, zero-le}
+use Rattle.meaning.proofs.Cases.{case-lt}
 use Rattle.meaning.proofs.Lists.Members.{element}
 use Rattle.meaning.specs.Member.{_∈_, here, there}
 
@@ -104,3 +106,19 @@ pub zeros-at : (n i : ℕ) → _≡_ {A = ℕ} (getD (replicate n 0) i 0) 0
 zeros-at zero i = refl
 zeros-at (suc n) zero = refl
 zeros-at (suc n) (suc i) = zeros-at n i
+
+-- a list backwards, read at a place
+pub reverse-at : {A : Type 0} (xs : List A) (i : ℕ) (d : A) → i < length xs → getD (reverse xs) i d ≡ getD xs (length xs - 1 - i) d
+reverse-at [] i d h = absurd (not-suc-le-zero h)
+reverse-at (x ∷ xs) i d h = ap (λ l. getD l i d) (reverse-cons x xs) ∙ case-lt i (length xs) (λ l. earlier l (reverse-at xs i d l)) last
+  where
+    earlier : i < length xs → getD (reverse xs) i d ≡ getD xs (length xs - 1 - i) d → getD (reverse xs ++ (x ∷ [])) i d ≡ getD (x ∷ xs) (suc (length xs) - 1 - i) d
+    earlier l h =
+        let e : suc (length xs) - 1 - i ≡ suc (length xs - 1 - i) = omega arith in
+        List·getD-append (reverse xs) (x ∷ []) d i (rw (length-reverse xs) l) ∙ h ∙ ap (λ k. getD (x ∷ xs) k d) (sym e)
+
+    last : length xs ≤ i → getD (reverse xs ++ (x ∷ [])) i d ≡ getD (x ∷ xs) (suc (length xs) - 1 - i) d
+    last l =
+        let e : i ≡ length (reverse xs) = omega (arith, length-reverse xs) in
+        let z : suc (length xs) - 1 - i ≡ 0 = omega arith in
+        ap (λ k. getD (reverse xs ++ (x ∷ [])) k d) e ∙ getD-append-seam (reverse xs) x [] d ∙ ap (λ k. getD (x ∷ xs) k d) (sym z)

@@ -9,14 +9,17 @@ use native.Mathlib.Nat.{le-refl}
 use native.Mathlib.Omega.{arith}
 use Prim.Native.Nat.{ℕ, _<_}
 use Rattle.meaning.proofs.Lists.Bits.{setOf, setOf-in, setOf-only}
-use Rattle.meaning.proofs.Lists.Members.{below, below-in, collect-in, collect-only, joined-in, joined-only, onlyIf, onlyIf-some, some-onlyIf}
+use Rattle.meaning.proofs.Lists.Counting.{number-of}
+use Rattle.meaning.proofs.Lists.Members.{below, below-in, collect-in, collect-only, joined-in, joined-only, onlyIf, onlyIf-some, some-onlyIf, ∈-dec}
 use Rattle.meaning.proofs.Lists.Reach.{Reached, grow, reach-iff, seed, step}
 use Rattle.meaning.proofs.Model.Facts.{facts, facts-iff}
 use Rattle.meaning.proofs.Model.Resolved.{Resolved}
 use Rattle.meaning.proofs.Model.Same.{same-node, same-target}
 use Rattle.meaning.specs.Core.{CoreNode, CoreType, Fact, Given, Node, asObject, asSubject, asTyped, given, headFact, nodeOf, passed, triple, typed}
 use Rattle.meaning.specs.Member.{_∈_, here, there}
+use Rattle.meaning.specs.Ordered.{Number}
 use Rattle.meaning.specs.Pack.{Head, Literal, Pack, Shape, Target, hasType, linksTo, linksToValue, shapeOf, type}
+use Rattle.meaning.specs.Spreading.{SpreadFact}
 use Rattle.meaning.specs.TypeSet.{TypeSet, _∈ₜ_}
 
 module _ (P : Pack) where
@@ -175,6 +178,29 @@ module _ (P : Pack) where
     coreTypes-iff q =
         let r = reach-iff same-pair firstTypes spread everyType (λ x h. typed-in-every x (reached-type h)) (length everyType) (le-refl (length everyType)) q in
         (λ h. reached-type (r .0 h), λ c. r .1 (type-reached c))
+
+    -- the type facts that spreading adds have a number
+    firstTypes-iff : (q : Node × Target) → (q ∈ firstTypes) ↔ Given P (typed (q .0) (q .1))
+    unfolding firstTypes typedIn
+    firstTypes-iff q = (forth, λ g. collect-in typedIn (given-iff _ .1 g) refl)
+      where
+        forth : q ∈ filterMap typedIn (facts P) → Given P (typed (q .0) (q .1))
+        forth h = let r = collect-only typedIn (facts P) h in go (r .0) (given-iff (r .0) .0 (r .1)) (r .2)
+          where
+            go : (f : Fact) → Given P f → typedIn f ≡ some q → Given P (typed (q .0) (q .1))
+            go (typed n S) g e = subst (λ (x : Node × Target). Given P (typed (x .0) (x .1))) (Option·some-injective (n, S) q e) g
+            go (triple n p m) g e = absurd (Option·none-ne-some q e)
+
+    pub spread-number : (n : ℕ) × Number (SpreadFact P) n
+    spread-number = number-of same-pair spread? coreTypes (λ q f. coreTypes-iff q .1 (f .has))
+      where
+        spread? : (q : Node × Target) → Dec (SpreadFact P q)
+        spread? q = go (∈-dec same-pair q coreTypes) (∈-dec same-pair q firstTypes)
+          where
+            go : Dec (q ∈ coreTypes) → Dec (q ∈ firstTypes) → Dec (SpreadFact P q)
+            go (yes m) (no n) = yes (record { has = coreTypes-iff q .0 m; not-given = λ g. n (firstTypes-iff q .1 g) })
+            go (yes m) (yes k) = no (λ f. f .not-given (firstTypes-iff q .0 k))
+            go (no n) k = no (λ f. n (coreTypes-iff q .1 (f .has)))
 
     pub typesOf-iff : (n : Node) (S : Target) → (S ∈ₜ typesOf n) ↔ CoreType P n S
     unfolding typesOf at

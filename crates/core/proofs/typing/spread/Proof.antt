@@ -2,17 +2,17 @@
 use borrow.Author.Needs.{needs}
 use borrow.Author.Tests.{not-true, not-false}
 use native.Mathlib.Omega.{arith}
+use Rattle.core.proofs.Spreading.{Spreading, all-made, rounds-few, spread-again, spread-done, spread-start}
 use Rattle.core.specs.Spread.{maskRoom}
 use Rattle.meaning.specs.Limits.{maxCoreTriples}
-use Rattle.core.proofs.Spreading.{Spreading, spread-start, spread-again, spread-done}
 use Rattle.core.proofs.typing.spread.Statement.{statement}
 use Rattle.core.proofs.typing.spread.Tie as tie
 
 abbrev Inv-loop : tie.InvT-loop
-Inv-loop shapes triples masks₀ passed₀ masks passed = Spreading shapes triples passed masks₀ masks
+Inv-loop shapes triples masks₀ passed₀ rounds₀ masks passed rounds = Spreading shapes triples rounds passed masks₀ masks
 
 abbrev μ-loop : tie.MeasureT-loop
-μ-loop shapes triples masks₀ passed₀ masks passed = maskRoom masks
+μ-loop shapes triples masks₀ passed₀ rounds₀ masks passed rounds = maskRoom masks
 
 pub spread-spec : {M : Type 1} → statement M
 spread-spec =
@@ -21,11 +21,21 @@ spread-spec =
     Inv-loop
     μ-loop
     (λ c. spread-start _ _ _ maxCoreTriples)  -- loop-holds
-    (λ c κs. let s = c .before .before .before .before .before .pre in (s .0, s .1, s .2, omega (arith, c .before .before .loop .inv .long, s .3)))  -- round-requires
+    (λ c κs.
+    let s = c .before .before .before .before .before .pre in
+    (s .0, s .1, s .2, omega (arith, c .before .before .loop .inv .long, s .3)))  -- round-requires
+    (λ c.
+    let l = c .before .before .before .before .before .loop in
+    let s = c .before .before .before .before .before .before .before .before in
+    omega (arith, rounds-few (l .inv) (s .pre .3)))  -- add-rounds
     (λ c. search needs)  -- same-length
     (λ c.
-    let loop = c .before .before .before .before .before .before .loop in
+    let l = c .before .before .before .before .before .before .loop in
     let r = c .before .before .before .round in
-    spread-done (loop .inv) (r .kept .1 .1 .1 .0) (r .ensures .0) (not-true (r .result) (c .if1 .taken)))  -- returns
+    spread-done (all-made (l .inv) (r .kept .1 .1 .1 .1 .0) (r .ensures .0) (rw (not-true (r .result) (c .if1 .taken)) at (r .ensures .1))))  -- returns
     (λ c. let r = c .before .before .before .round in rw (not-false (r .result) (c .if1 .left)) at (r .ensures .1))  -- loop-less
-    (λ c. let r = c .before .before .before .round in spread-again (c .before .before .before .before .before .before .loop .inv) (r .kept .1 .1 .1 .0) (r .ensures .0)))  -- loop-again
+    (λ c.
+    let l = c .before .before .before .before .before .before .loop in
+    let r = c .before .before .before .round in
+    let e = not-false (r .result) (c .if1 .left) in
+    spread-again (l .inv) (r .kept .1 .1 .1 .1 .0) (r .ensures .0) e (rw e at (r .ensures .1))))  -- loop-again

@@ -16,4 +16,4 @@ typing-spec =
     let m = c .before .before .before .before .before .before .before .mark-rules in
     let p = c .before .before .spread in
     types-answer (s .pre .1) (s .args .nodes .now) (s .pre .3) (s .args .triples .now) (s .args .masks .now) (s .pre .8) (m .last .1 .1 .1 .1 .1 .0) (m .ensures) (s .args .t1)
-    (p .last .1 .1 .0) (p .ensures)))  -- returns
+    (p .last .1 .1 .0) (p .ensures .0) (p .ensures .1)))  -- returns
