@@ -10,10 +10,12 @@ mod queries;
 mod random;
 mod texts;
 mod valid;
+mod zigzag;
 
 pub use limits::{full_pack, pairs_pack, product_pack};
 pub use random::Random;
 pub use valid::sample;
+pub use zigzag::zigzag_pack;
 
 use crate::encode::encode;
 use crate::pack::Pack;

@@ -33,7 +33,7 @@ enum Node {
 }
 
 /// Types by number; `LITERAL` stands for Literal.
-type Types = BTreeSet<u8>;
+pub type Types = BTreeSet<u8>;
 
 type Triples = BTreeSet<(Node, u8, Node)>;
 
@@ -43,6 +43,14 @@ type Triples = BTreeSet<(Node, u8, Node)>;
 struct Core {
     triples: Triples,
     types: BTreeMap<Node, Types>,
+}
+
+/// A core by node numbers: the types of each node, and the triples, both in
+/// order.
+#[derive(Clone, Debug, PartialEq, Eq)]
+pub struct NumberedCore {
+    pub types: Vec<Types>,
+    pub triples: Vec<TripleRecord>,
 }
 
 /// Builds the graph of a well-formed pack that keeps its dependencies.
@@ -59,6 +67,24 @@ fn core(pack: &Pack) -> Result<Core, Refusal> {
     let mut core = apply_rules(pack)?;
     spread_types(pack, &mut core);
     Ok(core)
+}
+
+/// The core before types have spread, with those that heads give, or
+/// refusal 9.
+pub fn core_of_heads(pack: &Pack) -> Result<NumberedCore, Refusal> {
+    apply_rules(pack).map(|core| numbered(&core))
+}
+
+/// The core after types have spread, or refusal 9.
+pub fn whole_core(pack: &Pack) -> Result<NumberedCore, Refusal> {
+    core(pack).map(|core| numbered(&core))
+}
+
+fn numbered(core: &Core) -> NumberedCore {
+    NumberedCore {
+        types: core.types.values().cloned().collect(),
+        triples: lists(&core.types, &core.triples).triples,
+    }
 }
 
 // ---------------------------------------------------------------- the rules
@@ -287,7 +313,7 @@ fn required(pack: &Pack, types: &Types) -> Vec<u8> {
 }
 
 /// The targets of a predicate in the shapes of all types of the set.
-fn targets(pack: &Pack, types: &Types, predicate: u8) -> Types {
+pub fn targets(pack: &Pack, types: &Types, predicate: u8) -> Types {
     types
         .iter()
         .filter_map(|type_number| shape(pack, *type_number, predicate))

@@ -11,6 +11,7 @@ pub mod graph;
 pub mod pack;
 pub mod query;
 pub mod records;
+pub mod rounds;
 pub mod spelling;
 pub mod vectors;
 
