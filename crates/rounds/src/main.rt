@@ -1,0 +1,84 @@
+// In how many rounds a pack's types spread: packs that are compared, not proved. Standard input and the output expected are
+// written by tests/second (src/bin/rounds.rs).
+//
+// Standard input has a pack after another. A pack: lengths of its title and of the pack (three bytes), lowest byte first; title;
+// pack.
+mod settle; // the count
+
+ghost use lib.ListN.{length};
+ghost use Prim.Native.Nat.{_≤_};
+use crate::settle::Settled;
+use crate::settle::settle;
+
+// Three bytes as a number, the lowest first.
+fn number(low: u8, middle: u8, high: u8) -> usize {
+    low as usize + 256 * (middle as usize) + 65536 * (high as usize)
+}
+
+// A text and a number.
+fn say(key: &[u8], n: usize) {
+    io::write_all(1, key);
+    io::print_decimal(1, n as u64);
+}
+
+// The refusal, or the core's size and the rounds.
+fn say_settled(settled: Settled) {
+    if settled.refusal != 0 {
+        say(b": refused ", settled.refusal as usize);
+    } else {
+        say(b": nodes ", settled.nodes);
+        say(b", triples ", settled.triples);
+        say(b", rounds ", settled.rounds);
+    }
+    io::write_all(1, b"\n");
+}
+
+// Writes the title that is next in the input, of `n` bytes.
+fn say_title(text: &mut [u8], n: usize) -> bool
+    requires { ⌜ n ≤ length (now text) ⌝ }
+{
+    if io::read_full(0, &mut text[0..n]) < n {
+        return false;
+    }
+    io::write_all(1, &text[0..n]);
+    true
+}
+
+// Reads a pack of `n` bytes and settles its types.
+fn say_pack(pack: &mut [u8], n: usize) -> bool
+    requires { ⌜ n ≤ length (now pack) ⌝ }
+{
+    if io::read_full(0, &mut pack[0..n]) < n {
+        return false;
+    }
+    say_settled(settle(&pack[0..n]));
+    true
+}
+
+// The next pack; false at the input's end.
+fn next_pack() -> bool {
+    let mut head = [0u8; 4];
+    if io::read_full(0, &mut head) < 4 {
+        return false;
+    }
+    let m = number(head[0], 0, 0);
+    let n = number(head[1], head[2], head[3]);
+    if m > 255 || n > 66000 {
+        return false;
+    }
+    let mut title = [0u8; 255];
+    if !say_title(&mut title, m) {
+        return false;
+    }
+    let mut pack = [0u8; 66000];
+    say_pack(&mut pack, n)
+}
+
+// At most 65,536 packs.
+fn main() {
+    for i in 0..65536u64 {
+        if !next_pack() {
+            return;
+        }
+    }
+}
