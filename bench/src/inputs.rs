@@ -1,7 +1,7 @@
 //! What is measured: packs with their queries.
 
 use second::encode::encode;
-use second::generate::{full_pack, sample, Random};
+use second::generate::{full_pack, sample, zigzag_pack, Random};
 use second::pack::{Dependency, Head, Pack, Rule};
 use second::records::{atom, constructor, numbered, row, term};
 use std::path::Path;
@@ -62,7 +62,8 @@ pub fn all(foundry: &Path, adversarial: &Path) -> std::io::Result<Vec<Input>> {
     }
     inputs[6].queries.push(b"aa/ab".to_vec());
     inputs[7].queries.push(far().into_bytes());
-    let slow: [(&str, fn() -> Pack, &[&str]); 7] = [
+    let slow: [(&str, fn() -> Pack, &[&str]); 8] = [
+        ("zigzag", zigzag, &[]),
         ("third search fails", third_fails, &[]),
         ("rows against themselves", against_themselves, &[]),
         ("million pairs", million_pairs, &[]),
@@ -75,6 +76,11 @@ pub fn all(foundry: &Path, adversarial: &Path) -> std::io::Result<Vec<Input>> {
         inputs.push(input(name, encode(&pack()), queries));
     }
     Ok(inputs)
+}
+
+/// Types that spread in 4,097 rounds, the most that there can be.
+fn zigzag() -> Pack {
+    zigzag_pack(256)
 }
 
 /// `_*/_*/..`, as long as a query may be: a walk passes each triple 85 times.

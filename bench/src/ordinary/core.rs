@@ -199,27 +199,46 @@ fn facts(found: &[(&Head, &[u64])], nodes: &[u64]) -> Option<(Vec<u32>, Vec<u16>
     (triples.len() <= 1_024).then_some((triples, types))
 }
 
-/// Passes types along the triples until a round adds nothing.
+/// Passes types along the triples until a round adds nothing, every other
+/// round from the last triple back.
 fn spread(shapes: &Shapes, triples: &[u32], types: &mut [u16]) {
     // The types that passed last along each triple.
     let mut passed = vec![0; triples.len()];
+    let mut back = false;
     loop {
-        let mut changed = false;
-        for (&triple, passed) in triples.iter().zip(&mut passed) {
-            let (s, p, o) = parts(triple);
-            if *passed == types[s] {
-                continue;
-            }
-            *passed = types[s];
-            let old = types[o];
-            let new = old | shapes.targets(types[s], p);
-            changed |= new != old;
-            types[o] = new;
-        }
+        let turns = triples.iter().zip(&mut passed);
+        let changed = if back {
+            round(shapes, turns.rev(), types)
+        } else {
+            round(shapes, turns, types)
+        };
         if !changed {
             return;
         }
+        back = !back;
     }
+}
+
+/// Passes along each triple whose subject's types are not those that passed
+/// last; whether that added anything.
+fn round<'a>(
+    shapes: &Shapes,
+    turns: impl Iterator<Item = (&'a u32, &'a mut u16)>,
+    types: &mut [u16],
+) -> bool {
+    let mut changed = false;
+    for (&triple, passed) in turns {
+        let (s, p, o) = parts(triple);
+        if *passed == types[s] {
+            continue;
+        }
+        *passed = types[s];
+        let old = types[o];
+        let new = old | shapes.targets(types[s], p);
+        changed |= new != old;
+        types[o] = new;
+    }
+    changed
 }
 
 /// Subject, predicate and object of a triple.

@@ -9,7 +9,7 @@ use native.Mathlib.Omega.{arith}
 use Prim.Native.Nat.{ℕ, _≤_, _<_}
 use Rattle.core.proofs.NodeKeys.{link-keys, subject-in}
 use Rattle.core.proofs.TripleKeys.{link-triple, no-triple}
-use Rattle.core.proofs.Rounds.{few-rounds, rounds-over, rounds-some}
+use Rattle.core.proofs.Rounds.{rounds-over, rounds-some}
 use Rattle.core.proofs.TypeSources.{decoded, spread-over, types-at}
 use Rattle.core.specs.Bounds.{HeadFits, HeadsFit}
 use Rattle.core.specs.Collected.{FromRules, SetGrown, KnownMatch, KnownRules, TypesMarked, HeadType, nodeKeys, objectKey, subjectKey, tripleKeys}
@@ -29,6 +29,7 @@ use Rattle.meaning.proofs.Lists.Members.{only-new}
 use Rattle.meaning.proofs.Lists.Places.{zeros-at}
 use Rattle.meaning.proofs.Model.Core.{spread-number}
 use Rattle.meaning.proofs.Model.Resolved.{resolved}
+use Rattle.meaning.proofs.Theory.Rounds.{few-rounds}
 
 -- ---- types, from cleared masks on
 

@@ -14,13 +14,13 @@ use Rattle.core.specs.Rounds.{AddedFact, Round, Rounds, Settled, last, m
 use Rattle.core.specs.Spread.{Passed, along, held}
 use Rattle.meaning.proofs.Cases.{case-lt}
 use Rattle.meaning.proofs.Lists.Bits.{members, members-in}
-use Rattle.meaning.proofs.Lists.Counting.{number-few, number-of}
+use Rattle.meaning.proofs.Lists.Counting.{number-of}
 use Rattle.meaning.proofs.Lists.Members.{below, below-in, joined-in}
 use Rattle.meaning.proofs.Model.Same.{same-target}
+use Rattle.meaning.proofs.Theory.Rounds.{few-rounds}
 use Rattle.meaning.specs.Member.{_∈_, here, there}
 use Rattle.meaning.specs.Ordered.{InOrder, Number, Over, before, empty}
 use Rattle.meaning.specs.Pack.{Setting, Target, type}
-use Rattle.meaning.specs.Spreading.{FewRounds}
 use Rattle.meaning.specs.Tables.{setOfMask}
 use Rattle.meaning.specs.TypeSet.{_∈ₜ_}
 use Rattle.shapes.proofs.Sets.{in?, none-in}
@@ -84,14 +84,6 @@ module _ {S : Setting} {triples : List ℕ} where
   rounds-some r = omega (arith, rounds-facts r .many)
 
 -- ---- how many facts
-
-pub few-rounds : {A : Type 0} {Q : A → Type 0} {rounds n : ℕ} → 1 ≤ rounds → ((k : ℕ) → k + 1 < rounds → Over k Q) → Number Q n → FewRounds Q rounds
-few-rounds {rounds = rounds} {n} some over k = record {
-  added = n;
-  number = k;
-  some = some;
-  few = case-lt (n + 1) rounds (λ h. absurd (number-few k (over n h))) (λ h. h);
-}
 
 added-number : (a c : List ℕ) → (n : ℕ) × Number (AddedFact a c) n
 added-number a c = number-of (×-discrete ℕ-discrete same-target) added? listed all

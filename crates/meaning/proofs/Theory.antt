@@ -4,6 +4,7 @@ pub mod MoreRows
 pub mod Obeying
 pub mod OneClash
 pub mod OneGraph
+pub mod Rounds
 pub mod Simulated
 pub mod Simulation
 pub mod Theorem

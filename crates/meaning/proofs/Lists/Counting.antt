@@ -151,3 +151,12 @@ module _ {A : Type 0} {Q : A → Type 0} where
   -- and not over so many
   pub number-few : {n : ℕ} → Number Q n → ¬ Over n Q
   number-few k = listed-few (λ x q. k .list .members x .1 q) (omega (arith, k .many))
+
+  -- there is one such number
+  pub number-once : {n m : ℕ} → Number Q n → Number Q m → n ≡ m
+  number-once k j = let a = most k j in let b = most j k in omega arith
+    where
+      most : {n m : ℕ} → Number Q n → Number Q m → n ≤ m
+      most k j =
+          let r = pigeonhole (λ x. x) (k .all) (j .all) (k .list .ascending) (λ x i. j .list .members x .1 (k .list .members x .0 i)) (λ x z i l e. e) in
+          omega (arith, k .many, j .many)

@@ -30,9 +30,9 @@ spread-spec =
     omega (arith, rounds-few (l .inv) (s .pre .3)))  -- add-rounds
     (λ c. search needs)  -- same-length
     (λ c.
-    let l = c .before .before .before .before .before .before .loop in
-    let r = c .before .before .before .round in
-    spread-done (all-made (l .inv) (r .kept .1 .1 .1 .1 .0) (r .ensures .0) (rw (not-true (r .result) (c .if1 .taken)) at (r .ensures .1))))  -- returns
+    let made = c .before .before .before .before .before .before .loop .inv in
+    let last = c .before .before .before .round in
+    spread-done (all-made made (last .kept .1 .1 .1 .1 .0) (last .ensures .0) (rw (not-true (last .result) (c .if1 .taken)) at (last .ensures .1))))  -- returns
     (λ c. let r = c .before .before .before .round in rw (not-false (r .result) (c .if1 .left)) at (r .ensures .1))  -- loop-less
     (λ c.
     let l = c .before .before .before .before .before .before .loop in
