@@ -1,10 +1,11 @@
 //! Cases at the limits that the scope document names, with the outcome that
-//! it states for one of the calls.
+//! it states for one of the calls; and the pack whose types take the most
+//! rounds.
 
 use crate::calls::Call;
 use crate::tally::Outcome::{self, Graph, Pairs, Refusal, Yes};
 use second::encode::{encode, join};
-use second::generate::{pairs_pack, product_pack, sample};
+use second::generate::{pairs_pack, product_pack, sample, zigzag_pack};
 use second::pack::{CONTENTS, MAX_BYTES};
 
 pub struct Limit {
@@ -85,6 +86,7 @@ fn packs() -> Vec<Limit> {
         build("36 zero bytes", vec![0; 36], Graph),
         build("65,536 bytes", of_size(MAX_BYTES), Refusal(4)),
         build("65,537 bytes", of_size(MAX_BYTES + 1), Refusal(3)),
+        build("4,097 rounds of types", encode(&zigzag_pack(256)), Graph),
         pairs("4,096 pairs", 0, Pairs),
         pairs("4,097 pairs", 1, Refusal(12)),
     ]
