@@ -7,7 +7,7 @@ use mathlib.Core.Logic.{_↔_, _≢_}
 use mathlib.Core.Path.{_≡_, refl, sym, ap, subst}
 use native.Mathlib.Decide.{ℕ-discrete}
 use native.Mathlib.Omega.{arith}
-use Prim.Native.Nat.{ℕ, suc, _+_, _≤_, _<_, zero-le, suc-le-suc}
+use Prim.Native.Nat.{ℕ, suc, _+_, _≤_, _<_}
 use Rattle.core.proofs.Walks.{Kept, passed-again, passed-more, round-closes, round-keeps, round-only}
 use Rattle.core.specs.Keys.{subjectOf}
 use Rattle.core.specs.Rounds.{AddedFact, Round, Rounds, Settled, last, more}

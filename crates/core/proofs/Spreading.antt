@@ -2,7 +2,7 @@
 use lib.Bits.{bitOr, and-le-r, or-add-and, or-lt}
 use lib.ListN.{length, length-reverse, getD, set, take}
 use lib.Seq.{getD-set-same, getD-set-other, set-getD, take-all, take-suc}
-use mathlib.Core.Bool.{Bool, true, false}
+use mathlib.Core.Bool.{Bool, true, false, true≢false}
 use mathlib.Core.List.{List, [], _∷_, _++_}
 use mathlib.Core.Logic.{_↔_, _⊎_, inl, inr}
 use mathlib.Core.Path.{_≡_, refl, sym, ap, _∙_, subst}
@@ -26,12 +26,6 @@ use Rattle.sets.proofs.Progress.{nearer}
 use Rattle.sets.specs.Buffers.{zeros}
 use Rattle.sets.specs.Progress.{Progress}
 use Rattle.meaning.proofs.Lists.Places.{reverse-at, zeros-at}
-
-pub true-not-false : {A : Type 0} → true ≡ false → A
-true-not-false e = absurd (let z : _≡_ {A = ℕ} 0 1 = cc in omega arith)
-
-pub false-not-true : {A : Type 0} → false ≡ true → A
-false-not-true e = true-not-false (sym e)
 
 -- ---- one triple
 
@@ -140,7 +134,7 @@ pub round-start : (table : List (List ℕ)) (triples : List ℕ) (back : Bool) (
 round-start table triples back p d = record {
   within = zero-le;
   long = refl;
-  turns = λ S tab car. record { walked = done; carried = car; added = false-not-true };
+  turns = λ S tab car. record { walked = done; carried = car; added = λ e. absurd (true≢false (sym e)) };
   progress = refl;
 }
 

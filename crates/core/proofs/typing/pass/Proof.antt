@@ -1,8 +1,9 @@
 -- `core::typing::pass` meets its contract. Assumes nothing.
 use borrow.Author.Needs.{needs}
 use native.Mathlib.Omega.{arith}
-use Rattle.core.proofs.Spreading.{false-not-true, pass-adds, pass-more, pass-nearer, pass-same}
-use mathlib.Core.Path.{refl}
+use Rattle.core.proofs.Spreading.{pass-adds, pass-more, pass-nearer, pass-same}
+use mathlib.Core.Bool.{true≢false}
+use mathlib.Core.Path.{refl, sym}
 use Rattle.core.proofs.typing.pass.Statement.{statement}
 use Rattle.core.proofs.typing.pass.Tie as tie
 
@@ -20,7 +21,7 @@ pass-spec =
       λ S tab. pass-same (s .args .shapes .now) (s .args .key) (c .before .targets .result) (s .args .masks .now) (omega (arith, s .pre .1 .to, s .pre .2))
           (c .before .before .before .slice-known2 .given _ .fits) (omega (arith, c .before .targets .ok)) (c .before .targets .ensures) S tab (c .if1 .taken),
       refl,
-      false-not-true,
+      λ e. absurd (true≢false (sym e)),
     ))  -- returns
     (λ c. search needs)  -- mul-masks
     (λ c. let pre = c .before .before .before .before .before .pre in omega (arith, pre .1 .from, pre .1 .to, pre .2))  -- slice-write-masks
