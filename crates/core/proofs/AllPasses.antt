@@ -10,12 +10,12 @@ use Prim.Native.Nat.{ℕ, _≤_, _<_}
 use Rattle.core.proofs.NodeKeys.{link-keys, subject-in}
 use Rattle.core.proofs.TripleKeys.{link-triple, no-triple}
 use Rattle.core.proofs.Rounds.{rounds-over, rounds-some}
-use Rattle.core.proofs.TypeSources.{decoded, spread-over, types-at}
+use Rattle.core.proofs.TypeSources.{decoded, spread-over, start-at, types-at}
 use Rattle.core.specs.Bounds.{HeadFits, HeadsFit}
 use Rattle.core.specs.Collected.{FromRules, SetGrown, KnownMatch, KnownRules, TypesMarked, HeadType, nodeKeys, objectKey, subjectKey, tripleKeys}
 use Rattle.core.specs.Heads.{kindNumber, namedNumber}
 use Rattle.core.specs.Outcomes.{CoreListed, NodeKeysListed, TripleKeysListed, TypesAnswer}
-use Rattle.core.specs.Rounds.{SettledIn}
+use Rattle.core.specs.Rounds.{RoundsMadeOn}
 use Rattle.core.specs.Spread.{AllTriplesFit, TripleFits, SpreadFrom}
 use Rattle.meaning.specs.Limits.{maxCoreNodes, maxCoreTriples, maxIris}
 use Rattle.meaning.specs.Member.{_∈_}
@@ -36,14 +36,19 @@ use Rattle.meaning.proofs.Theory.Rounds.{few-rounds}
 module _ {rules : List (List ℕ)} {count : ℕ} {heads counts : List ℕ} (fit : HeadsFit rules count heads counts) where
   pub types-answer : (nodes : List ℕ) → length nodes ≤ maxCoreNodes → (triples before : List ℕ) → before ≡ zeros (length before) → (start : List ℕ)
       → TypesMarked (FromRules (HeadType nodes) rules count heads counts) before start → (table : List (List ℕ)) (after : List ℕ)
-      → SpreadFrom table triples start after → {rounds : ℕ} → SettledIn table triples rounds start after
+      → SpreadFrom table triples start after → {rounds : ℕ} → RoundsMadeOn table triples rounds start after
       → TypesAnswer rounds table rules count heads counts nodes triples after
   types-answer nodes few triples before e start marked table after spread settled P h b tab l ts =
       let none : (i : ℕ) → getD before i 0 ≡ 0 = λ i. ap (λ (x : List ℕ). getD x i 0) e ∙ zeros-at (length before) i in
       let made = settled (P .setting) tab .made in (
         types-at fit nodes few P h b l triples ts before start none marked table tab after spread,
-        few-rounds (rounds-some made) (λ k m. spread-over fit nodes few P h b l triples ts before start none marked tab spread (rounds-over made k m))
-            (spread-number P (resolved P (b .resolved)) .1),
+        record {
+          start = start;
+          given = start-at fit nodes few P h b l triples ts before start none marked;
+          made = made;
+          few = few-rounds (rounds-some made) (λ k m. spread-over fit nodes few P h b l triples ts before start none marked tab spread (rounds-over made k m))
+              (spread-number P (resolved P (b .resolved)) .1);
+        },
       )
 
   -- ---- what the passes suppose of each other

@@ -8,9 +8,9 @@ use mathlib.Core.Path.{_≡_, refl, sym, ap, subst}
 use native.Mathlib.Decide.{ℕ-discrete}
 use native.Mathlib.Omega.{arith}
 use Prim.Native.Nat.{ℕ, suc, _+_, _≤_, _<_}
-use Rattle.core.proofs.Walks.{Kept, passed-again, passed-more, round-closes, round-keeps, round-only}
+use Rattle.core.proofs.Walks.{FactsKept, passed-again, passed-more, round-closes, round-keeps, round-only}
 use Rattle.core.specs.Keys.{subjectOf}
-use Rattle.core.specs.Rounds.{AddedFact, Round, Rounds, Settled, last, more}
+use Rattle.core.specs.Rounds.{AddedFact, Round, Rounds, RoundsMade, last, more}
 use Rattle.core.specs.Spread.{Passed, along, held}
 use Rattle.meaning.proofs.Cases.{case-lt}
 use Rattle.meaning.proofs.Lists.Bits.{members, members-in}
@@ -26,7 +26,7 @@ use Rattle.meaning.specs.TypeSet.{_∈ₜ_}
 use Rattle.shapes.proofs.Sets.{in?, none-in}
 
 -- what a round that adds none leaves was there
-had : {a b : List ℕ} → ((f : ℕ × Target) → ¬ AddedFact a b f) → Kept b a
+had : {a b : List ℕ} → ((f : ℕ × Target) → ¬ AddedFact a b f) → FactsKept b a
 had {a} {b} none i R h = go (in? R (getD a i 0))
   where
     go : Dec (R ∈ₜ setOfMask (getD a i 0)) → R ∈ₜ setOfMask (getD a i 0)
@@ -41,13 +41,13 @@ record Facts (n : ℕ) (a c : List ℕ) : Type 0 where
   added : (f : ℕ × Target) → f ∈ facts → AddedFact a c f
 
 module _ {S : Setting} {triples : List ℕ} where
-  rounds-keep : {n : ℕ} {a c : List ℕ} → Rounds S triples n a c → Kept a c
+  rounds-keep : {n : ℕ} {a c : List ℕ} → Rounds S triples n a c → FactsKept a c
   rounds-keep (last r none) i R h = round-keeps r i R h
   rounds-keep (more r f rest) i R h = rounds-keep rest i R (round-keeps r i R h)
 
   -- ---- the least set
 
-  closed : {a b : List ℕ} → Round S triples a b → Kept b a → {i : ℕ} {R : Target} → Passed S triples a i R → R ∈ₜ setOfMask (getD b i 0)
+  closed : {a b : List ℕ} → Round S triples a b → FactsKept b a → {i : ℕ} {R : Target} → Passed S triples a i R → R ∈ₜ setOfMask (getD b i 0)
   closed r same (held {i} {R} h) = round-keeps r i R h
   closed r same (along {k} {i} {t} {shape} {R} m q d e g) = round-closes r m (record {
     to = e;
@@ -109,5 +109,5 @@ added-number a c = number-of (×-discrete ℕ-discrete same-target) added? liste
     all f x = joined-in at (below-in (f .0) (length c) (inside (f .0) (f .1) (x .has))) (∈-map {B = ℕ × Target} (λ R. (f .0, R)) (members-in _ (f .1) (x .has)))
 
 -- the whole
-pub settled : {S : Setting} {triples : List ℕ} {n : ℕ} {a c : List ℕ} → Rounds S triples n a c → Settled S triples n a c
+pub settled : {S : Setting} {triples : List ℕ} {n : ℕ} {a c : List ℕ} → Rounds S triples n a c → RoundsMade S triples n a c
 settled {a = a} {c} r = record { made = r; few = few-rounds (rounds-some r) (rounds-over r) (added-number a c .1) }

@@ -14,7 +14,7 @@ use Prim.Native.Nat.{ℕ, zero, suc, _+_, _*_, _^_, _≤_, _<_, zero-le}
 use Rattle.core.specs.Keys.{objectOf, predicateOf, subjectOf}
 use Rattle.core.proofs.Rounds.{rounds-least, settled}
 use Rattle.core.proofs.Walks.{walk-keeps, walk-on}
-use Rattle.core.specs.Rounds.{Rounds, RoundsOn, SettledIn, SomeAdded, Walked, done, inTurn, last, more, turnAt}
+use Rattle.core.specs.Rounds.{Rounds, RoundOn, RoundsMadeOn, SomeAdded, TriplesWalked, done, inTurn, last, more, turnAt}
 use Rattle.core.specs.Spread.{Carried, PassShown, PassedOnce, Passes, SpreadFrom, maskRoom}
 use Rattle.meaning.specs.Limits.{maxCoreNodes}
 use Rattle.meaning.specs.Pack.{Setting, Shape, Target, type}
@@ -119,15 +119,15 @@ carried-start S triples d n = record { held = λ i h R s. absurd (no-shape (rw (
 
 -- ---- one round: the first i turns are taken
 
-record Turns (S : Setting) (triples : List ℕ) (back : Bool) (i : ℕ) (changed : Bool) (p d₀ d : List ℕ) : Type 0 where
-  walked : Walked S (take i (inTurn back triples)) d₀ d
+record TurnsTaken (S : Setting) (triples : List ℕ) (back : Bool) (i : ℕ) (changed : Bool) (p d₀ d : List ℕ) : Type 0 where
+  walked : TriplesWalked S (take i (inTurn back triples)) d₀ d
   carried : Carried S triples p d
   added : changed ≡ true → SomeAdded d₀ d
 
 pub record RoundDone (table : List (List ℕ)) (triples : List ℕ) (back : Bool) (i : ℕ) (changed : Bool) (p₀ p d₀ d : List ℕ) : Type 0 where
   pub within : i ≤ length triples
   pub long : length d ≡ length d₀
-  turns : (S : Setting) → Tabled S table → Carried S triples p₀ d₀ → Turns S triples back i changed p d₀ d
+  turns : (S : Setting) → Tabled S table → Carried S triples p₀ d₀ → TurnsTaken S triples back i changed p d₀ d
   pub progress : Progress maskRoom changed d₀ d
 
 pub round-start : (table : List (List ℕ)) (triples : List ℕ) (back : Bool) (p d : List ℕ) → RoundDone table triples back 0 false p p d d
@@ -168,10 +168,10 @@ module _ {table : List (List ℕ)} {triples : List ℕ} {back : Bool} {i : ℕ} 
   abbrev from : ℕ
   from = getD d (subjectOf key) 0
 
-  walk-more : {S : Setting} {d′ : List ℕ} → Walked S (take i (inTurn back triples)) d₀ d → PassedOnce S key d d′ → Walked S (take (i + 1) (inTurn back triples)) d₀ d′
+  walk-more : {S : Setting} {d′ : List ℕ} → TriplesWalked S (take i (inTurn back triples)) d₀ d → PassedOnce S key d d′ → TriplesWalked S (take (i + 1) (inTurn back triples)) d₀ d′
   walk-more {S} {d′} w q =
       let e = turn-more triples i h back ∙ ap (λ k. take i (inTurn back triples) ++ (getD triples k 0 ∷ [])) (sym turn) in
-      subst (λ (ks : List ℕ). Walked S ks d₀ d′) (sym e) (walk-on w q)
+      subst (λ (ks : List ℕ). TriplesWalked S ks d₀ d′) (sym e) (walk-on w q)
 
   pub round-skip : getD p at 0 ≡ from → RoundDone table triples back (i + 1) changed p₀ p d₀ d
   round-skip e = record {
@@ -208,11 +208,11 @@ module _ {table : List (List ℕ)} {triples : List ℕ} {back : Bool} {i : ℕ} 
     })
 
 pub round-done : {table : List (List ℕ)} {triples : List ℕ} {back : Bool} {i : ℕ} {changed : Bool} {p₀ p d₀ d : List ℕ}
-    → RoundDone table triples back i changed p₀ p d₀ d → length triples ≤ i → RoundsOn table triples back changed p₀ p d₀ d
+    → RoundDone table triples back i changed p₀ p d₀ d → length triples ≤ i → RoundOn table triples back changed p₀ p d₀ d
 round-done {triples = triples} {back} {i} {d₀ = d₀} {d} r h S tab car =
     let o = r .turns S tab car in
     record {
-      walked = subst (λ (ks : List ℕ). Walked S ks d₀ d) (take-all i (inTurn back triples) (all back)) (o .walked);
+      walked = subst (λ (ks : List ℕ). TriplesWalked S ks d₀ d) (take-all i (inTurn back triples) (all back)) (o .walked);
       carried = o .carried;
       added = o .added;
     }
@@ -246,7 +246,7 @@ module _ {table : List (List ℕ)} {triples : List ℕ} {rounds : ℕ} {p d₀ d
   pub rounds-few : length d₀ ≡ maxCoreNodes → rounds ≤ 65535 * maxCoreNodes
   rounds-few e = let r : maskRoom d₀ ≤ 65535 * maxCoreNodes = rw e at (room-most d₀) in omega (arith, s .room)
 
-  module _ {p′ d′ : List ℕ} {back changed : Bool} (l : length d′ ≡ length d) (r : RoundsOn table triples back changed p p′ d d′) where
+  module _ {p′ d′ : List ℕ} {back changed : Bool} (l : length d′ ≡ length d) (r : RoundOn table triples back changed p p′ d d′) where
     pub spread-again : changed ≡ true → maskRoom d′ < maskRoom d → Spreading table triples (rounds + 1) p′ d₀ d′
     spread-again some less = record {
       long = l ∙ s .long;
@@ -268,5 +268,5 @@ module _ {table : List (List ℕ)} {triples : List ℕ} {rounds : ℕ} {p d₀ d
         (s .so-far S tab (last (record { back = back; walked = o .walked }) (λ f x. x .had-not (subst (λ (m : List ℕ). f .1 ∈ₜ setOfMask (getD m (f .0) 0)) e (x .has)))))
 
 pub spread-done : {table : List (List ℕ)} {triples : List ℕ} {rounds : ℕ} {d₀ d : List ℕ} → ((S : Setting) → Tabled S table → Rounds S triples rounds d₀ d)
-    → SpreadFrom table triples d₀ d × SettledIn table triples rounds d₀ d
+    → SpreadFrom table triples d₀ d × RoundsMadeOn table triples rounds d₀ d
 spread-done made = (λ S tab. rounds-least (made S tab), λ S tab. settled (made S tab))

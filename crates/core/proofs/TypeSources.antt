@@ -90,6 +90,18 @@ module _ {rules : List (List ℕ)} {count : ℕ} {heads counts : List ℕ} (fit 
         gives = of-fact nodes (g .values) (g .rule .head) (fine b (g .listed) (g .values) (g .matches)) n R (g .says);
       })))
 
+  -- at each node's place
+  pub start-at : (i : ℕ) (n : Node) → CoreNode P n → getElem? nodes i ≡ some (keyOf n) → (R : Target) → (R ∈ₜ setOfMask (getD start i 0)) ↔ Given P (typed n R)
+  start-at i n c e R = (forth, λ g. subst (λ j. R ∈ₜ setOfMask (getD start j 0)) place (start-in n R g))
+    where
+      place : rankOf (keyOf n) nodes ≡ i
+      place = rank-at (keyOf n) nodes i (l .ascending) e
+
+      forth : R ∈ₜ setOfMask (getD start i 0) → Given P (typed n R)
+      forth m =
+          let r = start-only i R m in
+          subst (λ x. Given P (typed x R)) (rank-one fit nodes few P h b l (asTyped (r .1)) c (sym (r .2) ∙ sym place)) (r .1)
+
   -- ---- what spreads
 
   sound : {i : ℕ} {R : Target} → Passed (P .setting) triples start i R → (n : Node) → CoreNode P n → i ≡ rankOf (keyOf n) nodes → CoreType P n R

@@ -7,7 +7,7 @@ use mathlib.Core.Logic.{_↔_, _⊎_, inl, inr}
 use mathlib.Core.Path.{refl, subst}
 use Prim.Native.Nat.{ℕ}
 use Rattle.core.specs.Keys.{subjectOf}
-use Rattle.core.specs.Rounds.{Round, Walked, done, inTurn, next}
+use Rattle.core.specs.Rounds.{Round, TriplesWalked, done, inTurn, next}
 use Rattle.core.specs.Spread.{Passed, PassedOnce, Passes, along, held}
 use Rattle.meaning.proofs.Lists.Members.{reverse-in, reverse-only}
 use Rattle.meaning.specs.Member.{_∈_, here, there}
@@ -16,14 +16,14 @@ use Rattle.meaning.specs.Tables.{setOfMask}
 use Rattle.meaning.specs.TypeSet.{_∈ₜ_}
 
 -- every fact of the first is one of the second
-abbrev pub Kept : List ℕ → List ℕ → Type 0
-Kept a b = (i : ℕ) (R : Target) → R ∈ₜ setOfMask (getD a i 0) → R ∈ₜ setOfMask (getD b i 0)
+abbrev pub FactsKept : List ℕ → List ℕ → Type 0
+FactsKept a b = (i : ℕ) (R : Target) → R ∈ₜ setOfMask (getD a i 0) → R ∈ₜ setOfMask (getD b i 0)
 
 module _ {S : Setting} where
   -- ---- what is passed
 
   -- by more facts more passes
-  passes-more : {a b : List ℕ} → Kept a b → {k i : ℕ} {R : Target} → Passes S a k i R → Passes S b k i R
+  passes-more : {a b : List ℕ} → FactsKept a b → {k i : ℕ} {R : Target} → Passes S a k i R → Passes S b k i R
   passes-more keeps {k} {i} {R} q = record {
     to = q .to;
     shape = record {
@@ -36,7 +36,7 @@ module _ {S : Setting} where
   }
 
   module _ {triples : List ℕ} where
-    pub passed-more : {a b : List ℕ} → Kept a b → {i : ℕ} {R : Target} → Passed S triples a i R → Passed S triples b i R
+    pub passed-more : {a b : List ℕ} → FactsKept a b → {i : ℕ} {R : Target} → Passed S triples a i R → Passed S triples b i R
     passed-more keeps (held {i} {R} h) = held (keeps i R h)
     passed-more keeps (along m q s e g) = along m (passed-more keeps q) s e g
 
@@ -49,19 +49,19 @@ module _ {S : Setting} where
   -- ---- walks
 
   -- a triple more
-  pub walk-on : {ks a b c : List ℕ} {k : ℕ} → Walked S ks a b → PassedOnce S k b c → Walked S (ks ++ (k ∷ [])) a c
+  pub walk-on : {ks a b c : List ℕ} {k : ℕ} → TriplesWalked S ks a b → PassedOnce S k b c → TriplesWalked S (ks ++ (k ∷ [])) a c
   walk-on done p = next p done
   walk-on (next q w) p = next q (walk-on w p)
 
-  pub walk-keeps : {ks a c : List ℕ} → Walked S ks a c → Kept a c
+  pub walk-keeps : {ks a c : List ℕ} → TriplesWalked S ks a c → FactsKept a c
   walk-keeps done i R h = h
   walk-keeps (next p w) i R h = walk-keeps w i R (p i R .1 (inl h))
 
-  walk-closes : {ks a c : List ℕ} → Walked S ks a c → {k : ℕ} → k ∈ ks → {i : ℕ} {R : Target} → Passes S a k i R → R ∈ₜ setOfMask (getD c i 0)
+  walk-closes : {ks a c : List ℕ} → TriplesWalked S ks a c → {k : ℕ} → k ∈ ks → {i : ℕ} {R : Target} → Passes S a k i R → R ∈ₜ setOfMask (getD c i 0)
   walk-closes (next {a = a} p w) (here e) {i} {R} q = walk-keeps w i R (p i R .1 (inr (subst (λ k. Passes S a k i R) e q)))
   walk-closes (next p w) (there m) q = walk-closes w m (passes-more (λ i R h. p i R .1 (inl h)) q)
 
-  walk-only : {triples ks a c : List ℕ} → Walked S ks a c → ((k : ℕ) → k ∈ ks → k ∈ triples) → (i : ℕ) (R : Target) → R ∈ₜ setOfMask (getD c i 0)
+  walk-only : {triples ks a c : List ℕ} → TriplesWalked S ks a c → ((k : ℕ) → k ∈ ks → k ∈ triples) → (i : ℕ) (R : Target) → R ∈ₜ setOfMask (getD c i 0)
       → Passed S triples a i R
   walk-only done f i R h = held h
   walk-only {triples} (next {k} {a = a} p w) f i R h = passed-again (λ j Q m. go j Q (p j Q .0 m)) (walk-only w (λ k m. f k (there m)) i R h)
@@ -77,7 +77,7 @@ in-turn false triples k = (λ m. m, λ m. m)
 in-turn true triples k = (reverse-only triples, reverse-in)
 
 module _ {S : Setting} {triples a b : List ℕ} (r : Round S triples a b) where
-  pub round-keeps : Kept a b
+  pub round-keeps : FactsKept a b
   round-keeps = walk-keeps (r .walked)
 
   pub round-only : (i : ℕ) (R : Target) → R ∈ₜ setOfMask (getD b i 0) → Passed S triples a i R

@@ -6,6 +6,7 @@ use Rattle.core.specs.Bounds.{Bounded}
 use Rattle.core.specs.Collected.{FromRules, SetGrown, nodeKeys, tripleKeys}
 use Rattle.core.specs.Heads.{HeadsHeld}
 use Rattle.core.specs.CoreHeld.{CoreHeld, NodeKey, TripleKey, TypesAt}
+use Rattle.core.specs.Rounds.{SettledIn}
 use Rattle.core.specs.declared.Outcome.{Outcome}
 use Rattle.core.specs.declared.Outcome.the-variants.{Held, TooLarge as NotHeld}
 use Rattle.core.specs.declared.counted.Counted.{Counted}
@@ -15,7 +16,6 @@ use Rattle.meaning.specs.Member.{_∈_}
 use Rattle.meaning.specs.NoGraph.{CoreIri, CoreTriple, TooLarge as CoreTooLarge}
 use Rattle.meaning.specs.Ordered.{ListOf, Over}
 use Rattle.meaning.specs.Pack.{Pack}
-use Rattle.meaning.specs.Spreading.{FewRounds, SpreadFact}
 use Rattle.shapes.specs.Shapes.{Tabled}
 
 -- The node keys: all of them in the first m places, or the core has too many IRIs.
@@ -44,7 +44,7 @@ TriplesAnswer TooLarge nodes rules count heads counts before after =
 abbrev pub TypesAnswer : ℕ → List (List ℕ) → List (List ℕ) → ℕ → List ℕ → List ℕ → List ℕ → List ℕ → List ℕ → Type 0
 TypesAnswer rounds table rules count heads counts nodes triples masks =
     (P : Pack) → HeadsHeld P rules count heads counts → Bounded P → Tabled (P .setting) table → ListOf _<_ (NodeKey P) nodes
-    → ListOf _<_ (TripleKey P nodes) triples → TypesAt P nodes masks × FewRounds (SpreadFact P) rounds
+    → ListOf _<_ (TripleKey P nodes) triples → TypesAt P nodes masks × SettledIn P nodes triples rounds masks
 
 -- The whole core: n nodes and t triples, its types spread in so many rounds; or that it is too large (9: "The core has over 512
 -- IRI nodes or 1,024 triples.").
@@ -53,7 +53,8 @@ pub record CoreListed (n t rounds : ℕ) (table rules : List (List ℕ)) (count 
   pub few-triples : t ≤ maxCoreTriples
   pub held : (P : Pack) → HeadsHeld P rules count heads counts → Bounded P → Tabled (P .setting) table
       → CoreHeld P (take n nodes) (take t triples) masks
-  pub settled : (P : Pack) → HeadsHeld P rules count heads counts → Bounded P → Tabled (P .setting) table → FewRounds (SpreadFact P) rounds
+  pub settled : (P : Pack) → HeadsHeld P rules count heads counts → Bounded P → Tabled (P .setting) table
+      → SettledIn P (take n nodes) (take t triples) rounds masks
   pub within : (P : Pack) → HeadsHeld P rules count heads counts → Bounded P → ¬ CoreTooLarge P
 
 abbrev pub CoreAnswer : Outcome → List (List ℕ) → List (List ℕ) → ℕ → List ℕ → List ℕ → List ℕ → List ℕ → List ℕ → Type 0

@@ -21,7 +21,7 @@ ghost use Rattle.shapes.specs.Shapes.{CodesFit};
 ghost use Rattle.core.specs.Bounds.{HeadFits, KeyFits, KeysFit, HeadsFit};
 ghost use Rattle.core.specs.Collected.{FromKeys, FromRules, KnownMatch, KnownKeys, KnownRules, TypesMarked, HeadType};
 ghost use Rattle.core.specs.Outcomes.{TypesAnswer};
-ghost use Rattle.core.specs.Rounds.{RoundsOn, SettledIn, SomeAdded, turnAt};
+ghost use Rattle.core.specs.Rounds.{RoundOn, RoundsMadeOn, SomeAdded, turnAt};
 ghost use Rattle.core.specs.Spread.{AllTriplesFit, maskRoom, PassShown, TripleFits, SpreadFrom};
 ghost use Rattle.sets.specs.Progress.{Progress};
 
@@ -108,7 +108,7 @@ fn round(
     masks: &mut [u16],
 ) -> bool
     requires { ⌜ CodesFit (now shapes) × AllTriplesFit (now triples) × (length (now triples) ≤ maxCoreTriples) × (maxCoreNodes ≤ length (now masks)) ⌝ }
-    ensures { λ r. ⌜ RoundsOn (now (shapes .entry)) (now (triples .entry)) back r (now (passed .entry)) (now (passed .exit)) (now (masks .entry)) (now (masks .exit))
+    ensures { λ r. ⌜ RoundOn (now (shapes .entry)) (now (triples .entry)) back r (now (passed .entry)) (now (passed .exit)) (now (masks .entry)) (now (masks .exit))
         × Progress maskRoom r (now (masks .entry)) (now (masks .exit)) ⌝ }
 {
     let mut changed = false;
@@ -132,7 +132,7 @@ fn round(
 fn spread(shapes: &ShapeTable, triples: &[u64], masks: &mut [u16]) -> usize
     requires { ⌜ CodesFit (now shapes) × AllTriplesFit (now triples) × (length (now triples) ≤ maxCoreTriples) × (length (now masks) ≡ maxCoreNodes) ⌝ }
     ensures { λ r. ⌜ SpreadFrom (now (shapes .entry)) (now (triples .entry)) (now (masks .entry)) (now (masks .exit))
-        × SettledIn (now (shapes .entry)) (now (triples .entry)) r (now (masks .entry)) (now (masks .exit)) ⌝ }
+        × RoundsMadeOn (now (shapes .entry)) (now (triples .entry)) r (now (masks .entry)) (now (masks .exit)) ⌝ }
 {
     let mut passed = [0u16; MAX_CORE_TRIPLES];
     let mut rounds = 0;

@@ -1,14 +1,14 @@
 // In how many rounds a pack's types spread: packs that are compared, not proved. Standard input and the output expected are
 // written by tests/second (src/bin/rounds.rs).
 //
-// Standard input has a pack after another. A pack: lengths of its title and of the pack (three bytes), lowest byte first; title;
-// pack.
-mod settle; // the count
+// Standard input has a pack after another. A pack: length of its title (one byte) and of the pack (three bytes, the lowest first);
+// title; pack.
+mod count; // the rounds of a pack
 
 ghost use lib.ListN.{length};
 ghost use Prim.Native.Nat.{_≤_};
-use crate::settle::Settled;
-use crate::settle::settle;
+use crate::count::RoundCount;
+use crate::count::count_rounds;
 
 // Three bytes as a number, the lowest first.
 fn number(low: u8, middle: u8, high: u8) -> usize {
@@ -22,13 +22,13 @@ fn say(key: &[u8], n: usize) {
 }
 
 // The refusal, or the core's size and the rounds.
-fn say_settled(settled: Settled) {
-    if settled.refusal != 0 {
-        say(b": refused ", settled.refusal as usize);
+fn say_count(count: RoundCount) {
+    if count.refusal != 0 {
+        say(b": refused ", count.refusal as usize);
     } else {
-        say(b": nodes ", settled.nodes);
-        say(b", triples ", settled.triples);
-        say(b", rounds ", settled.rounds);
+        say(b": nodes ", count.nodes);
+        say(b", triples ", count.triples);
+        say(b", rounds ", count.rounds);
     }
     io::write_all(1, b"\n");
 }
@@ -44,18 +44,18 @@ fn say_title(text: &mut [u8], n: usize) -> bool
     true
 }
 
-// Reads a pack of `n` bytes and settles its types.
+// Reads a pack of `n` bytes and counts its rounds.
 fn say_pack(pack: &mut [u8], n: usize) -> bool
     requires { ⌜ n ≤ length (now pack) ⌝ }
 {
     if io::read_full(0, &mut pack[0..n]) < n {
         return false;
     }
-    say_settled(settle(&pack[0..n]));
+    say_count(count_rounds(&pack[0..n]));
     true
 }
 
-// The next pack; false at the input's end.
+// The next pack; false at the input's end, or where a length is too large.
 fn next_pack() -> bool {
     let mut head = [0u8; 4];
     if io::read_full(0, &mut head) < 4 {

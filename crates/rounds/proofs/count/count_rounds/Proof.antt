@@ -1,11 +1,11 @@
--- `rounds::settle::settle` is safe. Assumes nothing.
+-- `rounds::count::count_rounds` is safe. Assumes nothing.
 use borrow.Author.Needs.{needs}
 use Rattle.construct.proofs.FromSteps.{is-resolved}
-use Rattle.rounds.proofs.settle.settle.Statement.{statement}
-use Rattle.rounds.proofs.settle.settle.Tie as tie
+use Rattle.rounds.proofs.count.count_rounds.Statement.{statement}
+use Rattle.rounds.proofs.count.count_rounds.Tie as tie
 
-pub settle-spec : {M : Type 1} → statement M
-settle-spec =
+pub count-rounds-spec : {M : Type 1} → statement M
+count-rounds-spec =
     tie.close
     (tie.spec
     (λ c. search needs)  -- slice-aggregate-check

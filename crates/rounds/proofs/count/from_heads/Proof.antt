@@ -1,9 +1,9 @@
--- `rounds::settle::from_heads` is safe. Assumes nothing.
+-- `rounds::count::from_heads` is safe. Assumes nothing.
 use borrow.Author.Needs.{needs}
 use mathlib.Core.Path.{refl}
 use Rattle.construct.proofs.FromHeads.{core-ready, setting-given, setting-resolved}
-use Rattle.rounds.proofs.settle.from_heads.Statement.{statement}
-use Rattle.rounds.proofs.settle.from_heads.Tie as tie
+use Rattle.rounds.proofs.count.from_heads.Statement.{statement}
+use Rattle.rounds.proofs.count.from_heads.Tie as tie
 
 pub from-heads-spec : {M : Type 1} → statement M
 from-heads-spec =

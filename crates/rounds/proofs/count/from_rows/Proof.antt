@@ -1,9 +1,9 @@
--- `rounds::settle::from_rows` is safe. Assumes nothing.
+-- `rounds::count::from_rows` is safe. Assumes nothing.
 use borrow.Author.Needs.{needs}
 use native.Mathlib.Omega.{arith}
 use Rattle.construct.proofs.FromRows.{heads-of}
-use Rattle.rounds.proofs.settle.from_rows.Statement.{statement}
-use Rattle.rounds.proofs.settle.from_rows.Tie as tie
+use Rattle.rounds.proofs.count.from_rows.Statement.{statement}
+use Rattle.rounds.proofs.count.from_rows.Tie as tie
 use Rattle.rule_heads.proofs.Flagged.{as-found}
 
 pub from-rows-spec : {M : Type 1} → statement M

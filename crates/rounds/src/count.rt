@@ -19,15 +19,15 @@ ghost use Rattle.meaning.specs.Limits.{headsLength};
 ghost use Rattle.names.specs.PackGiven.{IsResolved};
 
 // A refusal's number; or 0, the core's size and the rounds.
-pub struct Settled {
+pub struct RoundCount {
     pub refusal: u8,
     pub nodes: usize,
     pub triples: usize,
     pub rounds: usize,
 }
 
-fn refused(refusal: u8) -> Settled {
-    Settled {
+fn refused(refusal: u8) -> RoundCount {
+    RoundCount {
         refusal,
         nodes: 0,
         triples: 0,
@@ -36,7 +36,12 @@ fn refused(refusal: u8) -> Settled {
 }
 
 // From the heads: 9, or the core.
-fn from_heads(counts: [usize; BODIES], numbers: &[u16], found: AllHeads, heads: &[u64]) -> Settled
+fn from_heads(
+    counts: [usize; BODIES],
+    numbers: &[u16],
+    found: AllHeads,
+    heads: &[u64],
+) -> RoundCount
     requires { ⌜ HeadsGiven counts (now numbers) found (now heads) × (headsLength ≤ length (now heads)) ⌝ }
 {
     let shapes = shape_table(counts, numbers);
@@ -55,7 +60,7 @@ fn from_heads(counts: [usize; BODIES], numbers: &[u16], found: AllHeads, heads: 
         &mut masks,
     ) {
         Outcome::TooLarge => refused(9),
-        Outcome::Held(n, t, r) => Settled {
+        Outcome::Held(n, t, r) => RoundCount {
             refusal: 0,
             nodes: n,
             triples: t,
@@ -65,7 +70,7 @@ fn from_heads(counts: [usize; BODIES], numbers: &[u16], found: AllHeads, heads: 
 }
 
 // From a setting's numbers and rows.
-fn from_rows(counts: [usize; BODIES], numbers: &[u16], rows: &[u16]) -> Settled
+fn from_rows(counts: [usize; BODIES], numbers: &[u16], rows: &[u16]) -> RoundCount
     requires { ⌜ IsResolved counts (now numbers) (now rows) ⌝ }
 {
     let mut heads = [0u64; HEADS_LENGTH];
@@ -78,7 +83,7 @@ fn from_rows(counts: [usize; BODIES], numbers: &[u16], rows: &[u16]) -> Settled
 }
 
 // Refusals 3 to 7 and 9; 8, 10 and 11 are not looked for.
-pub fn settle(pack: &[u8]) -> Settled {
+pub fn count_rounds(pack: &[u8]) -> RoundCount {
     let mut numbers = [0u16; SETTING_LENGTH];
     let mut rows = [0u16; ROWS_LENGTH];
     let checked = check(pack, &mut numbers, &mut rows);
