@@ -138,6 +138,11 @@ round-start table triples back p d = record {
   progress = refl;
 }
 
+-- as many turns as triples
+turns-long : (triples : List ℕ) (back : Bool) → length (inTurn back triples) ≡ length triples
+turns-long triples false = refl
+turns-long triples true = length-reverse triples
+
 -- the triple of a turn
 module _ (triples : List ℕ) (i : ℕ) (h : i < length triples) where
   pub turn-inside : (back : Bool) → turnAt back (length triples) i < length triples
@@ -148,13 +153,9 @@ module _ (triples : List ℕ) (i : ℕ) (h : i < length triples) where
   turn-key false = refl
   turn-key true = reverse-at triples i 0 h
 
-  turns-long : (back : Bool) → length (inTurn back triples) ≡ length triples
-  turns-long false = refl
-  turns-long true = length-reverse triples
-
   turn-more : (back : Bool) → take (i + 1) (inTurn back triples) ≡ take i (inTurn back triples) ++ (getD triples (turnAt back (length triples) i) 0 ∷ [])
   turn-more back =
-      ap (λ k. take k (inTurn back triples)) (add-one i) ∙ take-suc (inTurn back triples) i 0 (omega (arith, turns-long back))
+      ap (λ k. take k (inTurn back triples)) (add-one i) ∙ take-suc (inTurn back triples) i 0 (omega (arith, turns-long triples back))
       ∙ ap (λ k. take i (inTurn back triples) ++ (k ∷ [])) (turn-key back)
 
 module _ {table : List (List ℕ)} {triples : List ℕ} {back : Bool} {i : ℕ} {changed : Bool} {p₀ p d₀ d : List ℕ}
@@ -212,14 +213,10 @@ pub round-done : {table : List (List ℕ)} {triples : List ℕ} {back : Bool} {i
 round-done {triples = triples} {back} {i} {d₀ = d₀} {d} r h S tab car =
     let o = r .turns S tab car in
     record {
-      walked = subst (λ (ks : List ℕ). TriplesWalked S ks d₀ d) (take-all i (inTurn back triples) (all back)) (o .walked);
+      walked = subst (λ (ks : List ℕ). TriplesWalked S ks d₀ d) (take-all i (inTurn back triples) (omega (arith, turns-long triples back))) (o .walked);
       carried = o .carried;
       added = o .added;
     }
-  where
-    all : (back : Bool) → length (inTurn back triples) ≤ i
-    all false = h
-    all true = omega (arith, length-reverse triples)
 
 -- ---- round by round: so many are made, each of which added something
 

@@ -54,7 +54,7 @@ RoundsMadeOn table triples rounds before after = (S : Setting) → Tabled S tabl
 
 -- ---- of a pack
 
--- From the types that the heads give the masks come in so many rounds over the core's triples.
+-- From the types that the heads give the masks come in so many rounds over the core's triples, and these are few.
 pub record SettledIn (P : Pack) (nodes triples : List ℕ) (rounds : ℕ) (masks : List ℕ) : Type 0 where
   pub start : List ℕ
   pub given : (i : ℕ) (n : Node) → CoreNode P n → getElem? nodes i ≡ some (keyOf n) → (R : Target) → (R ∈ₜ setOfMask (getD start i 0)) ↔ Given P (typed n R)

@@ -9,6 +9,10 @@ ghost use lib.ListN.{length};
 ghost use Prim.Native.Nat.{_≤_};
 use crate::count::RoundCount;
 use crate::count::count_rounds;
+use meaning::MAX_PACK_BYTES;
+
+// One byte more than a pack may have, so that one that is too long is refused as such.
+const ROOM: usize = MAX_PACK_BYTES + 1;
 
 // Three bytes as a number, the lowest first.
 fn number(low: u8, middle: u8, high: u8) -> usize {
@@ -63,14 +67,14 @@ fn next_pack() -> bool {
     }
     let m = number(head[0], 0, 0);
     let n = number(head[1], head[2], head[3]);
-    if m > 255 || n > 66000 {
+    if m > 255 || n > ROOM {
         return false;
     }
     let mut title = [0u8; 255];
     if !say_title(&mut title, m) {
         return false;
     }
-    let mut pack = [0u8; 66000];
+    let mut pack = [0u8; ROOM];
     say_pack(&mut pack, n)
 }
 

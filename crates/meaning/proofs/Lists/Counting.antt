@@ -6,7 +6,7 @@ use mathlib.Core.Logic.{_≢_}
 use mathlib.Core.Path.{_≡_, refl, sym, ap, _∙_, subst}
 use native.Mathlib.Omega.{arith}
 use Prim.Native.Nat.{ℕ, suc, _+_, _-_, _≤_, _<_, zero-le}
-use Rattle.meaning.proofs.Lists.Members.{∈-dec}
+use Rattle.meaning.proofs.Lists.Members.{selected, selected-in, selected-only, ∈-dec}
 use Rattle.meaning.proofs.Lists.Ordered.{Strict, all-different}
 use Rattle.meaning.specs.Member.{_∈_, here, there}
 use Rattle.meaning.specs.Ordered.{InOrder, ListOf, Number, Over, before, empty}
@@ -106,44 +106,42 @@ over-by f {Q} S m l h o =
 
 -- ---- exactly so many
 
+-- the elements of a list, each once
+once : {A : Type 0} → Discrete A → (xs : List A) → (ys : List A) × ListOf _≢_ (λ y. y ∈ xs) ys
+once same [] = ([], record { ascending = empty; members = λ y. (λ h. h, λ h. h) })
+once {A} same (x ∷ xs) = put (once same xs)
+  where
+    put : (ys : List A) × ListOf _≢_ (λ y. y ∈ xs) ys → (ys : List A) × ListOf _≢_ (λ y. y ∈ (x ∷ xs)) ys
+    put (ys, l) = go (∈-dec same x ys)
+      where
+        go : Dec (x ∈ ys) → (ys : List A) × ListOf _≢_ (λ y. y ∈ (x ∷ xs)) ys
+        go (yes m) = (ys, record { ascending = l .ascending; members = λ y. (λ h. there (l .members y .0 h), back) })
+          where
+            back : {y : A} → y ∈ (x ∷ xs) → y ∈ ys
+            back (here e) = rw e m
+            back {y} (there i) = l .members y .1 i
+        go (no n) = (x ∷ ys, record { ascending = before (λ y i e. n (subst (λ z. z ∈ ys) (sym e) i)) (l .ascending); members = λ y. (forth, back) })
+          where
+            forth : {y : A} → y ∈ (x ∷ ys) → y ∈ (x ∷ xs)
+            forth (here e) = here e
+            forth {y} (there i) = there (l .members y .0 i)
+
+            back : {y : A} → y ∈ (x ∷ xs) → y ∈ (x ∷ ys)
+            back (here e) = here e
+            back {y} (there i) = there (l .members y .1 i)
+
 module _ {A : Type 0} {Q : A → Type 0} where
-  -- those of a list of which a decided Q holds, each once
-  listed-once : Discrete A → ((x : A) → Dec (Q x)) → (xs : List A) → (ys : List A) × ListOf _≢_ (λ y. (y ∈ xs) × Q y) ys
-  listed-once same d [] = ([], record { ascending = empty; members = λ x. (λ h. elim h [ ], λ h. elim (h .0) [ ]) })
-  listed-once same d (x ∷ xs) = go (listed-once same d xs) (d x)
-    where
-      go : (ys : List A) × ListOf _≢_ (λ y. (y ∈ xs) × Q y) ys → Dec (Q x) → (ys : List A) × ListOf _≢_ (λ y. (y ∈ (x ∷ xs)) × Q y) ys
-      go (ys, l) (no n) = (ys, record { ascending = l .ascending; members = λ y. (λ h. let m = l .members y .0 h in (there (m .0), m .1), back) })
-        where
-          back : {y : A} → (y ∈ (x ∷ xs)) × Q y → y ∈ ys
-          back {y} (here e, q) = absurd (n (subst Q e q))
-          back {y} (there m, q) = l .members y .1 (m, q)
-      go (ys, l) (yes q) = put (∈-dec same x ys)
-        where
-          put : Dec (x ∈ ys) → (ys : List A) × ListOf _≢_ (λ y. (y ∈ (x ∷ xs)) × Q y) ys
-          put (yes m) = (ys, record { ascending = l .ascending; members = λ y. (λ h. let k = l .members y .0 h in (there (k .0), k .1), back) })
-            where
-              back : {y : A} → (y ∈ (x ∷ xs)) × Q y → y ∈ ys
-              back {y} (here e, r) = rw e m
-              back {y} (there k, r) = l .members y .1 (k, r)
-          put (no n) = (x ∷ ys, record { ascending = before (λ y i e. n (subst (λ z. z ∈ ys) (sym e) i)) (l .ascending); members = λ y. (forth, back) })
-            where
-              forth : {y : A} → y ∈ (x ∷ ys) → (y ∈ (x ∷ xs)) × Q y
-              forth {y} (here e) = (here e, rw e q)
-              forth {y} (there m) = let k = l .members y .0 m in (there (k .0), k .1)
-
-              back : {y : A} → (y ∈ (x ∷ xs)) × Q y → y ∈ (x ∷ ys)
-              back {y} (here e, r) = here e
-              back {y} (there k, r) = there (l .members y .1 (k, r))
-
   -- a decided set whose elements are all in some list has a number
   pub number-of : Discrete A → ((x : A) → Dec (Q x)) → (xs : List A) → ((x : A) → Q x → x ∈ xs) → (n : ℕ) × Number Q n
   number-of same d xs all =
-      let (ys, l) = listed-once same d xs in (
+      let (ys, l) = once same (selected d xs) in (
         length ys,
         record {
           all = ys;
-          list = record { ascending = l .ascending; members = λ x. (λ m. l .members x .0 m .1, λ q. l .members x .1 (all x q, q)) };
+          list = record {
+            ascending = l .ascending;
+            members = λ x. (λ m. selected-only d xs (l .members x .0 m) .1, λ q. l .members x .1 (selected-in d (all x q) q));
+          };
           many = refl;
         },
       )

@@ -122,13 +122,20 @@ module _ (P : Pack) where
     abbrev pub CoreTyped : Node × Target → Type 0
     CoreTyped q = CoreType P (q .0) (q .1)
 
-    reached-type : {q : Node × Target} → Reached same-pair firstTypes spread q → CoreTyped q
-    unfolding firstTypes spread passedOn typedIn
-    reached-type {q} (seed h) = let r = collect-only typedIn (facts P) h in go (r .0) (given-iff (r .0) .0 (r .1)) (r .2)
+    firstTypes-iff : (q : Node × Target) → (q ∈ firstTypes) ↔ Given P (typed (q .0) (q .1))
+    unfolding firstTypes typedIn
+    firstTypes-iff q = (forth, λ g. collect-in typedIn (given-iff _ .1 g) refl)
       where
-        go : (f : Fact) → Given P f → typedIn f ≡ some q → CoreTyped q
-        go (typed n S) g e = subst CoreTyped (Option·some-injective (n, S) q e) (given g)
-        go (triple n p m) g e = absurd (Option·none-ne-some q e)
+        forth : q ∈ filterMap typedIn (facts P) → Given P (typed (q .0) (q .1))
+        forth h = let r = collect-only typedIn (facts P) h in go (r .0) (given-iff (r .0) .0 (r .1)) (r .2)
+          where
+            go : (f : Fact) → Given P f → typedIn f ≡ some q → Given P (typed (q .0) (q .1))
+            go (typed n S) g e = subst (λ (x : Node × Target). Given P (typed (x .0) (x .1))) (Option·some-injective (n, S) q e) g
+            go (triple n p m) g e = absurd (Option·none-ne-some q e)
+
+    reached-type : {q : Node × Target} → Reached same-pair firstTypes spread q → CoreTyped q
+    unfolding spread passedOn
+    reached-type {q} (seed h) = given (firstTypes-iff q .0 h)
     reached-type {q} (step {x} r h) =
         let c = collect-only (passedOn (x .0) (x .1)) (facts P) h in go (x .0) (x .1) (c .0) (reached-type r) (given-iff (c .0) .0 (c .1)) (c .2)
       where
@@ -140,8 +147,8 @@ module _ (P : Pack) where
             subst CoreTyped (r .3) (passed c (record { is = r .2 }) (subst (λ x. Given P (triple x p m)) (sym (r .1)) g))
 
     type-reached : {n : Node} {S : Target} → CoreType P n S → Reached same-pair firstTypes spread (n, S)
-    unfolding firstTypes spread passedOn typedIn onward
-    type-reached (given {n} {S} g) = seed (collect-in typedIn (given-iff _ .1 g) refl)
+    unfolding spread passedOn onward
+    type-reached (given {n} {S} g) = seed (firstTypes-iff (n, S) .1 g)
     type-reached (passed {n} {m} {p} {T = t} {s} c d e) = step (type-reached c) (collect-in (passedOn n (type t)) (given-iff _ .1 e) (go (same-node n n)))
       where
         go : (q : Dec (n ≡ n)) → onward q m (shapeOf (P .setting) t p) ≡ some (m, s .target)
@@ -180,17 +187,6 @@ module _ (P : Pack) where
         (λ h. reached-type (r .0 h), λ c. r .1 (type-reached c))
 
     -- the type facts that spreading adds have a number
-    firstTypes-iff : (q : Node × Target) → (q ∈ firstTypes) ↔ Given P (typed (q .0) (q .1))
-    unfolding firstTypes typedIn
-    firstTypes-iff q = (forth, λ g. collect-in typedIn (given-iff _ .1 g) refl)
-      where
-        forth : q ∈ filterMap typedIn (facts P) → Given P (typed (q .0) (q .1))
-        forth h = let r = collect-only typedIn (facts P) h in go (r .0) (given-iff (r .0) .0 (r .1)) (r .2)
-          where
-            go : (f : Fact) → Given P f → typedIn f ≡ some q → Given P (typed (q .0) (q .1))
-            go (typed n S) g e = subst (λ (x : Node × Target). Given P (typed (x .0) (x .1))) (Option·some-injective (n, S) q e) g
-            go (triple n p m) g e = absurd (Option·none-ne-some q e)
-
     pub spread-number : (n : ℕ) × Number (SpreadFact P) n
     spread-number = number-of same-pair spread? coreTypes (λ q f. coreTypes-iff q .1 (f .has))
       where
