@@ -1,21 +1,28 @@
--- The lengths that document 01 states as numbers, computed from what they follow from; and what shares one number has room
+-- The lengths that documents 01 and 02 state as numbers, computed from what they follow from; and what shares one number has room
 -- in it. Assumes nothing.
 use mathlib.Core.Path.{_≡_, refl}
 use native.Mathlib.Omega.{arith}
-use Prim.Native.Nat.{_≤_}
-use Rattle.meaning.specs.Limits.{contentsBytes, literalBit, maxCoreNodes, maxPredicates, maxTypes, nodeListLength, pairListLength, placeRoom, predicateRoom, tripleListLength}
+use Prim.Native.Nat.{_*_, _≤_}
+use Rattle.meaning.specs.Limits.{contentsBytes, literalBit, maxCoreNodes, maxNodes, maxPredicates, maxShapes, maxTriples, maxTypes, memberSets, namedWords, nodeListLength, nodeWords, pairListLength, placeRoom, predicateRoom, setWords, tripleListLength, wordBits}
 
 -- "under 36": nine 32-bit lengths
 pub contents-36 : contentsBytes ≡ 36
 contents-36 = refl
 
--- Refusal 1: "less than 7,168 numbers for nodes, 30,684 for triples or 8,192 for pairs"
-pub nodes-7168 : nodeListLength ≡ 7168
-nodes-7168 = refl
+-- Card 14: "the lists need 34,048 numbers for nodes, 168,924 for triples", "4,864 nodes and 56,308 triples"
+pub nodes-34048 : nodeListLength ≡ 34048
+nodes-34048 = refl
 
-pub triples-30684 : tripleListLength ≡ 30684
-triples-30684 = refl
+pub triples-168924 : tripleListLength ≡ 168924
+triples-168924 = refl
 
+pub nodes-4864 : maxNodes ≡ 4864
+nodes-4864 = refl
+
+pub triples-56308 : maxTriples ≡ 56308
+triples-56308 = refl
+
+-- Refusal 1: "8,192 for pairs"
 pub pairs-8192 : pairListLength ≡ 8192
 pairs-8192 = refl
 
@@ -28,3 +35,11 @@ predicates-fit = omega arith
 
 pub types-below-literal : maxTypes ≤ literalBit
 types-below-literal = omega arith
+
+-- A table of types by predicates has a place for each shape.
+pub shapes-144 : maxShapes ≡ maxTypes * maxPredicates
+shapes-144 = refl
+
+-- Whole words: no set of one kind begins within a word of another.
+pub whole-words : (maxNodes ≡ nodeWords * wordBits) × (maxCoreNodes ≡ namedWords * wordBits) × (memberSets ≡ setWords * wordBits)
+whole-words = (refl, refl, refl)

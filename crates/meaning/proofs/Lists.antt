@@ -5,6 +5,7 @@ pub mod Bytes
 pub mod Counting
 pub mod Filling
 pub mod First
+pub mod Gained
 pub mod Listing
 pub mod Lowest
 pub mod Masks

@@ -1,6 +1,7 @@
 pub mod CertainAnswers
 pub mod Invented
 pub mod MoreRows
+pub mod Named
 pub mod Obeying
 pub mod OneClash
 pub mod OneGraph

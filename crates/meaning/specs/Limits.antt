@@ -1,7 +1,7 @@
--- The limits of document 01 and the lengths that follow from them, each named once for the definitions; `src/lib.rt` has
+-- The limits of documents 01 and 02 and the lengths that follow from them, each named once for the definitions; `src/lib.rt` has
 -- the same names for code. What the document states as a number and follows from others is computed in proofs/Limits.antt.
 -- Assumes nothing.
-use Prim.Native.Nat.{ℕ, _*_, _+_, _-_, _^_}
+use Prim.Native.Nat.{ℕ, _*_, _+_, _-_, _/_, _^_}
 
 -- ---- "The pack": its size, how many records each body holds, and the bounds of their parts
 
@@ -57,8 +57,8 @@ maxColumns = 8
 abbrev pub maxDependencies : ℕ
 maxDependencies = 32
 
-abbrev pub maxTypes : ℕ
-maxTypes = 8
+abbrev pub maxTypes : ℕ  -- card 14
+maxTypes = 12
 
 abbrev pub maxPredicates : ℕ
 maxPredicates = 12
@@ -66,8 +66,8 @@ maxPredicates = 12
 abbrev pub maxNameBytes : ℕ  -- of a type or a predicate, from 1
 maxNameBytes = 16
 
-abbrev pub maxShapes : ℕ
-maxShapes = 96
+abbrev pub maxShapes : ℕ  -- a table of types by predicates; card 14
+maxShapes = 144
 
 abbrev pub literalTarget : ℕ  -- the target byte that says Literal
 literalTarget = 255
@@ -155,8 +155,25 @@ maxTriples = maxCoreTriples + (maxIris + (typeSets - 1)) * maxPredicates
 abbrev pub maxParts : ℕ  -- a part has a byte of its own
 maxParts = maxQueryBytes
 
-abbrev pub maxStates : ℕ  -- a part, or the end, and a node
-maxStates = (maxParts + 1) * maxNodes
+-- ---- Sets as bits in words
+
+abbrev pub wordBits : ℕ
+wordBits = 64
+
+abbrev pub setWords : ℕ  -- sets of types and Literal
+setWords = memberSets / wordBits
+
+abbrev pub nodeWords : ℕ  -- nodes
+nodeWords = maxNodes / wordBits
+
+abbrev pub stateWords : ℕ  -- states: a part, or the end, and a node
+stateWords = (maxParts + 1) * nodeWords
+
+abbrev pub namedWords : ℕ  -- named nodes
+namedWords = maxCoreNodes / wordBits
+
+abbrev pub seenWords : ℕ  -- states at named nodes
+seenWords = (maxParts + 1) * namedWords
 
 -- ---- Refusal 1: the least lengths of the lent lists and buffers, in numbers, and the most that a buffer may ask
 

@@ -1,4 +1,4 @@
-// The limits of document 01 as code names them (specs/Limits.antt has them for the definitions), and the two tests on a
+// The limits of documents 01 and 02 as code names them (specs/Limits.antt has them for the definitions), and the two tests on a
 // multiplicity.
 ghost use Rattle.meaning.specs.Pack.{AnswersTest, requires, limits};
 
@@ -37,13 +37,13 @@ pub const MAX_COLUMNS: usize = 8;
 
 pub const MAX_DEPENDENCIES: usize = 32;
 
-pub const MAX_TYPES: usize = 8;
+pub const MAX_TYPES: usize = 12;
 
 pub const MAX_PREDICATES: usize = 12;
 
 pub const MAX_NAME_BYTES: usize = 16;
 
-pub const MAX_SHAPES: usize = 96;
+pub const MAX_SHAPES: usize = 144;
 
 pub const LITERAL_TARGET: u8 = 255;
 
@@ -97,7 +97,17 @@ pub const MAX_TRIPLES: usize = MAX_CORE_TRIPLES + (MAX_IRIS + (TYPE_SETS - 1)) *
 
 pub const MAX_PARTS: usize = MAX_QUERY_BYTES;
 
-pub const MAX_STATES: usize = (MAX_PARTS + 1) * MAX_NODES;
+pub const WORD_BITS: usize = 64;
+
+pub const SET_WORDS: usize = MEMBER_SETS / WORD_BITS;
+
+pub const NODE_WORDS: usize = MAX_NODES / WORD_BITS;
+
+pub const STATE_WORDS: usize = (MAX_PARTS + 1) * NODE_WORDS;
+
+pub const NAMED_WORDS: usize = MAX_CORE_NODES / WORD_BITS;
+
+pub const SEEN_WORDS: usize = (MAX_PARTS + 1) * NAMED_WORDS;
 
 pub const NODE_LIST_LENGTH: usize = MAX_NODES * NODE_WIDTH;
 

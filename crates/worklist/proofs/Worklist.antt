@@ -9,9 +9,11 @@ use native.Mathlib.Decide.{ℕ-discrete}
 use native.Mathlib.Omega.{arith}
 use Prim.Native.Nat.{min, ℕ, _%_, _*_, _+_, _-_, _/_, _<_, _^_, _≤_}
 use Rattle.meaning.specs.TypeSet.{bit}
+use Rattle.meaning.proofs.Lists.Gained.{gained, gained-bit, or-le, xor-equal}
 use Rattle.meaning.proofs.Lists.Lowest.{cleared}
+use Rattle.meaning.proofs.Lists.Places.{set-getD}
 use Rattle.worklist.specs.Table.{AddsOnly, Board, Cleared, InWord, Looked, Marked, Stacked, Table, Takes, board, mark}
-use Rattle.worklist.proofs.Marks.{cut, cut-other, cut-out, first-in, first-word, firstIn, gained, gained-bit, in-word, joined, joined-in, joined-more, joined-other, joined-word, low-small, mark-bit, mark-zero, or-le, same-word, set-getD, xor-equal, zero-word}
+use Rattle.worklist.proofs.Marks.{cut, cut-other, cut-out, first-in, first-word, firstIn, in-word, joined, joined-in, joined-more, joined-other, joined-word, low-small, mark-bit, mark-zero, same-word, zero-word}
 use Rattle.worklist.proofs.Stack.{has-room, stacked-pop, stacked-push, stacked-same}
 
 -- ---- (n * 64) of a word are marked

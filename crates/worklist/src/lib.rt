@@ -52,7 +52,13 @@ pub fn mark_word(
 }
 
 // Marks x.
-pub fn mark(x: usize, table: &mut [u64], waiting: &mut [u64], stack: &mut [u16], top: usize) -> usize
+pub fn mark(
+    x: usize,
+    table: &mut [u64],
+    waiting: &mut [u64],
+    stack: &mut [u16],
+    top: usize,
+) -> usize
     requires { ⌜ SomeTable (x / 64) (board (now table) (now waiting) (now stack) top) ⌝ }
     ensures { λ r. ⌜ ForTable (x / 64) (board (now (table .entry)) (now (waiting .entry)) (now (stack .entry)) top) (λ n. AddsOnly n (λ y. y ≡ x)
         (board (now (table .entry)) (now (waiting .entry)) (now (stack .entry)) top) (board (now (table .exit)) (now (waiting .exit)) (now (stack .exit)) r)) ⌝ }

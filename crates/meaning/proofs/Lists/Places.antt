@@ -1,5 +1,5 @@
 -- Elements of lists by their places. Assumes nothing.
-use lib.ListN.{drop, getD, getElem?, length, length-reverse, List·getD-append, replicate, take, take-append-drop}
+use lib.ListN.{drop, getD, getElem?, length, length-reverse, List·getD-append, replicate, set, take, take-append-drop}
 use lib.Seq.{getD-append-seam}
 use mathlib.Core.List.{List, [], _∷_, _++_, map, reverse, reverse-cons}
 use mathlib.Core.Option.{none, some, Option·none-ne-some, Option·some-injective}
@@ -101,6 +101,12 @@ pub getD-default : (l : List ℕ) (i d d′ : ℕ) → i < length l → getD l i
 getD-default [] i d d′ h = absurd (omega arith)
 getD-default (x ∷ l) zero d d′ h = refl
 getD-default (x ∷ l) (suc i) d d′ h = getD-default l i d d′ (omega arith)
+
+-- an entry written over itself
+pub set-getD : (l : List ℕ) (i d : ℕ) → set l i (getD l i d) ≡ l
+set-getD [] i d = refl
+set-getD (x ∷ l) zero d = refl
+set-getD (x ∷ l) (suc i) d = ap (λ y. x ∷ y) (set-getD l i d)
 
 pub zeros-at : (n i : ℕ) → _≡_ {A = ℕ} (getD (replicate n 0) i 0) 0
 zeros-at zero i = refl
