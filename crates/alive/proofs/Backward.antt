@@ -121,11 +121,8 @@ module _ (tree : List ℕ) (i : ℕ) (B : ℕ → Type 0) (after : ℕ) where
   taken-as : (b : Bool) (p : Part) → partOf tree i ≡ p → Turns b B after p → Turns b B after (partOf tree i)
   taken-as b p e t = subst (λ q. Turns b B after q) (sym e) t
 
-  pub is-leaf : kindOf tree i < 5 → partOf tree i ≡ leaf
-  is-leaf l = kind-leaf tree i (λ e. omega arith) (λ e. omega arith) (λ e. omega arith) (λ e. omega arith)
-
   pub turns-leaf : kindOf tree i < 5 → Turns false B after (partOf tree i)
-  turns-leaf l = taken-as false leaf (is-leaf l) (λ x. x)
+  turns-leaf l = taken-as false leaf (is-leaf tree i l) (λ x. x)
 
   -- whether x says the last of it
   by : (x : Bool) (p : Part) → partOf tree i ≡ p → (x ≡ true → Led B after p) → (x ≡ false → Led B after p → ⊥) → Turns x B after (partOf tree i)
@@ -159,33 +156,7 @@ module _ (tree : List ℕ) (i : ℕ) (B : ℕ → Type 0) (after : ℕ) where
   turns-union k n x f g = by x (either (firstNumber tree i) (i - 1)) (kind-either tree i k) (λ e. inr (f e)) (λ m. ⊎-elim (λ b. n b) (λ b. true-false (g b) m))
 
   pub led-no-leaf : Led B after (partOf tree i) → kindOf tree i < 5 → ⊥
-  led-no-leaf x l = subst (λ p. Led B after p) (is-leaf l) x
-
--- The parts of other kinds have parts.
-pub not-leaf : (tree : List ℕ) (i : ℕ) → 5 ≤ kindOf tree i → kindOf tree i ≤ 8 → partOf tree i ≡ leaf → ⊥
-not-leaf tree i l h e = go (ℕ-discrete (kindOf tree i) 5) (ℕ-discrete (kindOf tree i) 6) (ℕ-discrete (kindOf tree i) 7)
-  where
-    owns : (p : Part) → partOf tree i ≡ p → (c : ℕ) → Child p c → ⊥
-    owns p q c x = subst (λ r. Child r c) (sym q ∙ e) x
-
-    go : Dec (kindOf tree i ≡ 5) → Dec (kindOf tree i ≡ 6) → Dec (kindOf tree i ≡ 7) → ⊥
-    go (yes k) b c = owns (test (i - 1)) (kind-test tree i k) (i - 1) refl
-    go (no n) (yes k) c = owns (repeat (i - 1)) (kind-repeat tree i k) (i - 1) refl
-    go (no n) (no m) (yes k) = owns (chain (firstNumber tree i) (i - 1)) (kind-chain tree i k) (i - 1) (inr refl)
-    go (no n) (no m) (no o) = owns (either (firstNumber tree i) (i - 1)) (kind-either tree i (omega arith)) (i - 1) (inr refl)
-
--- A part that has parts stands behind one of them.
-pub some-before : {tree next : List ℕ} {i : ℕ} → PartReady tree next i → 5 ≤ kindOf tree i → i - 1 < i
-some-before {tree} {next} {i} r l = go (ℕ-discrete (kindOf tree i) 5) (ℕ-discrete (kindOf tree i) 6) (ℕ-discrete (kindOf tree i) 7)
-  where
-    own : (p : Part) → partOf tree i ≡ p → Child p (i - 1) → i - 1 < i
-    own p e x = r .before (i - 1) (subst (λ q. Child q (i - 1)) (sym e) x)
-
-    go : Dec (kindOf tree i ≡ 5) → Dec (kindOf tree i ≡ 6) → Dec (kindOf tree i ≡ 7) → i - 1 < i
-    go (yes k) b c = own (test (i - 1)) (kind-test tree i k) refl
-    go (no n) (yes k) c = own (repeat (i - 1)) (kind-repeat tree i k) refl
-    go (no n) (no m) (yes k) = own (chain (firstNumber tree i) (i - 1)) (kind-chain tree i k) (inr refl)
-    go (no n) (no m) (no o) = let h = r .kind in own (either (firstNumber tree i) (i - 1)) (kind-either tree i (omega arith)) (inr refl)
+  led-no-leaf x l = subst (λ p. Led B after p) (is-leaf tree i l) x
 
 -- ---- any part
 

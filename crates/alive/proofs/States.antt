@@ -22,14 +22,6 @@ use Rattle.alive.proofs.Leaves.{LeafJoins, back-joins, joins-back, leaf
 
 -- The parts that a part leads to, and the end, are within the table.
 module _ {L : Lists} (f : ListsFit L) where
-  pub part-ready : (i : ℕ) → i < L .parts → PartReady (L .tree) (L .next) i
-  part-ready i l =
-      let a = f .query .few in
-      let b = f .query .in-tree in
-      let c = f .query .in-next in
-      let d = f .query .onward i l in
-      record { short = omega arith; in-tree = omega arith; in-next = omega arith; kind = f .query .kinds i l; before = λ c x. f .query .before i c l x; onward = omega arith }
-
   -- The chain of the triples that end at m.
   pub chain-ready : {last earlier : List ℕ} → ByObject (L .triples) (L .edges) last earlier → (m : ℕ) → m < maxNodes → Chain (L .triples) earlier (getD last m 0)
   chain-ready {last} {earlier} b m l = record {
@@ -106,16 +98,6 @@ module _ {L : Lists} (f : ListsFit L) where
   led-more B C up after (chain a b) x = up a x
   led-more B C up after (either a b) (inl x) = inl (up a x)
   led-more B C up after (either a b) (inr x) = inr (up b x)
-
-  pub leaf-kind : (i : ℕ) → i < L .parts → partOf (L .tree) i ≡ leaf → kindOf (L .tree) i < 5
-  leaf-kind i l e = go (decLt (kindOf (L .tree) i) 5)
-    where
-      go : Dec (kindOf (L .tree) i < 5) → kindOf (L .tree) i < 5
-      go (yes h) = h
-      go (no h) = absurd (other (f .query .kinds i l))
-        where
-          other : kindOf (L .tree) i ≤ 8 → ⊥
-          other k = not-leaf (L .tree) i (omega arith) k e
 
   pub back-part : {last earlier table table′ : List ℕ} → ByObject (L .triples) (L .edges) last earlier
       → ((x : ℕ) → Marked 1 table x → Marked 1 table′ x) → (s i y : ℕ) → nodeAt s < maxNodes → i < L .parts

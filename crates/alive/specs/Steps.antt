@@ -16,10 +16,6 @@ use Rattle.states.specs.State.{nodeAt, partAt, state}
 use Rattle.states.specs.Table.{Marked}
 use Rattle.walk.specs.Parts.{Child, Part, chain, either, leaf, partOf, repeat, test}
 
--- Whether a step of this kind (1 any, 2 by name) takes the predicate p.
-abbrev pub takes : ℕ → ℕ → ℕ → Bool
-takes kind want p = eqb kind 1 || eqb p want
-
 -- The triples of a chain are there, their subjects are nodes, and the chain ends.
 pub record Chain (triples earlier : List ℕ) (x : ℕ) : Type 0 where
   pub listed : (k : ℕ) → Met earlier x k → k < length earlier
@@ -57,23 +53,10 @@ abbrev pub Turns : Bool → (ℕ → Type 0) → ℕ → Part → Type 0
 Turns true B after p = Led B after p
 Turns false B after p = Led B after p → ⊥
 
--- The parts that are marked at the node m.
-abbrev pub AliveAt : List ℕ → ℕ → ℕ → Type 0
-AliveAt table m j = Marked 1 table (state j m)
-
 -- y is the part i at a node from which a step of it leads to (j, m), or which its own parts at m make alive.
 pub data PartBack (triples earlier last tree next wanted table : List ℕ) (i j m y : ℕ) : Type 0 where
   leaves : getD next i 0 ≡ j → LeafBack triples earlier (getD last m 0) (kindOf tree i) (getD wanted i 0) i m y → PartBack triples earlier last tree next wanted table i j m y
   turns : Led (AliveAt table m) (getD next i 0) (partOf tree i) → y ≡ state i m → PartBack triples earlier last tree next wanted table i j m y
-
--- The part i is there, its own parts stand before it, and after it comes a part or the end.
-pub record PartReady (tree next : List ℕ) (i : ℕ) : Type 0 where
-  pub short : i < maxParts
-  pub in-tree : i < length tree
-  pub in-next : i < length next
-  pub kind : kindOf tree i ≤ 8
-  pub before : (c : ℕ) → Child (partOf tree i) c → c < i
-  pub onward : getD next i 0 ≤ maxParts
 
 -- y is the end at a node.
 pub record EndAt (nodes parts y : ℕ) : Type 0 where

@@ -1,2 +1,4 @@
-pub mod Marking
-pub mod States
+pub mod Numbers
+pub mod PartKinds
+pub mod Leaves
+pub mod Bounds

@@ -1,2 +1,5 @@
 pub mod State
-pub mod Table
+pub mod Lists
+pub mod Fits
+pub mod Parts
+pub mod Living
