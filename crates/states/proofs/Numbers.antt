@@ -1,7 +1,7 @@
 -- The numbers of states, and of the words in which they stand. Assumes nothing.
 use lib.ListN.{getD}
 use mathlib.Core.List.{List}
-use mathlib.Core.Path.{ap, sym, _∙_, _≡_}
+use mathlib.Core.Path.{ap, refl, sym, _∙_, _≡_}
 use native.Mathlib.Omega.{arith}
 use Prim.Native.Nat.{ℕ, _%_, _*_, _+_, _/_, _<_, _≤_}
 use Rattle.meaning.specs.Limits.{maxNodes, maxParts, nodeWords, stateWords}
@@ -85,3 +85,8 @@ word-is w = omega arith
 pub word-mark : (table : List ℕ) (j m : ℕ) → m < maxNodes → bit (m % 64) (getD table (wordAt j (m / 64)) 0) ≡ mark table (state j m)
 unfolding mark
 word-mark table j m l = ap (λ t. bit t (getD table (wordAt j (m / 64)) 0)) (sym (state-bit j m)) ∙ ap (λ w. bit (state j m % 64) (getD table w 0)) (sym (state-word j m l))
+
+-- what code reads
+pub word-index : (table : List ℕ) (j b : ℕ) → getD table (j * nodeWords + b) 0 ≡ getD table (wordAt j b) 0
+unfolding wordAt
+word-index table j b = refl

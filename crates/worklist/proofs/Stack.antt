@@ -33,6 +33,22 @@ stacked-none {n} {waiting} {stack} s l r z = record {
 pub top-few : {n : ℕ} {waiting stack : List ℕ} {top : ℕ} → Stacked n waiting stack top → top ≤ n
 top-few {n} {waiting} d = let a = busy-most n waiting in let b = d .count in omega arith
 
+-- The same number of words on the stack, said twice.
+pub stacked-as : {n : ℕ} {waiting stack : List ℕ} {top top′ : ℕ} → top ≡ top′ → Stacked n waiting stack top → Stacked n waiting stack top′
+stacked-as {n} {waiting} {stack} e d = subst (Stacked n waiting stack) e d
+
+-- Nothing waits in fewer words.
+pub stacked-fewer : {m n : ℕ} {waiting stack : List ℕ} → m ≤ n → Stacked n waiting stack 0 → Stacked m waiting stack 0
+stacked-fewer {m} {n} {waiting} l d =
+    let s = d .small in
+    let a = d .long in
+    let b = d .room in
+    stacked-none (omega arith) (omega arith) (omega arith) (λ w h. none w h (ℕ-discrete (getD waiting w 0) 0))
+  where
+    none : (w : ℕ) → w < m → Dec (getD waiting w 0 ≡ 0) → getD waiting w 0 ≡ 0
+    none w h (yes e) = e
+    none w h (no e) = absurd (let (k, g, p) = d .listed w (omega arith) (omega arith) in omega arith)
+
 module _ {n : ℕ} {waiting stack : List ℕ} {top : ℕ} (d : Stacked n waiting stack top) (waiting′ : List ℕ) (l : n ≤ length waiting′) where
   -- In the same words.
   pub stacked-same : ((w : ℕ) → w < n → one waiting w ≡ one waiting′ w) → Stacked n waiting′ stack top

@@ -1,7 +1,7 @@
 // A pair of nodes as one number.
 ghost use mathlib.Core.Path.{_≡_};
 ghost use Prim.Native.Nat.{_<_};
-ghost use Rattle.answers.specs.Keys.{pairFrom, pairKey, pairKeys, pairTo};
+ghost use Rattle.reached.specs.Keys.{pairFrom, pairKey, pairKeys, pairTo};
 ghost use Rattle.meaning.specs.Limits.{maxNodes};
 use meaning::MAX_NODES;
 

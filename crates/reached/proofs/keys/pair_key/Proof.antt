@@ -1,8 +1,8 @@
--- `answers::keys::pair_key` meets its contract. Assumes nothing.
+-- `reached::keys::pair_key` meets its contract. Assumes nothing.
 use borrow.Author.Needs.{needs}
 use mathlib.Core.Path.{refl}
-use Rattle.answers.proofs.keys.pair_key.Statement.{statement}
-use Rattle.answers.proofs.keys.pair_key.Tie as tie
+use Rattle.reached.proofs.keys.pair_key.Statement.{statement}
+use Rattle.reached.proofs.keys.pair_key.Tie as tie
 
 pub pair-key-spec : {M : Type 1} → statement M
 pair-key-spec =

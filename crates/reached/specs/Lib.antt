@@ -1,0 +1,5 @@
+pub mod Keys
+pub mod Own
+pub mod Seen
+pub mod Steps
+pub mod Walked
