@@ -3,8 +3,8 @@ use lib.ListN.{getD}
 use mathlib.Core.Logic.{_↔_}
 use mathlib.Core.Path.{_≡_}
 use Prim.Native.Nat.{ℕ, _<_}
-use Rattle.alive.specs.Lists.{Lists}
-use Rattle.answers.specs.Keys.{pairKey}
+use Rattle.states.specs.Lists.{Lists}
+use Rattle.reached.specs.Keys.{pairKey}
 use Rattle.index.specs.Triples.{TripleIn}
 use Rattle.meaning.specs.Limits.{maxPredicates}
 use Rattle.meaning.specs.Pack.{Text}

@@ -1,18 +1,15 @@
 // A query's answers over a graph in number lists: yes or no by the states that are alive, pairs by a walk from each start.
-pub mod keys; // a pair as one number
-mod onward; // the states to which a step leads from one
-pub mod pairs; // the walk from each start
-
-ghost use Rattle.alive.specs.Lists.{lists};
-ghost use Rattle.alive.specs.Living.{Yes};
-ghost use Rattle.answers.specs.Walked.{PairsAre, PairsReady, YesReady};
-use crate::pairs::Pairs;
-use crate::pairs::list_pairs;
-use alive::Sizes;
+ghost use Rattle.answers.specs.Ready.{PairsReady, YesReady};
+ghost use Rattle.reached.specs.Walked.{PairsAre};
+ghost use Rattle.states.specs.Lists.{lists};
+ghost use Rattle.states.specs.Living.{Yes};
 use alive::mark_alive;
 use alive::some_alive;
 use index::chain_by_object;
-use index::start_by_subject;
+use reached::own::own_by_subject;
+use reached::pairs::Pairs;
+use reached::pairs::list_pairs;
+use states::Sizes;
 
 // Whether the query joins some two nodes.
 pub fn some_joined(
@@ -23,10 +20,11 @@ pub fn some_joined(
     wanted: &[u16],
     last: &mut [u16],
     earlier: &mut [u16],
-    alive: &mut [u8],
-    queue: &mut [u32],
+    alive: &mut [u64],
+    waiting: &mut [u64],
+    stack: &mut [u16],
 ) -> bool
-    requires { ⌜ YesReady (lists sizes (now triples) (now tree) (now next) (now wanted)) (now last) (now earlier) (now alive) (now queue) ⌝ }
+    requires { ⌜ YesReady (lists sizes (now triples) (now tree) (now next) (now wanted)) (now last) (now earlier) (now alive) (now waiting) (now stack) ⌝ }
     ensures { λ r. ⌜ Yes r (lists sizes (now (triples .entry)) (now (tree .entry)) (now (next .entry)) (now (wanted .entry))) ⌝ }
 {
     chain_by_object(triples, sizes.nodes, sizes.edges, last, earlier);
@@ -39,12 +37,14 @@ pub fn some_joined(
         next,
         wanted,
         alive,
-        queue,
+        waiting,
+        stack,
     );
     some_alive(sizes.nodes, sizes.parts, &alive[..])
 }
 
-// Lists the pairs of named nodes, which are the first ones, that the query joins.
+// Lists the pairs of named nodes, which are the first ones, that the query joins. The chains by object are of use no longer when
+// the walks begin, and their room is that of the triples between named nodes.
 pub fn joined_pairs(
     sizes: Sizes,
     named: usize,
@@ -55,12 +55,13 @@ pub fn joined_pairs(
     last: &mut [u16],
     earlier: &mut [u16],
     first: &mut [u16],
-    alive: &mut [u8],
-    queue: &mut [u32],
-    seen: &mut [u16],
+    alive: &mut [u64],
+    waiting: &mut [u64],
+    stack: &mut [u16],
+    seen: &mut [u64],
     pairs: &mut [u32],
 ) -> Pairs
-    requires { ⌜ YesReady (lists sizes (now triples) (now tree) (now next) (now wanted)) (now last) (now earlier) (now alive) (now queue)
+    requires { ⌜ YesReady (lists sizes (now triples) (now tree) (now next) (now wanted)) (now last) (now earlier) (now alive) (now waiting) (now stack)
         × PairsReady (lists sizes (now triples) (now tree) (now next) (now wanted)) named (now first) (now seen) (now pairs) ⌝ }
     ensures { λ r. ⌜ PairsAre r (lists sizes (now (triples .entry)) (now (tree .entry)) (now (next .entry)) (now (wanted .entry))) named (now (pairs .exit)) ⌝ }
 {
@@ -74,20 +75,23 @@ pub fn joined_pairs(
         next,
         wanted,
         alive,
-        queue,
+        waiting,
+        stack,
     );
-    start_by_subject(triples, sizes.nodes, sizes.edges, first);
+    own_by_subject(triples, sizes.edges, named, earlier, first);
     list_pairs(
         sizes,
         named,
         triples,
+        &earlier[..],
         &first[..],
         tree,
         next,
         wanted,
         &alive[..],
         seen,
-        queue,
+        waiting,
+        stack,
         pairs,
     )
 }

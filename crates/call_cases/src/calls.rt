@@ -12,10 +12,32 @@ use crate::outcome::say_pairs_kept;
 use crate::outcome::say_small_graph;
 use crate::say::say_whether;
 use build::build;
+use meaning::HEADS_LENGTH;
+use meaning::NODE_LIST_LENGTH;
+use meaning::PAIR_LIST_LENGTH;
+use meaning::ROWS_LENGTH;
+use meaning::SEEN_WORDS;
+use meaning::STATE_WORDS;
+use meaning::TRIPLE_LIST_LENGTH;
 use pairs::PairAnswer;
 use pairs::pairs;
 use yes_no::YesNo;
 use yes_no::yes_no;
+
+// Each list and buffer, three more than docs/BUFFERS.md states.
+const NODES: usize = NODE_LIST_LENGTH + 3;
+
+const TRIPLES: usize = TRIPLE_LIST_LENGTH + 3;
+
+const PAIRS: usize = PAIR_LIST_LENGTH + 3;
+
+const ROWS: usize = ROWS_LENGTH + 3;
+
+const HEADS: usize = HEADS_LENGTH + 3;
+
+const STATES: usize = STATE_WORDS + 3;
+
+const SEEN: usize = SEEN_WORDS + 3;
 
 // How many entries of a list or buffer are lent: all, three more than docs/BUFFERS.md states; but one less than it states, if
 // `lending` is its number.
@@ -52,14 +74,14 @@ fn call_build(
 }
 
 pub fn ask_build(pack: &[u8], lending: u8) {
-    let mut nodes = [165u16; 7171];
-    let mut triples = [165u16; 30687];
-    let mut rows = [165u16; 9219];
-    let mut heads = [165u64; 32771];
-    let n = lent(lending, 1, 7171);
-    let t = lent(lending, 2, 30687);
-    let r = lent(lending, 4, 9219);
-    let h = lent(lending, 5, 32771);
+    let mut nodes = [165u16; NODES];
+    let mut triples = [165u16; TRIPLES];
+    let mut rows = [165u16; ROWS];
+    let mut heads = [165u64; HEADS];
+    let n = lent(lending, 1, NODES);
+    let t = lent(lending, 2, TRIPLES);
+    let r = lent(lending, 4, ROWS);
+    let h = lent(lending, 5, HEADS);
     call_build(
         pack,
         &mut nodes[0..n],
@@ -76,8 +98,9 @@ fn say_yes_no(
     triples: &[u16],
     rows: &[u16],
     heads: &[u64],
-    alive: &[u8],
-    queue: &[u32],
+    alive: &[u64],
+    waiting: &[u64],
+    stack: &[u16],
 ) {
     let graph = answer.graph;
     let clash = graph.clash;
@@ -87,8 +110,8 @@ fn say_yes_no(
     }
     say_graph(graph.refusal, nodes, graph.nodes, triples, graph.triples);
     say_buffers(
-        yes_no_buffers_are(0, rows, heads, alive, queue),
-        yes_no_buffers_are(FILLED, rows, heads, alive, queue),
+        yes_no_buffers_are(0, rows, heads, alive, waiting, stack),
+        yes_no_buffers_are(FILLED, rows, heads, alive, waiting, stack),
     );
     say_clash(graph.refusal, clash);
     io::write_all(1, b"\n");
@@ -102,26 +125,39 @@ fn call_yes_no(
     triples: &mut [u16],
     rows: &mut [u16],
     heads: &mut [u64],
-    alive: &mut [u8],
-    queue: &mut [u32],
+    alive: &mut [u64],
+    waiting: &mut [u64],
+    stack: &mut [u16],
 ) {
-    let answer = yes_no(pack, query, nodes, triples, rows, heads, alive, queue);
-    say_yes_no(answer, nodes, triples, rows, heads, alive, queue);
+    let answer = yes_no(
+        pack,
+        query,
+        nodes,
+        triples,
+        rows,
+        heads,
+        alive,
+        waiting,
+        stack,
+    );
+    say_yes_no(answer, nodes, triples, rows, heads, alive, waiting, stack);
 }
 
 pub fn ask_yes_no(pack: &[u8], query: &[u8], lending: u8) {
-    let mut nodes = [165u16; 7171];
-    let mut triples = [165u16; 30687];
-    let mut rows = [165u16; 9219];
-    let mut heads = [165u64; 32771];
-    let mut alive = [FILLED; 263171];
-    let mut queue = [165u32; 263171];
-    let n = lent(lending, 1, 7171);
-    let t = lent(lending, 2, 30687);
-    let r = lent(lending, 4, 9219);
-    let h = lent(lending, 5, 32771);
-    let a = lent(lending, 6, 263171);
-    let q = lent(lending, 7, 263171);
+    let mut nodes = [165u16; NODES];
+    let mut triples = [165u16; TRIPLES];
+    let mut rows = [165u16; ROWS];
+    let mut heads = [165u64; HEADS];
+    let mut alive = [165u64; STATES];
+    let mut waiting = [165u64; STATES];
+    let mut stack = [165u16; STATES];
+    let n = lent(lending, 1, NODES);
+    let t = lent(lending, 2, TRIPLES);
+    let r = lent(lending, 4, ROWS);
+    let h = lent(lending, 5, HEADS);
+    let a = lent(lending, 6, STATES);
+    let w = lent(lending, 7, STATES);
+    let k = lent(lending, 8, STATES);
     call_yes_no(
         pack,
         query,
@@ -130,7 +166,8 @@ pub fn ask_yes_no(pack: &[u8], query: &[u8], lending: u8) {
         &mut rows[0..r],
         &mut heads[0..h],
         &mut alive[0..a],
-        &mut queue[0..q],
+        &mut waiting[0..w],
+        &mut stack[0..k],
     );
 }
 
@@ -142,9 +179,12 @@ fn say_pairs_call(
     list: &[u16],
     rows: &[u16],
     heads: &[u64],
-    alive: &[u8],
-    queue: &[u32],
-    seen: &[u16],
+    alive: &[u64],
+    waiting: &[u64],
+    stack: &[u16],
+    seen: &[u64],
+    own_nodes: &[u16],
+    own_triples: &[u16],
 ) {
     let graph = answer.graph;
     let clash = graph.clash;
@@ -153,8 +193,28 @@ fn say_pairs_call(
     say_graph(graph.refusal, nodes, graph.nodes, triples, graph.triples);
     say_pairs_kept(list, count);
     say_buffers(
-        pairs_buffers_are(0, rows, heads, alive, queue, seen),
-        pairs_buffers_are(FILLED, rows, heads, alive, queue, seen),
+        pairs_buffers_are(
+            0,
+            rows,
+            heads,
+            alive,
+            waiting,
+            stack,
+            seen,
+            own_nodes,
+            own_triples,
+        ),
+        pairs_buffers_are(
+            FILLED,
+            rows,
+            heads,
+            alive,
+            waiting,
+            stack,
+            seen,
+            own_nodes,
+            own_triples,
+        ),
     );
     say_clash(graph.refusal, clash);
     say_pairs(graph.refusal, list, count);
@@ -170,9 +230,12 @@ fn call_pairs(
     list: &mut [u16],
     rows: &mut [u16],
     heads: &mut [u64],
-    alive: &mut [u8],
-    queue: &mut [u32],
-    seen: &mut [u16],
+    alive: &mut [u64],
+    waiting: &mut [u64],
+    stack: &mut [u16],
+    seen: &mut [u64],
+    own_nodes: &mut [u16],
+    own_triples: &mut [u16],
 ) {
     let answer = pairs(
         pack,
@@ -183,8 +246,11 @@ fn call_pairs(
         rows,
         heads,
         alive,
-        queue,
+        waiting,
+        stack,
         seen,
+        own_nodes,
+        own_triples,
     );
     say_pairs_call(
         answer,
@@ -194,28 +260,37 @@ fn call_pairs(
         rows,
         heads,
         alive,
-        queue,
+        waiting,
+        stack,
         seen,
+        own_nodes,
+        own_triples,
     );
 }
 
 pub fn ask_pairs(pack: &[u8], query: &[u8], lending: u8) {
-    let mut nodes = [165u16; 7171];
-    let mut triples = [165u16; 30687];
-    let mut list = [165u16; 8195];
-    let mut rows = [165u16; 9219];
-    let mut heads = [165u64; 32771];
-    let mut alive = [FILLED; 263171];
-    let mut queue = [165u32; 263171];
-    let mut seen = [165u16; 263171];
-    let n = lent(lending, 1, 7171);
-    let t = lent(lending, 2, 30687);
-    let l = lent(lending, 3, 8195);
-    let r = lent(lending, 4, 9219);
-    let h = lent(lending, 5, 32771);
-    let a = lent(lending, 6, 263171);
-    let q = lent(lending, 7, 263171);
-    let s = lent(lending, 8, 263171);
+    let mut nodes = [165u16; NODES];
+    let mut triples = [165u16; TRIPLES];
+    let mut list = [165u16; PAIRS];
+    let mut rows = [165u16; ROWS];
+    let mut heads = [165u64; HEADS];
+    let mut alive = [165u64; STATES];
+    let mut waiting = [165u64; STATES];
+    let mut stack = [165u16; STATES];
+    let mut seen = [165u64; SEEN];
+    let mut own_nodes = [165u16; NODES];
+    let mut own_triples = [165u16; TRIPLES];
+    let n = lent(lending, 1, NODES);
+    let t = lent(lending, 2, TRIPLES);
+    let l = lent(lending, 3, PAIRS);
+    let r = lent(lending, 4, ROWS);
+    let h = lent(lending, 5, HEADS);
+    let a = lent(lending, 6, STATES);
+    let w = lent(lending, 7, STATES);
+    let k = lent(lending, 8, STATES);
+    let s = lent(lending, 9, SEEN);
+    let p = lent(lending, 10, NODES);
+    let q = lent(lending, 11, TRIPLES);
     call_pairs(
         pack,
         query,
@@ -225,7 +300,10 @@ pub fn ask_pairs(pack: &[u8], query: &[u8], lending: u8) {
         &mut rows[0..r],
         &mut heads[0..h],
         &mut alive[0..a],
-        &mut queue[0..q],
+        &mut waiting[0..w],
+        &mut stack[0..k],
         &mut seen[0..s],
+        &mut own_nodes[0..p],
+        &mut own_triples[0..q],
     );
 }

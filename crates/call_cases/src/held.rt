@@ -5,25 +5,7 @@ ghost use Prim.Native.Nat.{_≤_};
 // What every entry of a list or buffer holds before a call.
 pub const FILLED: u8 = 165;
 
-fn all_u8(x: u8, list: &[u8]) -> bool {
-    for i in 0..list.len() {
-        if list[i] != x {
-            return false;
-        }
-    }
-    true
-}
-
 pub fn all_u16(x: u16, list: &[u16]) -> bool {
-    for i in 0..list.len() {
-        if list[i] != x {
-            return false;
-        }
-    }
-    true
-}
-
-fn all_u32(x: u32, list: &[u32]) -> bool {
     for i in 0..list.len() {
         if list[i] != x {
             return false;
@@ -47,8 +29,18 @@ pub fn build_buffers_are(x: u8, rows: &[u16], heads: &[u64]) -> bool {
 }
 
 // Whether the buffers that yes/no works in hold x alone.
-pub fn yes_no_buffers_are(x: u8, rows: &[u16], heads: &[u64], alive: &[u8], queue: &[u32]) -> bool {
-    build_buffers_are(x, rows, heads) && all_u8(x, alive) && all_u32(x as u32, queue)
+pub fn yes_no_buffers_are(
+    x: u8,
+    rows: &[u16],
+    heads: &[u64],
+    alive: &[u64],
+    waiting: &[u64],
+    stack: &[u16],
+) -> bool {
+    build_buffers_are(x, rows, heads)
+        && all_u64(x as u64, alive)
+        && all_u64(x as u64, waiting)
+        && all_u16(x as u16, stack)
 }
 
 // Whether the buffers that pairs works in hold x alone.
@@ -56,11 +48,17 @@ pub fn pairs_buffers_are(
     x: u8,
     rows: &[u16],
     heads: &[u64],
-    alive: &[u8],
-    queue: &[u32],
-    seen: &[u16],
+    alive: &[u64],
+    waiting: &[u64],
+    stack: &[u16],
+    seen: &[u64],
+    own_nodes: &[u16],
+    own_triples: &[u16],
 ) -> bool {
-    yes_no_buffers_are(x, rows, heads, alive, queue) && all_u16(x as u16, seen)
+    yes_no_buffers_are(x, rows, heads, alive, waiting, stack)
+        && all_u64(x as u64, seen)
+        && all_u16(x as u16, own_nodes)
+        && all_u16(x as u16, own_triples)
 }
 
 // A count, so small that a multiple of it is a number too.

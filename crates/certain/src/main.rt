@@ -9,10 +9,11 @@ use crate::spelled::say_pairs;
 use meaning::HEADS_LENGTH;
 use meaning::MAX_PACK_BYTES;
 use meaning::MAX_QUERY_BYTES;
-use meaning::MAX_STATES;
 use meaning::NODE_LIST_LENGTH;
 use meaning::PAIR_LIST_LENGTH;
 use meaning::ROWS_LENGTH;
+use meaning::SEEN_WORDS;
+use meaning::STATE_WORDS;
 use meaning::TRIPLE_LIST_LENGTH;
 use pairs::pairs;
 use yes_no::yes_no;
@@ -41,8 +42,9 @@ fn answer(pack: &[u8], query: &[u8]) {
     let mut triples = [0u16; TRIPLE_LIST_LENGTH];
     let mut rows = [0u16; ROWS_LENGTH];
     let mut heads = [0u64; HEADS_LENGTH];
-    let mut alive = [0u8; MAX_STATES];
-    let mut queue = [0u32; MAX_STATES];
+    let mut alive = [0u64; STATE_WORDS];
+    let mut waiting = [0u64; STATE_WORDS];
+    let mut stack = [0u16; STATE_WORDS];
     let first = yes_no(
         pack,
         query,
@@ -51,14 +53,17 @@ fn answer(pack: &[u8], query: &[u8]) {
         &mut rows,
         &mut heads,
         &mut alive,
-        &mut queue,
+        &mut waiting,
+        &mut stack,
     );
     if first.graph.refusal != 0 {
         say_refused(first.graph.refusal);
         return;
     }
     let mut list = [0u16; PAIR_LIST_LENGTH];
-    let mut seen = [0u16; MAX_STATES];
+    let mut seen = [0u64; SEEN_WORDS];
+    let mut own_nodes = [0u16; NODE_LIST_LENGTH];
+    let mut own_triples = [0u16; TRIPLE_LIST_LENGTH];
     let second = pairs(
         pack,
         query,
@@ -68,8 +73,11 @@ fn answer(pack: &[u8], query: &[u8]) {
         &mut rows,
         &mut heads,
         &mut alive,
-        &mut queue,
+        &mut waiting,
+        &mut stack,
         &mut seen,
+        &mut own_nodes,
+        &mut own_triples,
     );
     if second.graph.refusal != 0 {
         say_refused(second.graph.refusal);

@@ -38,13 +38,25 @@ pub extern "C" fn ciravehy_yes_no(
     triples: &mut [u16],
     rows: &mut [u16],
     heads: &mut [u64],
-    alive: &mut [u8],
-    queue: &mut [u32],
+    alive: &mut [u64],
+    waiting: &mut [u64],
+    stack: &mut [u16],
     report: &mut [u16; REPORT_LENGTH],
 ) -> u8
-    ensures { λ r. ⌜ Decides (now (pack .entry)) (now (query .entry)) r (lent nodes) (lent triples) (lent rows) (lent heads) (lent alive) (lent queue) (now (report .exit)) ⌝ }
+    ensures { λ r. ⌜ Decides (now (pack .entry)) (now (query .entry)) r (lent nodes) (lent triples) (lent rows) (lent heads) (lent alive)
+        (lent waiting) (lent stack) (now (report .exit)) ⌝ }
 {
-    let decided = yes_no(pack, query, nodes, triples, rows, heads, alive, queue);
+    let decided = yes_no(
+        pack,
+        query,
+        nodes,
+        triples,
+        rows,
+        heads,
+        alive,
+        waiting,
+        stack,
+    );
     let graph = decided.graph;
     let clash = graph.clash;
     *report = numbers(graph.nodes, graph.triples, said(decided.yes), clash);
@@ -61,13 +73,16 @@ pub extern "C" fn ciravehy_pairs(
     pairs: &mut [u16],
     rows: &mut [u16],
     heads: &mut [u64],
-    alive: &mut [u8],
-    queue: &mut [u32],
-    seen: &mut [u16],
+    alive: &mut [u64],
+    waiting: &mut [u64],
+    stack: &mut [u16],
+    seen: &mut [u64],
+    own_nodes: &mut [u16],
+    own_triples: &mut [u16],
     report: &mut [u16; REPORT_LENGTH],
 ) -> u8
     ensures { λ r. ⌜ Finds (now (pack .entry)) (now (query .entry)) r (lent nodes) (lent triples) (lent pairs) (lent rows) (lent heads) (lent alive)
-        (lent queue) (lent seen) (now (report .exit)) ⌝ }
+        (lent waiting) (lent stack) (lent seen) (lent own_nodes) (lent own_triples) (now (report .exit)) ⌝ }
 {
     let found = find_pairs(
         pack,
@@ -78,8 +93,11 @@ pub extern "C" fn ciravehy_pairs(
         rows,
         heads,
         alive,
-        queue,
+        waiting,
+        stack,
         seen,
+        own_nodes,
+        own_triples,
     );
     let constructed = found.graph;
     let clash = constructed.clash;

@@ -8,16 +8,16 @@ use mathlib.Core.Path.{_≡_, refl, sym, subst}
 use native.Mathlib.Omega.{arith}
 use Prim.Native.Nat.{ℕ, _≤_, _<_}
 use Rattle.pack.proofs.Accepted.{WellFormed, well-formed}
-use Rattle.alive.proofs.Bounds.{query-fits}
-use Rattle.alive.specs.Fits.{ListsFit}
-use Rattle.alive.specs.Lists.{Lists}
-use Rattle.alive.specs.Living.{Yes}
+use Rattle.states.proofs.Bounds.{query-fits}
+use Rattle.states.specs.Fits.{ListsFit}
+use Rattle.states.specs.Lists.{Lists}
+use Rattle.states.specs.Living.{Yes}
 use Rattle.answers.proofs.Graphs.{listed-joined, no-unsatisfied, over-joined, yes-satisfied}
-use Rattle.answers.specs.Walked.{PairIn, PairsAre}
-use Rattle.answers.specs.declared.pairs.Pairs.{Pairs}
-use Rattle.answers.specs.declared.pairs.Pairs.the-variants.{Listed, TooMany}
+use Rattle.reached.specs.Walked.{PairIn, PairsAre}
+use Rattle.reached.specs.declared.pairs.Pairs.{Pairs}
+use Rattle.reached.specs.declared.pairs.Pairs.the-variants.{Listed, TooMany}
 use Rattle.answers.specs.Graph.{HeldIn, JoinedPair, NumberedGraph, WantedResolved, view}
-use Rattle.answers.specs.Keys.{pairKeys}
+use Rattle.reached.specs.Keys.{pairKeys}
 use Rattle.evaluate.specs.Answered.{PairsIn, Ready, YesIn}
 use Rattle.evaluate.specs.GraphIn.{GraphIn}
 use Rattle.evaluate.specs.Kinds.{FirstInvented}

@@ -9,7 +9,7 @@ use mathlib.Core.Path.{_≡_, refl, sym, subst, _∙_}
 use native.Mathlib.Omega.{arith}
 use Prim.Native.Nat.{ℕ, _≤_, _<_}
 use Rattle.answers.specs.Graph.{JoinedPair}
-use Rattle.answers.specs.Keys.{pairFrom, pairKey, pairTo}
+use Rattle.reached.specs.Keys.{pairFrom, pairKey, pairTo}
 use Rattle.evaluate.specs.Named.{NamedFirst, byPlace, pairOf}
 use Rattle.meaning.proofs.Lists.Members.{element}
 use Rattle.meaning.proofs.Lists.Places.{placed, same-at}
@@ -28,7 +28,6 @@ use Rattle.meaning.specs.Pack.{Pack}
 use Rattle.meaning.specs.Query.{Expr, Joins}
 use Rattle.meaning.specs.WellFormed.{dangling}
 use Rattle.meaning.proofs.Cases.{case-on}
-use Rattle.states.specs.Table.{has}
 use Rattle.evaluate.proofs.Built.{built-listed, built-whole}
 use Rattle.evaluate.proofs.Places.{joined, joined-back}
 use Rattle.meaning.proofs.Lists.Counting.{listed-few, over-carried}

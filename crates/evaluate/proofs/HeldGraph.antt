@@ -9,7 +9,7 @@ use mathlib.Core.Path.{_≡_, refl, sym, ap, subst, _∙_}
 use native.Mathlib.Omega.{arith}
 use Prim.Native.Nat.{ℕ, suc, _+_, _*_, _≤_, _<_}
 use Rattle.pack.proofs.Accepted.{well-formed}
-use Rattle.alive.specs.Lists.{Lists}
+use Rattle.states.specs.Lists.{Lists}
 use Rattle.answers.specs.Graph.{HeldIn, NumberedGraph, WantedResolved}
 use Rattle.core.proofs.Declared.{edge-predicate}
 use Rattle.evaluate.proofs.InLists.{formed}
@@ -88,7 +88,7 @@ module _ {pack : Text} {P : Pack} {nodes : List ℕ} {count : ℕ} {triples : Li
   record-of : (k : ℕ) → k < edges → (r : List ℕ) × (getElem? (listed .triple-records) k ≡ some r)
   record-of k l = there-is (listed .triple-records) k (omega (arith, listed .triple-count))
 
-  edge-of : (s p o k : ℕ) → k < edges → subjectAt triples k ≡ s → predicateAt triples k ≡ p → objectAt triples k ≡ o → TripleRecord P inOrder (s ∷ p ∷ o ∷ [])
+  pub edge-of : (s p o k : ℕ) → k < edges → subjectAt triples k ≡ s → predicateAt triples k ≡ p → objectAt triples k ≡ o → TripleRecord P inOrder (s ∷ p ∷ o ∷ [])
   edge-of s p o k l a b c =
       let (r, e) = record-of k l in
       let t = is-triple r (element (listed .triple-records) k r e) in

@@ -3,20 +3,22 @@ use lib.ListN.{getD, getD-replicate, length, length-replicate}
 use mathlib.Core.List.{List}
 use mathlib.Core.Path.{_≡_, ap, _∙_}
 use native.Mathlib.Omega.{arith}
-use Prim.Native.Nat.{ℕ, _≤_}
-use Rattle.meaning.specs.Limits.{maxStates}
+use Prim.Native.Nat.{ℕ, _*_, _/_, _<_, _≤_}
+use Rattle.meaning.specs.Limits.{seenWords, stateWords}
 use Rattle.sets.specs.Buffers.{zeros}
-use Rattle.states.specs.Table.{Unmarked}
+use Rattle.worklist.proofs.Growth.{zeros-unmarked}
+use Rattle.worklist.proofs.Marks.{zero-word}
+use Rattle.worklist.specs.Table.{Unmarked, mark}
 
-length-zeros : (n : ℕ) → length (zeros n) ≡ n
-length-zeros n = length-replicate n 0
+length-zeros : {table before : List ℕ} → table ≡ zeros (length before) → length table ≡ length before
+length-zeros {table} {before} e = ap length e ∙ length-replicate (length before) 0
 
--- a cleared table has no mark
-pub cleared : (table before queue : List ℕ) → table ≡ zeros (length before) → maxStates ≤ length before → maxStates ≤ length queue → Unmarked 1 maxStates table queue
-cleared table before queue e a b = record {
-  clean = record {
-    long = omega (arith, ap length e, length-zeros (length before));
-    below = λ x l. let h = ap (λ t. getD t x 0) e ∙ getD-replicate (length before) x 0 0 (omega arith) in omega arith;
-  };
-  room = b;
-}
+-- in cleared tables nothing is marked and nothing waits
+pub cleared : {alive before waiting before′ stack : List ℕ} → alive ≡ zeros (length before) → waiting ≡ zeros (length before′)
+    → stateWords ≤ length before → stateWords ≤ length before′ → stateWords ≤ length stack → Unmarked stateWords alive waiting stack
+cleared {alive} {before} {waiting} {before′} e f a b c =
+    zeros-unmarked (length before) (length before′) e f (omega arith) a b (omega (arith, length-zeros e)) (omega (arith, length-zeros f)) c
+
+-- and nothing is seen
+pub unseen : {seen before : List ℕ} → seen ≡ zeros (length before) → seenWords ≤ length before → (x : ℕ) → x < seenWords * 64 → mark seen x ≡ 0
+unseen {seen} {before} e l x h = zero-word seen x (ap (λ t. getD t (x / 64) 0) e ∙ getD-replicate (length before) (x / 64) 0 0 (omega arith))

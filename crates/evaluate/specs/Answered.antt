@@ -5,9 +5,9 @@ use mathlib.Core.Bool.{Bool}
 use mathlib.Core.List.{List, map}
 use mathlib.Core.Logic.{_↔_}
 use Prim.Native.Nat.{ℕ, _≤_, _<_}
-use Rattle.answers.specs.declared.pairs.Pairs.{Pairs}
-use Rattle.answers.specs.declared.pairs.Pairs.the-variants.{Listed, TooMany}
-use Rattle.answers.specs.Keys.{pairKeys}
+use Rattle.reached.specs.declared.pairs.Pairs.{Pairs}
+use Rattle.reached.specs.declared.pairs.Pairs.the-variants.{Listed, TooMany}
+use Rattle.reached.specs.Keys.{pairKeys}
 use Rattle.evaluate.specs.GraphIn.{GraphIn, SomeGraph}
 use Rattle.evaluate.specs.Named.{pairOf}
 use Rattle.grammar.specs.Grammar.{IsQuery}

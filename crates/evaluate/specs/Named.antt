@@ -5,7 +5,7 @@ use mathlib.Core.Option.{some}
 use mathlib.Core.Path.{_≡_}
 use Prim.Native.Nat.{ℕ, _<_}
 use Rattle.answers.specs.Graph.{NumberedGraph}
-use Rattle.answers.specs.Keys.{pairFrom, pairTo}
+use Rattle.reached.specs.Keys.{pairFrom, pairTo}
 use Rattle.evaluate.specs.Listed.{NodePlace, Between}
 use Rattle.meaning.specs.Built.{BuiltNode, core}
 use Rattle.meaning.specs.Certain.{built}

@@ -1,19 +1,21 @@
 // The pairs of named nodes that a query joins in every finite graph that obeys a pack.
 ghost use lib.ListN.{length};
 ghost use Prim.Native.Nat.{_≤_};
+ghost use Rattle.answers.specs.Ready.{Unseen};
 ghost use Rattle.evaluate.specs.Answered.{ForReady, IsReady, PairsIn};
-ghost use Rattle.meaning.specs.Limits.{maxPairs, maxStates};
-ghost use Rattle.states.specs.Table.{Unmarked};
+ghost use Rattle.meaning.specs.Limits.{maxPairs, stateWords};
+ghost use Rattle.worklist.specs.Table.{Unmarked};
 use crate::named::named;
-use alive::Sizes;
 use answers::joined_pairs;
-use answers::pairs::Pairs;
+use meaning::MAX_CORE_NODES;
 use meaning::MAX_NODES;
 use meaning::MAX_PARTS;
 use meaning::MAX_TRIPLES;
+use reached::pairs::Pairs;
+use states::Sizes;
 use walk::thread;
 
-// The pairs as numbers (answers, keys), ascending at the front of `found`; or that they are too many. `wanted` has the number
+// The pairs as numbers (reached, keys), ascending at the front of `found`; or that they are too many. `wanted` has the number
 // that each part wants.
 pub fn pairs(
     tree: &[u32],
@@ -23,13 +25,14 @@ pub fn pairs(
     count: usize,
     triples: &[u16],
     edges: usize,
-    alive: &mut [u8],
-    queue: &mut [u32],
-    seen: &mut [u16],
+    alive: &mut [u64],
+    waiting: &mut [u64],
+    stack: &mut [u16],
+    seen: &mut [u64],
     found: &mut [u32],
 ) -> Pairs
-    requires { ⌜ IsReady (now tree) parts (now wanted) (now nodes) count (now triples) edges × Unmarked 1 maxStates (now alive) (now queue)
-        × Unmarked 1 maxStates (now seen) (now queue) × (maxPairs ≤ length (now found)) ⌝ }
+    requires { ⌜ IsReady (now tree) parts (now wanted) (now nodes) count (now triples) edges × Unmarked stateWords (now alive) (now waiting) (now stack)
+        × Unseen (now seen) × (maxPairs ≤ length (now found)) ⌝ }
     ensures { λ r. ⌜ ForReady (now (tree .entry)) parts (now (wanted .entry)) (now (nodes .entry)) count (now (triples .entry)) edges
         (λ pack query. PairsIn pack query (now (nodes .entry)) count (now (triples .entry)) edges r (now (found .exit))) ⌝ }
 {
@@ -37,7 +40,7 @@ pub fn pairs(
     thread(tree, parts, &mut next);
     let mut last = [0u16; MAX_NODES];
     let mut earlier = [0u16; MAX_TRIPLES];
-    let mut first = [0u16; MAX_NODES + 1];
+    let mut first = [0u16; MAX_CORE_NODES + 1];
     let sizes = Sizes {
         nodes: count,
         edges,
@@ -54,7 +57,8 @@ pub fn pairs(
         &mut earlier,
         &mut first,
         alive,
-        queue,
+        waiting,
+        stack,
         seen,
         found,
     )

@@ -1,12 +1,12 @@
 // Whether a query is satisfied in every finite graph that obeys a pack.
 ghost use Rattle.evaluate.specs.Answered.{ForReady, IsReady, YesIn};
-ghost use Rattle.meaning.specs.Limits.{maxStates};
-ghost use Rattle.states.specs.Table.{Unmarked};
-use alive::Sizes;
+ghost use Rattle.meaning.specs.Limits.{stateWords};
+ghost use Rattle.worklist.specs.Table.{Unmarked};
 use answers::some_joined;
 use meaning::MAX_NODES;
 use meaning::MAX_PARTS;
 use meaning::MAX_TRIPLES;
+use states::Sizes;
 use walk::thread;
 
 // The answer for a query in its tree of parts, with the number that each part wants, over the graph in its two lists.
@@ -18,10 +18,11 @@ pub fn yes(
     count: usize,
     triples: &[u16],
     edges: usize,
-    alive: &mut [u8],
-    queue: &mut [u32],
+    alive: &mut [u64],
+    waiting: &mut [u64],
+    stack: &mut [u16],
 ) -> bool
-    requires { ⌜ IsReady (now tree) parts (now wanted) (now nodes) count (now triples) edges × Unmarked 1 maxStates (now alive) (now queue) ⌝ }
+    requires { ⌜ IsReady (now tree) parts (now wanted) (now nodes) count (now triples) edges × Unmarked stateWords (now alive) (now waiting) (now stack) ⌝ }
     ensures { λ r. ⌜ ForReady (now (tree .entry)) parts (now (wanted .entry)) (now (nodes .entry)) count (now (triples .entry)) edges
         (λ pack query. YesIn pack query (now (nodes .entry)) count (now (triples .entry)) edges r) ⌝ }
 {
@@ -43,6 +44,7 @@ pub fn yes(
         &mut last,
         &mut earlier,
         alive,
-        queue,
+        waiting,
+        stack,
     )
 }

@@ -5,7 +5,7 @@ use mathlib.Core.List.{List, _++_, flatten, map}
 use Prim.Native.Nat.{ℕ, _*_, _≤_}
 use Rattle.evaluate.specs.Answered.{AllPairs}
 use Rattle.evaluate.specs.Named.{pairOf}
-use Rattle.meaning.specs.Limits.{maxStates, pairWidth}
+use Rattle.meaning.specs.Limits.{pairWidth, seenWords, stateWords}
 
 -- "A pair is listed as its start and end numbers": the first k stand at the front; entries past them keep theirs.
 abbrev pub withPairs : ℕ → List ℕ → List ℕ → List ℕ
@@ -21,6 +21,6 @@ PairsFit k found pairs = (k ≤ length found) × (k * pairWidth ≤ length pairs
 
 -- ---- what is searched in
 
--- the tables of states and the list of states are long enough
-abbrev pub TableRoom : List ℕ → List ℕ → List ℕ → Type 0
-TableRoom alive queue seen = (maxStates ≤ length alive) × (maxStates ≤ length queue) × (maxStates ≤ length seen)
+-- the tables of states and the stack of words are long enough
+abbrev pub TableRoom : List ℕ → List ℕ → List ℕ → List ℕ → Type 0
+TableRoom alive waiting stack seen = (stateWords ≤ length alive) × (stateWords ≤ length waiting) × (stateWords ≤ length stack) × (seenWords ≤ length seen)

@@ -4,10 +4,9 @@ ghost use Prim.Native.Nat.{_≤_};
 ghost use Rattle.evaluate.specs.Answered.{ForReady, IsReady, PairsIn};
 ghost use Rattle.meaning.specs.Limits.{maxPairs};
 ghost use Rattle.pair_list.specs.Written.{TableRoom};
-use answers::pairs::Pairs;
 use evaluate::pairs::pairs;
-use sets::buffers::clear_u8;
-use sets::buffers::clear_u16;
+use reached::pairs::Pairs;
+use sets::buffers::clear_u64;
 
 // The pairs as numbers at the front of `found`; or that they are too many.
 pub fn find_pairs(
@@ -18,17 +17,19 @@ pub fn find_pairs(
     count: usize,
     triples: &[u16],
     edges: usize,
-    alive: &mut [u8],
-    queue: &mut [u32],
-    seen: &mut [u16],
+    alive: &mut [u64],
+    waiting: &mut [u64],
+    stack: &mut [u16],
+    seen: &mut [u64],
     found: &mut [u32],
 ) -> Pairs
-    requires { ⌜ IsReady (now tree) parts (now wanted) (now nodes) count (now triples) edges × TableRoom (now alive) (now queue) (now seen) × (maxPairs ≤ length (now found)) ⌝ }
+    requires { ⌜ IsReady (now tree) parts (now wanted) (now nodes) count (now triples) edges × TableRoom (now alive) (now waiting) (now stack) (now seen) × (maxPairs ≤ length (now found)) ⌝ }
     ensures { λ r. ⌜ ForReady (now (tree .entry)) parts (now (wanted .entry)) (now (nodes .entry)) count (now (triples .entry)) edges
         (λ pack query. PairsIn pack query (now (nodes .entry)) count (now (triples .entry)) edges r (now (found .exit))) ⌝ }
 {
-    clear_u8(alive);
-    clear_u16(seen);
+    clear_u64(alive);
+    clear_u64(waiting);
+    clear_u64(seen);
     pairs(
         tree,
         parts,
@@ -38,7 +39,8 @@ pub fn find_pairs(
         triples,
         edges,
         alive,
-        queue,
+        waiting,
+        stack,
         seen,
         found,
     )

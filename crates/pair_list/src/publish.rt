@@ -4,10 +4,10 @@ ghost use Prim.Native.Nat.{_*_};
 ghost use Rattle.meaning.specs.Limits.{nodeWidth, tripleWidth};
 ghost use Rattle.pair_list.specs.Written.{CanCopy, PairsFit, withPairs};
 ghost use Rattle.sets.specs.Buffers.{overlaid};
-use answers::keys::pair_from;
-use answers::keys::pair_to;
 use meaning::NODE_WIDTH;
 use meaning::TRIPLE_WIDTH;
+use reached::keys::pair_from;
+use reached::keys::pair_to;
 use sets::buffers::copy_front;
 
 // Writes the first k pairs at the front of the list, two numbers each; the rest of it keeps its numbers.

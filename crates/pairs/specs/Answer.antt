@@ -8,7 +8,7 @@ use Rattle.construct.specs.Outcome.{SomeObeys, refusedAs}
 use Rattle.grammar.specs.Grammar.{IsQuery}
 use Rattle.graph.specs.Fronts.{graphLists}
 use Rattle.meaning.specs.Certain.{PairList, TooManyPairs}
-use Rattle.meaning.specs.Limits.{headsLength, maxStates, pairListLength, rowsLength}
+use Rattle.meaning.specs.Limits.{headsLength, nodeListLength, pairListLength, rowsLength, seenWords, stateWords, tripleListLength}
 use Rattle.meaning.specs.NoGraph.{TooLarge}
 use Rattle.meaning.specs.Pack.{Pack, Text}
 use Rattle.meaning.specs.Query.{Expr}
@@ -40,11 +40,14 @@ abbrev pub lists : Contents → Contents → Contents → List Lent
 lists nodes triples pairs = graphLists nodes triples ++ (pairs at-least pairListLength ∷ [])
 
 -- the working buffers
-abbrev pub buffers : Contents → Contents → Contents → Contents → Contents → List Lent
-buffers rows heads alive queue seen =
-    rows at-least rowsLength ∷ heads at-least headsLength ∷ alive at-least maxStates ∷ queue at-least maxStates ∷ seen at-least maxStates ∷ []
+abbrev pub buffers : Contents → Contents → Contents → Contents → Contents → Contents → Contents → Contents → List Lent
+buffers rows heads alive waiting stack seen own-nodes own-triples =
+    rows at-least rowsLength ∷ heads at-least headsLength ∷ alive at-least stateWords ∷ waiting at-least stateWords ∷ stack at-least stateWords
+    ∷ seen at-least seenWords ∷ own-nodes at-least nodeListLength ∷ own-triples at-least tripleListLength ∷ []
 
 -- 1 to 12, or the graph and the pairs
-abbrev pub PairsAnswers : Text → Text → PairAnswer → Contents → Contents → Contents → Contents → Contents → Contents → Contents → Contents → Type 0
-PairsAnswers pack query r nodes triples pairs rows heads alive queue seen =
-    Call (record { graph = refusedAs 1; pairs = 0 }) (Refuses pack query) (Gives pack query) r (lists nodes triples pairs) (buffers rows heads alive queue seen)
+abbrev pub PairsAnswers : Text → Text → PairAnswer → Contents → Contents → Contents → Contents → Contents → Contents → Contents → Contents → Contents
+    → Contents → Contents → Type 0
+PairsAnswers pack query r nodes triples pairs rows heads alive waiting stack seen own-nodes own-triples =
+    Call (record { graph = refusedAs 1; pairs = 0 }) (Refuses pack query) (Gives pack query) r (lists nodes triples pairs)
+    (buffers rows heads alive waiting stack seen own-nodes own-triples)

@@ -3,7 +3,6 @@ ghost use Rattle.calls.specs.Call.{lent};
 ghost use Rattle.pair_list.specs.Written.{TableRoom};
 ghost use Rattle.pairs.specs.Answer.{PairsAnswers};
 ghost use Rattle.pairs.specs.Inner.{Comes, CountedGraph, ForCounted, ListRoom, Room};
-use answers::pairs::Pairs;
 use calls::long_enough;
 use construct::Constructed;
 use construct::refused;
@@ -11,17 +10,17 @@ use meaning::HEADS_LENGTH;
 use meaning::MAX_PAIRS;
 use meaning::MAX_PARTS;
 use meaning::MAX_QUERY_BYTES;
-use meaning::MAX_STATES;
 use meaning::NODE_LIST_LENGTH;
 use meaning::PAIR_LIST_LENGTH;
 use meaning::ROWS_LENGTH;
+use meaning::SEEN_WORDS;
+use meaning::STATE_WORDS;
 use meaning::TRIPLE_LIST_LENGTH;
 use pair_list::find::find_pairs;
 use pair_list::publish::publish;
 use prepare::prepare;
-use sets::buffers::clear_u8;
+use reached::pairs::Pairs;
 use sets::buffers::clear_u16;
-use sets::buffers::clear_u32;
 use sets::buffers::clear_u64;
 
 // What the pack comes to, and the pair count.
@@ -30,7 +29,7 @@ pub struct PairAnswer {
     pub pairs: usize,
 }
 
-// The answer in a graph whose nodes and triples stand in `points` and `links`, lists of the call's own: 12, or the graph and
+// The answer in a graph whose nodes and triples stand in `points` and `links`: 12, or the graph and
 // its pairs are written into the lent lists.
 fn in_lists(
     tree: &[u32],
@@ -42,11 +41,12 @@ fn in_lists(
     nodes: &mut [u16],
     triples: &mut [u16],
     pairs: &mut [u16],
-    alive: &mut [u8],
-    queue: &mut [u32],
-    seen: &mut [u16],
+    alive: &mut [u64],
+    waiting: &mut [u64],
+    stack: &mut [u16],
+    seen: &mut [u64],
 ) -> PairAnswer
-    requires { ⌜ CountedGraph (now tree) parts (now wanted) graph (now points) (now links) × ListRoom (now nodes) (now triples) (now pairs) × TableRoom (now alive) (now queue) (now seen) ⌝ }
+    requires { ⌜ CountedGraph (now tree) parts (now wanted) graph (now points) (now links) × ListRoom (now nodes) (now triples) (now pairs) × TableRoom (now alive) (now waiting) (now stack) (now seen) ⌝ }
     ensures { λ r. ⌜ ForCounted (now (tree .entry)) parts (now (wanted .entry)) graph (now (points .entry)) (now (links .entry))
         (λ pack query. Comes pack query r (lent nodes) (lent triples) (lent pairs)) ⌝ }
 {
@@ -62,7 +62,8 @@ fn in_lists(
         links,
         t,
         alive,
-        queue,
+        waiting,
+        stack,
         seen,
         &mut found,
     ) {
@@ -77,7 +78,8 @@ fn in_lists(
     }
 }
 
-// 2 to 12, or the graph and its pairs. The graph is built in lists of the call's own, since 12 is known only later.
+// 2 to 12, or the graph and its pairs. The graph is built in `own_nodes` and `own_triples`, since 12
+// is known only later.
 fn answer(
     pack: &[u8],
     query: &[u8],
@@ -86,24 +88,25 @@ fn answer(
     pairs: &mut [u16],
     rows: &mut [u16],
     heads: &mut [u64],
-    alive: &mut [u8],
-    queue: &mut [u32],
-    seen: &mut [u16],
+    alive: &mut [u64],
+    waiting: &mut [u64],
+    stack: &mut [u16],
+    seen: &mut [u64],
+    own_nodes: &mut [u16],
+    own_triples: &mut [u16],
 ) -> PairAnswer
-    requires { ⌜ Room (now nodes) (now triples) (now pairs) (now rows) (now heads) (now alive) (now queue) (now seen) ⌝ }
+    requires { ⌜ Room (now nodes) (now triples) (now pairs) (now rows) (now heads) (now alive) (now waiting) (now stack) (now seen) (now own_nodes) (now own_triples) ⌝ }
     ensures { λ r. ⌜ Comes (now (pack .entry)) (now (query .entry)) r (lent nodes) (lent triples) (lent pairs) ⌝ }
 {
     let mut tree = [0u32; MAX_QUERY_BYTES];
     let mut wanted = [0u16; MAX_PARTS];
-    let mut points = [0u16; NODE_LIST_LENGTH];
-    let mut links = [0u16; TRIPLE_LIST_LENGTH];
     let prepared = prepare(
         pack,
         query,
         &mut tree,
         &mut wanted,
-        &mut points,
-        &mut links,
+        own_nodes,
+        own_triples,
         rows,
         heads,
     );
@@ -116,27 +119,31 @@ fn answer(
         prepared.parts,
         &wanted[..],
         graph,
-        &points[..],
-        &links[..],
+        &own_nodes[..],
+        &own_triples[..],
         nodes,
         triples,
         pairs,
         alive,
-        queue,
+        waiting,
+        stack,
         seen,
     )
 }
 
 // What each list and buffer must hold at least, in the order in which they are lent.
-const LEAST_LENGTHS: [usize; 8] = [
+const LEAST_LENGTHS: [usize; 11] = [
     NODE_LIST_LENGTH,
     TRIPLE_LIST_LENGTH,
     PAIR_LIST_LENGTH,
     ROWS_LENGTH,
     HEADS_LENGTH,
-    MAX_STATES, // alive
-    MAX_STATES, // queue
-    MAX_STATES, // seen
+    STATE_WORDS, // alive
+    STATE_WORDS, // waiting
+    STATE_WORDS, // stack
+    SEEN_WORDS,
+    NODE_LIST_LENGTH, // own_nodes
+    TRIPLE_LIST_LENGTH, // own_triples
 ];
 
 // The certain pairs at the front of `pairs`, with the graph of the pack at the front of the two lists before it; or a
@@ -149,11 +156,15 @@ pub fn pairs(
     pairs: &mut [u16],
     rows: &mut [u16],
     heads: &mut [u64],
-    alive: &mut [u8],
-    queue: &mut [u32],
-    seen: &mut [u16],
+    alive: &mut [u64],
+    waiting: &mut [u64],
+    stack: &mut [u16],
+    seen: &mut [u64],
+    own_nodes: &mut [u16],
+    own_triples: &mut [u16],
 ) -> PairAnswer
-    ensures { λ r. ⌜ PairsAnswers (now (pack .entry)) (now (query .entry)) r (lent nodes) (lent triples) (lent pairs) (lent rows) (lent heads) (lent alive) (lent queue) (lent seen) ⌝ }
+    ensures { λ r. ⌜ PairsAnswers (now (pack .entry)) (now (query .entry)) r (lent nodes) (lent triples) (lent pairs) (lent rows) (lent heads)
+        (lent alive) (lent waiting) (lent stack) (lent seen) (lent own_nodes) (lent own_triples) ⌝ }
 {
     let asked = LEAST_LENGTHS;
     let lengths = [
@@ -163,8 +174,11 @@ pub fn pairs(
         rows.len(),
         heads.len(),
         alive.len(),
-        queue.len(),
+        waiting.len(),
+        stack.len(),
         seen.len(),
+        own_nodes.len(),
+        own_triples.len(),
     ];
     if !long_enough(&asked, &lengths) {
         return PairAnswer {
@@ -181,13 +195,19 @@ pub fn pairs(
         rows,
         heads,
         alive,
-        queue,
+        waiting,
+        stack,
         seen,
+        own_nodes,
+        own_triples,
     );
     clear_u16(rows);
     clear_u64(heads);
-    clear_u8(alive);
-    clear_u32(queue);
-    clear_u16(seen);
+    clear_u64(alive);
+    clear_u64(waiting);
+    clear_u16(stack);
+    clear_u64(seen);
+    clear_u16(own_nodes);
+    clear_u16(own_triples);
     said
 }

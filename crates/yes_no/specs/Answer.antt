@@ -9,7 +9,7 @@ use Rattle.calls.specs.Call.{Call, Contents, Lent, _at-least_}
 use Rattle.construct.specs.Outcome.{refusedAs}
 use Rattle.graph.specs.Fronts.{graphLists}
 use Rattle.meaning.specs.Certain.{CertainYes}
-use Rattle.meaning.specs.Limits.{headsLength, maxStates, rowsLength}
+use Rattle.meaning.specs.Limits.{headsLength, rowsLength, stateWords}
 use Rattle.meaning.specs.Pack.{Text}
 use Rattle.prepare.specs.Prepared as Prepared
 use Rattle.spelling.specs.Iri.{plain}
@@ -26,10 +26,11 @@ pub record Gives (pack query : Text) (r : YesNo) (fronts : List (List ℕ)) : Ty
   pub answer : T (r .yes) ↔ CertainYes (plain (asked .graph .of)) (asked .graph .of) (asked .expression)
 
 -- the working buffers
-abbrev pub buffers : Contents → Contents → Contents → Contents → List Lent
-buffers rows heads alive queue = rows at-least rowsLength ∷ heads at-least headsLength ∷ alive at-least maxStates ∷ queue at-least maxStates ∷ []
+abbrev pub buffers : Contents → Contents → Contents → Contents → Contents → List Lent
+buffers rows heads alive waiting stack =
+    rows at-least rowsLength ∷ heads at-least headsLength ∷ alive at-least stateWords ∷ waiting at-least stateWords ∷ stack at-least stateWords ∷ []
 
 -- 1 to 11, or the graph and the answer
-abbrev pub YesNoAnswers : Text → Text → YesNo → Contents → Contents → Contents → Contents → Contents → Contents → Type 0
-YesNoAnswers pack query r nodes triples rows heads alive queue =
-    Call (record { graph = refusedAs 1; yes = false }) (Refuses pack query) (Gives pack query) r (graphLists nodes triples) (buffers rows heads alive queue)
+abbrev pub YesNoAnswers : Text → Text → YesNo → Contents → Contents → Contents → Contents → Contents → Contents → Contents → Type 0
+YesNoAnswers pack query r nodes triples rows heads alive waiting stack =
+    Call (record { graph = refusedAs 1; yes = false }) (Refuses pack query) (Gives pack query) r (graphLists nodes triples) (buffers rows heads alive waiting stack)

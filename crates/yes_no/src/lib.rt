@@ -9,14 +9,12 @@ use evaluate::yes::yes;
 use meaning::HEADS_LENGTH;
 use meaning::MAX_PARTS;
 use meaning::MAX_QUERY_BYTES;
-use meaning::MAX_STATES;
 use meaning::NODE_LIST_LENGTH;
 use meaning::ROWS_LENGTH;
+use meaning::STATE_WORDS;
 use meaning::TRIPLE_LIST_LENGTH;
 use prepare::prepare;
-use sets::buffers::clear_u8;
 use sets::buffers::clear_u16;
-use sets::buffers::clear_u32;
 use sets::buffers::clear_u64;
 
 // What the pack comes to, and the answer.
@@ -33,10 +31,11 @@ fn answer(
     triples: &mut [u16],
     rows: &mut [u16],
     heads: &mut [u64],
-    alive: &mut [u8],
-    queue: &mut [u32],
+    alive: &mut [u64],
+    waiting: &mut [u64],
+    stack: &mut [u16],
 ) -> YesNo
-    requires { ⌜ Room (now nodes) (now triples) (now rows) (now heads) (now alive) (now queue) ⌝ }
+    requires { ⌜ Room (now nodes) (now triples) (now rows) (now heads) (now alive) (now waiting) (now stack) ⌝ }
     ensures { λ r. ⌜ Comes (now (pack .entry)) (now (query .entry)) r (lent nodes) (lent triples) ⌝ }
 {
     let mut tree = [0u32; MAX_QUERY_BYTES];
@@ -55,7 +54,8 @@ fn answer(
     if graph.refusal != 0 {
         return YesNo { graph, yes: false };
     }
-    clear_u8(alive);
+    clear_u64(alive);
+    clear_u64(waiting);
     let yes = yes(
         &tree[..],
         prepared.parts,
@@ -65,23 +65,25 @@ fn answer(
         &triples[..],
         graph.triples,
         alive,
-        queue,
+        waiting,
+        stack,
     );
     YesNo { graph, yes }
 }
 
 // What each list and buffer must hold at least, in the order in which they are lent.
-const LEAST_LENGTHS: [usize; 6] = [
+const LEAST_LENGTHS: [usize; 7] = [
     NODE_LIST_LENGTH,
     TRIPLE_LIST_LENGTH,
     ROWS_LENGTH,
     HEADS_LENGTH,
-    MAX_STATES, // alive
-    MAX_STATES, // queue
+    STATE_WORDS, // alive
+    STATE_WORDS, // waiting
+    STATE_WORDS, // stack
 ];
 
 // Whether the query is certain, with the graph of the pack at the front of the two lists; or a refusal. `rows`, `heads`,
-// `alive` and `queue` are working buffers.
+// `alive`, `waiting` and `stack` are working buffers.
 pub fn yes_no(
     pack: &[u8],
     query: &[u8],
@@ -89,10 +91,12 @@ pub fn yes_no(
     triples: &mut [u16],
     rows: &mut [u16],
     heads: &mut [u64],
-    alive: &mut [u8],
-    queue: &mut [u32],
+    alive: &mut [u64],
+    waiting: &mut [u64],
+    stack: &mut [u16],
 ) -> YesNo
-    ensures { λ r. ⌜ YesNoAnswers (now (pack .entry)) (now (query .entry)) r (lent nodes) (lent triples) (lent rows) (lent heads) (lent alive) (lent queue) ⌝ }
+    ensures { λ r. ⌜ YesNoAnswers (now (pack .entry)) (now (query .entry)) r (lent nodes) (lent triples) (lent rows) (lent heads)
+        (lent alive) (lent waiting) (lent stack) ⌝ }
 {
     let asked = LEAST_LENGTHS;
     let lengths = [
@@ -101,7 +105,8 @@ pub fn yes_no(
         rows.len(),
         heads.len(),
         alive.len(),
-        queue.len(),
+        waiting.len(),
+        stack.len(),
     ];
     if !long_enough(&asked, &lengths) {
         return YesNo {
@@ -109,10 +114,21 @@ pub fn yes_no(
             yes: false,
         };
     }
-    let said = answer(pack, query, nodes, triples, rows, heads, alive, queue);
+    let said = answer(
+        pack,
+        query,
+        nodes,
+        triples,
+        rows,
+        heads,
+        alive,
+        waiting,
+        stack,
+    );
     clear_u16(rows);
     clear_u64(heads);
-    clear_u8(alive);
-    clear_u32(queue);
+    clear_u64(alive);
+    clear_u64(waiting);
+    clear_u16(stack);
     said
 }
