@@ -7,17 +7,17 @@ use mathlib.Core.Path.{subst, sym, _∙_, _≡_}
 use native.Mathlib.Decide.{decLt, ℕ-discrete}
 use native.Mathlib.Omega.{arith}
 use Prim.Native.Nat.{ℕ, _*_, _+_, _-_, _/_, _<_, _≤_}
-use Rattle.alive.specs.Fits.{ListsFit}
-use Rattle.alive.specs.Links.{Caused, Link, LinksListed, LinkReady, maxLinks}
-use Rattle.alive.specs.Lists.{Lists}
+use Rattle.alive.specs.Links.{Caused, Link, LinksListed, LinkReady, maxCauses, maxLinks}
 use Rattle.alive.specs.Steps.{Touches}
 use Rattle.index.specs.Index.{ByObject, ChainReady, Met}
 use Rattle.index.specs.Triples.{GraphFits, objectAt, subjectAt}
-use Rattle.meaning.specs.Limits.{maxNodes, maxParts}
+use Rattle.meaning.specs.Limits.{maxParts}
 use Rattle.query.specs.Tree.{firstNumber, kindOf}
+use Rattle.states.proofs.PartKinds.{part-ready}
+use Rattle.states.specs.Fits.{ListsFit}
+use Rattle.states.specs.Lists.{Lists}
 use Rattle.walk.proofs.KindLaws.{kind-chain, kind-either, kind-leaf, kind-repeat, kind-test}
 use Rattle.walk.specs.Parts.{Part, chain, either, leaf, partOf, repeat, test}
-use Rattle.alive.proofs.States.{part-ready}
 
 -- ---- link by link
 
@@ -78,11 +78,11 @@ pub link-ready : {L : Lists} → ListsFit L → LinkReady (L .tree) (L .next) (L
 link-ready f = record { few = f .query .few; ready = λ i l. part-ready f i l }
 
 -- No part has a chain yet.
-pub heads-ready : {parts : ℕ} → parts ≤ maxParts → ChainReady (parts * 3) (replicate maxNodes 0) (replicate maxLinks 0)
-heads-ready l = record { heads = omega arith; links = omega arith; none = λ o h. getD-replicate maxNodes o 0 0 h }
+pub heads-ready : {parts : ℕ} → parts ≤ maxParts → ChainReady maxCauses (parts * 3) (replicate maxCauses 0) (replicate maxLinks 0)
+heads-ready l = record { heads = omega arith; links = omega arith; none = λ o h. getD-replicate maxCauses o 0 0 h }
 
 -- Links are triples within their bounds.
-pub links-fit : {tree next links : List ℕ} {parts : ℕ} → parts ≤ maxParts → LinksListed tree next (parts * 3) links → GraphFits maxNodes (parts * 3) links
+pub links-fit : {tree next links : List ℕ} {parts : ℕ} → parts ≤ maxParts → LinksListed tree next (parts * 3) links → GraphFits maxCauses (parts * 3) links
 links-fit l d = record {
   few-nodes = omega arith;
   few-edges = omega arith;
@@ -91,12 +91,12 @@ links-fit l d = record {
   objects = λ k h. d .objects k h .small;
 }
 
-module _ {L : Lists} {links heads rest : List ℕ} (f : ListsFit L) (d : LinksListed (L .tree) (L .next) (L .parts * 3) links) (b : ByObject links (L .parts * 3) heads rest) where
+module _ {L : Lists} {links heads rest : List ℕ} (f : ListsFit L) (d : LinksListed (L .tree) (L .next) (L .parts * 3) links) (b : ByObject links maxCauses (L .parts * 3) heads rest) where
   -- a link of the part i that leads from j
-  found : (i j e : ℕ) → j < maxNodes → e < L .parts * 3 → e / 3 ≡ i → objectAt links e ≡ j → (e : ℕ) × Met rest (getD heads j 0) e × (e / 3 ≡ i)
+  found : (i j e : ℕ) → j < maxCauses → e < L .parts * 3 → e / 3 ≡ i → objectAt links e ≡ j → (e : ℕ) × Met rest (getD heads j 0) e × (e / 3 ≡ i)
   found i j e h l p q = (e, b .exactly j e h .1 (l, q), p)
 
-  module _ (i j : ℕ) (l : i < L .parts) (h : j < maxNodes) where
+  module _ (i j : ℕ) (l : i < L .parts) (h : j < maxCauses) where
     from-after : j ≡ getD (L .next) i 0 → (e : ℕ) × Met rest (getD heads j 0) e × (e / 3 ≡ i)
     from-after q =
         let p : i * 3 / 3 ≡ i = omega arith in
