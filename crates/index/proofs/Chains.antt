@@ -51,7 +51,8 @@ chain-start {triples} {last} {earlier} r = record {
   exactly = λ o j l. ((λ m. absurd (met-none (r .none o l) m)), (λ (h, e). absurd (omega arith)));
 }
 
-module _ {triples last earlier : List ℕ} {nodes k : ℕ} (c : Chained triples nodes last earlier k) (room : k < length earlier) (heads : nodes ≤ length last) (small : objectAt triples k < nodes) where
+module _ {triples last earlier : List ℕ} {nodes k : ℕ} (c : Chained triples nodes last earlier k) (room : k < length earlier)
+    (heads : nodes ≤ length last) (small : objectAt triples k < nodes) where
   object : ℕ
   object = objectAt triples k
 
