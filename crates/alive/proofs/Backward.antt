@@ -6,7 +6,7 @@ use lib.ListN.{getD}
 use mathlib.Core.Bool.{Bool, not, true}
 use mathlib.Core.List.{List}
 use mathlib.Core.Logic.{inl, inr, ⊎-elim, _↔_, _⊎_}
-use mathlib.Core.Path.{ap, refl, subst, sym, _∙_, _≡_}
+use mathlib.Core.Path.{ap, subst, sym, _∙_, _≡_}
 use native.Mathlib.Omega.{arith}
 use Prim.Native.Nat.{ℕ, _%_, _*_, _+_, _-_, _/_, _<_, _^_, _≤_}
 use Rattle.alive.specs.Steps.{FromWord, LeafBack, Led, PartBack, SubjectAt, SubjectOn, Turned, labels, leaves, stays, steps, turns}

@@ -5,7 +5,7 @@ use mathlib.Core.List.{List}
 use mathlib.Core.Logic.{inl, inr, ⊎-elim, _⊎_}
 use mathlib.Core.Path.{ap, refl, subst, sym, _∙_, _≡_}
 use native.Mathlib.Omega.{arith}
-use Prim.Native.Nat.{ℕ, _%_, _*_, _+_, _-_, _/_, _<_, _≤_}
+use Prim.Native.Nat.{ℕ, _%_, _*_, _-_, _/_, _<_, _≤_}
 use Rattle.alive.specs.Links.{Caused}
 use Rattle.alive.specs.Steps.{AllAlive, AllMarked, BackAt, BackTo, BackToWord, EndAt, FromWord, Led, PartBack, StateAlive, Touches, leads, turns}
 use Rattle.index.proofs.Chains.{met-first, met-later, met-none, met-split}
@@ -98,8 +98,8 @@ module _ {L : Lists} {rest : List ℕ} {w bits : ℕ} {b₁ b₂ : Board} {at : 
       split s i y h x e p (inl q) = inl (one s i y h x (ap (λ z. z / 3) (sym q) ∙ p))
       split s i y h x e p (inr m) = inr (e, m, p)
 
-      by : (s i y : ℕ) → InWord w bits s → i < L .parts → BackAt L (b₁ .marked) s i y → Marked (b₂ .marked) y ⊎ ((e : ℕ) × Met rest at e × (e / 3 ≡ i)) → Marked (b₃ .marked) y
-          ⊎ ((e : ℕ) × Met rest (getD rest (at - 1) 0) e × (e / 3 ≡ i))
+      by : (s i y : ℕ) → InWord w bits s → i < L .parts → BackAt L (b₁ .marked) s i y → Marked (b₂ .marked) y ⊎ ((e : ℕ) × Met rest at e × (e / 3 ≡ i))
+          → Marked (b₃ .marked) y ⊎ ((e : ℕ) × Met rest (getD rest (at - 1) 0) e × (e / 3 ≡ i))
       by s i y h r x (inl z) = inl (d .more y z)
       by s i y h r x (inr (e, m, p)) = split s i y h x e p (met-split m)
 

@@ -97,16 +97,17 @@ module _ {L : Lists} {links heads rest : List ℕ} (f : ListsFit L) (d : LinksLi
   found i j e h l p q = (e, b .exactly j e h .1 (l, q), p)
 
   module _ (i j : ℕ) (l : i < L .parts) (h : j < maxCauses) where
-    from-after : j ≡ getD (L .next) i 0 → (e : ℕ) × Met rest (getD heads j 0) e × (e / 3 ≡ i)
-    from-after q =
+    from-after : kindOf (L .tree) i < 7 → j ≡ getD (L .next) i 0 → (e : ℕ) × Met rest (getD heads j 0) e × (e / 3 ≡ i)
+    from-after k q =
         let p : i * 3 / 3 ≡ i = omega arith in
-        found i j (i * 3) h (omega arith) p (subst (λ k. objectAt links (i * 3) ≡ getD (L .next) k 0) p (d .objects (i * 3) (omega arith) .after (omega arith)) ∙ sym q)
+        found i j (i * 3) h (omega arith) p (subst (λ x. kindOf (L .tree) x < 7 → objectAt links (i * 3) ≡ getD (L .next) x 0) p
+        (d .objects (i * 3) (omega arith) .after (omega arith)) k ∙ sym q)
 
-    from-body : 5 ≤ kindOf (L .tree) i → j ≡ i - 1 → (e : ℕ) × Met rest (getD heads j 0) e × (e / 3 ≡ i)
-    from-body k q =
+    from-body : 5 ≤ kindOf (L .tree) i → (kindOf (L .tree) i ≡ 7 → ⊥) → j ≡ i - 1 → (e : ℕ) × Met rest (getD heads j 0) e × (e / 3 ≡ i)
+    from-body k n q =
         let p : (i * 3 + 1) / 3 ≡ i = omega arith in
-        found i j (i * 3 + 1) h (omega arith) p (subst (λ x. 5 ≤ kindOf (L .tree) x → objectAt links (i * 3 + 1) ≡ x - 1) p
-        (d .objects (i * 3 + 1) (omega arith) .body (omega arith)) k ∙ sym q)
+        found i j (i * 3 + 1) h (omega arith) p (subst (λ x. 5 ≤ kindOf (L .tree) x → (kindOf (L .tree) x ≡ 7 → ⊥) → objectAt links (i * 3 + 1) ≡ x - 1) p
+        (d .objects (i * 3 + 1) (omega arith) .body (omega arith)) k n ∙ sym q)
 
     from-first : 7 ≤ kindOf (L .tree) i → j ≡ firstNumber (L .tree) i → (e : ℕ) × Met rest (getD heads j 0) e × (e / 3 ≡ i)
     from-first k q =
@@ -123,24 +124,24 @@ module _ {L : Lists} {links heads rest : List ℕ} (f : ListsFit L) (d : LinksLi
     way : Way (partOf (L .tree) i)
     way = go (ℕ-discrete (kindOf (L .tree) i) 5) (ℕ-discrete (kindOf (L .tree) i) 6) (ℕ-discrete (kindOf (L .tree) i) 7) (ℕ-discrete (kindOf (L .tree) i) 8)
       where
-        testing : 5 ≤ kindOf (L .tree) i → Way (test (i - 1))
-        testing k (inl q) = from-body k q
-        testing k (inr q) = from-after q
+        testing : kindOf (L .tree) i ≡ 5 → Way (test (i - 1))
+        testing k (inl q) = from-body (omega arith) (λ e. omega arith) q
+        testing k (inr q) = from-after (omega arith) q
 
-        repeating : 5 ≤ kindOf (L .tree) i → Way (repeat (i - 1))
-        repeating k (inl q) = from-after q
-        repeating k (inr q) = from-body k q
+        repeating : kindOf (L .tree) i ≡ 6 → Way (repeat (i - 1))
+        repeating k (inl q) = from-after (omega arith) q
+        repeating k (inr q) = from-body (omega arith) (λ e. omega arith) q
 
-        choosing : 7 ≤ kindOf (L .tree) i → Way (either (firstNumber (L .tree) i) (i - 1))
-        choosing k (inl q) = from-first k q
-        choosing k (inr q) = from-body (omega arith) q
+        choosing : kindOf (L .tree) i ≡ 8 → Way (either (firstNumber (L .tree) i) (i - 1))
+        choosing k (inl q) = from-first (omega arith) q
+        choosing k (inr q) = from-body (omega arith) (λ e. omega arith) q
 
         go : Dec (kindOf (L .tree) i ≡ 5) → Dec (kindOf (L .tree) i ≡ 6) → Dec (kindOf (L .tree) i ≡ 7) → Dec (kindOf (L .tree) i ≡ 8) → Way (partOf (L .tree) i)
-        go (yes k) b c d = by (test (i - 1)) (kind-test (L .tree) i k) (testing (omega arith))
-        go (no a) (yes k) c d = by (repeat (i - 1)) (kind-repeat (L .tree) i k) (repeating (omega arith))
+        go (yes k) b c d = by (test (i - 1)) (kind-test (L .tree) i k) (testing k)
+        go (no a) (yes k) c d = by (repeat (i - 1)) (kind-repeat (L .tree) i k) (repeating k)
         go (no a) (no b) (yes k) d = by (chain (firstNumber (L .tree) i) (i - 1)) (kind-chain (L .tree) i k) (λ q. from-first (omega arith) q)
-        go (no a) (no b) (no c) (yes k) = by (either (firstNumber (L .tree) i) (i - 1)) (kind-either (L .tree) i k) (choosing (omega arith))
-        go (no a) (no b) (no c) (no e) = by leaf (kind-leaf (L .tree) i a b c e) (λ q. from-after q)
+        go (no a) (no b) (no c) (yes k) = by (either (firstNumber (L .tree) i) (i - 1)) (kind-either (L .tree) i k) (choosing k)
+        go (no a) (no b) (no c) (no e) = by leaf (kind-leaf (L .tree) i a b c e) (λ q. let z = f .query .kinds i l in from-after (omega arith) q)
 
   pub chains-cause : Caused L heads rest
   chains-cause = record {

@@ -4,7 +4,7 @@ use mathlib.Core.List.{List}
 use mathlib.Core.Logic.{inl, inr}
 use mathlib.Core.Path.{refl, subst, sym, _≡_}
 use native.Mathlib.Omega.{arith}
-use Prim.Native.Nat.{ℕ, _%_, _*_, _/_, _<_, _≤_}
+use Prim.Native.Nat.{ℕ, _%_, _/_, _<_, _≤_}
 use Rattle.alive.specs.Steps.{AllAlive, AllMarked, BackAt, Chain, Chains, Led, PartBack, StateAlive, leads, leaves, turns}
 use Rattle.index.specs.Index.{ByObject, Met}
 use Rattle.meaning.specs.Limits.{maxNodes, nodeWords, stateWords}

@@ -18,11 +18,12 @@ maxLinks = maxParts * 3
 abbrev pub maxCauses : ℕ  -- the parts, the end, and one that stands for no part
 maxCauses = maxParts + 2
 
--- The link e stands for the part e / 3, and leads from c: from what comes after it, the part before it, or its first part.
+-- The link e stands for the part e / 3, and leads from c: from what comes after it, the part before it, or its first part, if
+-- that can make it alive.
 pub record Link (tree next : List ℕ) (e c : ℕ) : Type 0 where
   pub small : c < maxCauses
-  pub after : e % 3 ≡ 0 → c ≡ getD next (e / 3) 0
-  pub body : e % 3 ≡ 1 → 5 ≤ kindOf tree (e / 3) → c ≡ e / 3 - 1
+  pub after : e % 3 ≡ 0 → kindOf tree (e / 3) < 7 → c ≡ getD next (e / 3) 0
+  pub body : e % 3 ≡ 1 → 5 ≤ kindOf tree (e / 3) → (kindOf tree (e / 3) ≡ 7 → ⊥) → c ≡ e / 3 - 1
   pub first : e % 3 ≡ 2 → 7 ≤ kindOf tree (e / 3) → c ≡ firstNumber tree (e / 3)
 
 -- The parts are there.

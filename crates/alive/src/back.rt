@@ -135,7 +135,18 @@ fn mark_leaf(
     }
     if kind < kinds::AT_IRI {
         return mark_steps(
-            triples, earlier, last, kind, want, i, block, bits, alive, waiting, stack, top,
+            triples,
+            earlier,
+            last,
+            kind,
+            want,
+            i,
+            block,
+            bits,
+            alive,
+            waiting,
+            stack,
+            top,
         );
     }
     let node = want as usize;
@@ -199,6 +210,17 @@ pub fn mark_part(
         return top;
     }
     mark_leaf(
-        triples, earlier, last, kind, wanted[i], i, block, bits, alive, waiting, stack, top,
+        triples,
+        earlier,
+        last,
+        kind,
+        wanted[i],
+        i,
+        block,
+        bits,
+        alive,
+        waiting,
+        stack,
+        top,
     )
 }

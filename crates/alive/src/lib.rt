@@ -1,7 +1,7 @@
 // The states of a query over a graph in number lists from which the end is reached, found backward from the ends, a word of
 // states at a time.
 mod links; // the parts that each part can make alive
-pub mod back; // the states from which a step leads to one
+mod back; // the states from which a step leads to one
 
 ghost use lib.ListN.{length};
 ghost use Prim.Native.Nat.{_*_, _-_, _<_, _≤_};
@@ -29,6 +29,9 @@ const MAX_LINKS: usize = MAX_PARTS * 3;
 // The parts, the end, and one that stands for no part.
 const MAX_CAUSES: usize = MAX_PARTS + 2;
 
+// All bits of a word.
+const ALL_BITS: u64 = 18446744073709551615;
+
 // The nodes of a block that are among the first nodes.
 fn real_nodes(nodes: usize, block: usize) -> u64
     requires { ⌜ block * 64 < nodes ⌝ }
@@ -36,7 +39,7 @@ fn real_nodes(nodes: usize, block: usize) -> u64
 {
     let count = nodes - block * WORD;
     if WORD <= count {
-        return 18446744073709551615;
+        return ALL_BITS;
     }
     (1u64 << count) - 1
 }
@@ -98,7 +101,20 @@ fn mark_back(
     while 0 < at {
         let i = (at - 1) / 3;
         end = mark_part(
-            triples, earlier, last, tree, next, wanted, i, j, block, bits, alive, waiting, stack, end,
+            triples,
+            earlier,
+            last,
+            tree,
+            next,
+            wanted,
+            i,
+            j,
+            block,
+            bits,
+            alive,
+            waiting,
+            stack,
+            end,
         );
         at = rest[at - 1] as usize;
     }

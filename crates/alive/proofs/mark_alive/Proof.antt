@@ -12,7 +12,8 @@ mark-alive-spec =
     (λ c. search needs)  -- slice-aggregate-link-parts
     (λ c κs.
     let entry = c .before .before .before .before .before .before .before .before .before .before in
-    let h = entry .pre .0 .0 .query .few in (link-ready (entry .pre .0 .0), omega arith))  -- link-parts-requires
+    let h = entry .pre .0 .0 .query .few in
+    (link-ready (entry .pre .0 .0), omega arith))  -- link-parts-requires
     (λ c. search needs)  -- slice-aggregate-chain-by-object
     (λ c. search needs)  -- mul-chain-by-object
     (λ c. search needs)  -- slice-aggregate-chain-by-object-2
@@ -20,7 +21,8 @@ mark-alive-spec =
     (λ c κs.
     let at-link-parts = c .before .before .before .before .before in
     let entry = at-link-parts .before .before .before .before .before .before .before .before .before .before .before in
-    let h = entry .pre .0 .0 .query .few in (links-fit h (at-link-parts .link-parts .ensures), heads-ready h))  -- chain-by-object-requires
+    let h = entry .pre .0 .0 .query .few in
+    (links-fit h (at-link-parts .link-parts .ensures), heads-ready h))  -- chain-by-object-requires
     (λ c. search needs)  -- slice-aggregate-mark-all
     (λ c. search needs)  -- slice-aggregate-mark-all-2
     (λ c κs.
@@ -31,6 +33,4 @@ mark-alive-spec =
     (λ c. search needs)  -- same-length
     (λ c. search needs)  -- same-length-2
     (λ c. search needs)  -- same-length-3
-    (λ c.
-    let at-mark-all = c .before .before .before .before .before .before in
-    at-mark-all .mark-all .ensures))  -- returns
+    (λ c. let at-mark-all = c .before .before .before .before .before .before in at-mark-all .mark-all .ensures))  -- returns

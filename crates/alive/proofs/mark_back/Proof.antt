@@ -44,17 +44,22 @@ mark-back-spec =
     μ-loop
     (λ c.
     let entry = c .before .before .before .before .before .before .before .before .before .before .before in
-    let y = word-part (entry .args .w) (entry .pre .1 .0 .1 .0) in omega arith)  -- mul-at
+    let y = word-part (entry .args .w) (entry .pre .1 .0 .1 .0) in
+    omega arith)  -- mul-at
     (λ c.
     let entry = c .before .before .before .before .before .before .before .before .before .before .before .before in
-    let y = word-part (entry .args .w) (entry .pre .1 .0 .1 .0) in let z = entry .pre .0 .1 .1 .begins in omega arith)  -- shared-slice-read-at
+    let y = word-part (entry .args .w) (entry .pre .1 .0 .1 .0) in
+    let z = entry .pre .0 .1 .1 .begins in
+    omega arith)  -- shared-slice-read-at
     (λ c. fits-widen tt (c .shared-slice-known9 .given _))  -- cast-at
     (λ c. (refl, refl, refl, λ sizes r. back-start (r .0 .1 .1) (r .1 .0 .1 .0) (r .1 .1)))  -- loop-holds
     (λ c. search needs)  -- sub-i
     (λ c κs.
     let at-loop = c .before .before .before .before in
     let entry = at-loop .before .before .before .before .before .before .before .before .before .before .before .before .before in
-    let g = at-loop .loop .inv .3 (entry .args .sizes) (entry .pre) in let z = link-first g (c .before .before .before .loop-test .taken) in let y = entry .pre .0 .0 .query .in-wanted in (
+    let g = at-loop .loop .inv .3 (entry .args .sizes) (entry .pre) in
+    let z = link-first g (c .before .before .before .loop-test .taken) in
+    let y = entry .pre .0 .0 .query .in-wanted in (
       chains-ready (entry .pre .0 .0) (entry .args .alive .now) (entry .pre .1 .0 .0) (entry .pre .1 .0 .1 .1) (entry .pre .1 .0 .1 .0) (entry .pre .0 .1 .0),
       ((part-ready (entry .pre .0 .0) ((at-loop .loop .at - 1) / 3) (omega arith), omega arith), (omega arith, g .adds .after)),
     ))  -- mark-part-requires
@@ -63,23 +68,31 @@ mark-back-spec =
     let at-loop-test = c .before .before .before .before .before .before .before .before .before .before in
     let at-loop = at-loop-test .before in
     let entry = at-loop .before .before .before .before .before .before .before .before .before .before .before .before .before in
-    let g = at-loop .loop .inv .3 (entry .args .sizes) (entry .pre) in let z = link-first g (at-loop-test .loop-test .taken) in let y = entry .pre .0 .0 .query .few in omega arith)  -- mul-at-2
+    let g = at-loop .loop .inv .3 (entry .args .sizes) (entry .pre) in
+    let z = link-first g (at-loop-test .loop-test .taken) in
+    let y = entry .pre .0 .0 .query .few in
+    omega arith)  -- mul-at-2
     (λ c.
     let at-loop-test = c .before .before .before .before .before .before .before .before .before .before .before in
     let at-loop = at-loop-test .before in
     let entry = at-loop .before .before .before .before .before .before .before .before .before .before .before .before .before in
-    let g = at-loop .loop .inv .3 (entry .args .sizes) (entry .pre) in let z = link-first g (at-loop-test .loop-test .taken) in let y = entry .pre .0 .1 .1 .listed in omega arith)  -- shared-slice-read-at-2
+    let g = at-loop .loop .inv .3 (entry .args .sizes) (entry .pre) in
+    let z = link-first g (at-loop-test .loop-test .taken) in
+    let y = entry .pre .0 .1 .1 .listed in
+    omega arith)  -- shared-slice-read-at-2
     (λ c. fits-widen tt (c .shared-slice-known10 .given _))  -- cast-at-2
     (λ c.
     let at-loop-test = c .before .before .before .before .before .before .before .before .before .before .before in
     let at-loop = at-loop-test .before in
     let entry = at-loop .before .before .before .before .before .before .before .before .before .before .before .before .before in
-    let g = at-loop .loop .inv .3 (entry .args .sizes) (entry .pre) in let z = link-first g (at-loop-test .loop-test .taken) in let y = entry .pre .0 .1 .1 .falls _ z in omega arith)  -- loop-less
+    let g = at-loop .loop .inv .3 (entry .args .sizes) (entry .pre) in
+    let z = link-first g (at-loop-test .loop-test .taken) in
+    let y = entry .pre .0 .1 .1 .falls _ z in
+    omega arith)  -- loop-less
     (λ c.
     let at-mark-part = c .before .before .before .before .before .before .before in
     let at-loop-test = at-mark-part .before .before .before .before in
-    let at-loop = at-loop-test .before in
-    (
+    let at-loop = at-loop-test .before in (
       at-mark-part .mark-part .kept .1 .1 .1 .1 .1 .1 .1 .1 .1 .1 .0 ∙ at-loop .loop .inv .0,
       at-mark-part .mark-part .kept .1 .1 .1 .1 .1 .1 .1 .1 .1 .1 .1 .0 ∙ at-loop .loop .inv .1,
       at-mark-part .mark-part .kept .1 .1 .1 .1 .1 .1 .1 .1 .1 .1 .1 .1 .0 ∙ at-loop .loop .inv .2,

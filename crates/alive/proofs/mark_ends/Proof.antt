@@ -31,7 +31,10 @@ mark-ends-spec =
     (λ c κs.
     let at-loop = c .before .before .before .before .before in
     let entry = at-loop .before .before .before .before in
-    let t = c .before .before .before .before .loop-test .taken in let n = entry .pre .0 .0 in let p = entry .pre .0 .1 in (_, omega arith, at-loop .loop .inv .4 .adds .after))  -- mark-word-requires
+    let t = c .before .before .before .before .loop-test .taken in
+    let n = entry .pre .0 .0 in
+    let p = entry .pre .0 .1 in
+    (_, omega arith, at-loop .loop .inv .4 .adds .after))  -- mark-word-requires
     (λ c. search needs)  -- add-block
     (λ c. search needs)  -- loop-less
     (λ c.
@@ -40,7 +43,9 @@ mark-ends-spec =
     let at-loop-test = at-real-nodes .before in
     let at-loop = at-loop-test .before in
     let entry = at-loop .before .before .before .before in
-    let t = at-loop-test .loop-test .taken in let n = entry .pre .0 .0 in let p = entry .pre .0 .1 in (
+    let t = at-loop-test .loop-test .taken in
+    let n = entry .pre .0 .0 in
+    let p = entry .pre .0 .1 in (
       at-mark-word .mark-word .kept .1 .1 .0 ∙ at-loop .loop .inv .0,
       at-mark-word .mark-word .kept .1 .1 .1 .0 ∙ at-loop .loop .inv .1,
       at-mark-word .mark-word .kept .1 .1 .1 .1 .0 ∙ at-loop .loop .inv .2,

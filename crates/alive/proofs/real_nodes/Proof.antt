@@ -16,5 +16,8 @@ real-nodes-spec =
     (λ c. search needs)  -- sub-count
     (λ c. all-real (c .if1 .taken))  -- returns
     (λ c. search needs)  -- shl-result
-    (λ c. let w = weight-made 64 (c .before .args .nodes - c .before .args .block * 64) (omega arith) in let p = suc-ones (c .before .args .nodes - c .before .args .block * 64) in omega arith)  -- sub-result
+    (λ c.
+    let w = weight-made 64 (c .before .args .nodes - c .before .args .block * 64) (omega arith) in
+    let p = suc-ones (c .before .args .nodes - c .before .args .block * 64) in
+    omega arith)  -- sub-result
     (λ c. some-real _ (c .before .pre) (weight-made 64 (c .before .args .nodes - c .before .args .block * 64) (omega arith))))  -- returns-2

@@ -1,7 +1,6 @@
 -- `alive::some_alive` meets its contract. Assumes nothing.
 use borrow.Author.Needs.{needs}
 use native.Mathlib.Omega.{arith}
-use native.Mathlib.Decide.{decLt}
 use Prim.Native.Nat.{ℕ, _*_, _-_, _<_, _≤_, _+_}
 use Rattle.states.specs.State.{state}
 use Rattle.worklist.specs.Table.{Marked}
@@ -32,14 +31,18 @@ some-alive-spec =
     (λ c κs. search needs)  -- real-nodes-requires
     (λ c.
     let entry = c .before .before .before .before .before .before in
-    some-here (entry .args .alive .now) (entry .args .nodes) (entry .args .parts - 1) (c .before .before .before .before .loop .block) (c .before .real-nodes .result) (let t = c .before .before .before .loop-test .taken in let n = entry .pre .0 .0 in omega arith) (c .before .real-nodes .ensures) (c .before .before .shared-slice-known2 .given _ .fits) (c .if1 .taken))  -- returns
+    some-here (entry .args .alive .now) (entry .args .nodes) (entry .args .parts - 1) (c .before .before .before .before .loop .block) (c .before .real-nodes .result)
+    (let t = c .before .before .before .loop-test .taken in let n = entry .pre .0 .0 in omega arith) (c .before .real-nodes .ensures)
+    (c .before .before .shared-slice-known2 .given _ .fits) (c .if1 .taken))  -- returns
     (λ c. search needs)  -- add-block
     (λ c. search needs)  -- loop-less
     (λ c.
     let at-loop = c .before .before .before .before in
     let entry = at-loop .before .before in
-    let t = c .before .before .before .loop-test .taken in let n = entry .pre .0 .0 in (
+    let t = c .before .before .before .loop-test .taken in
+    let n = entry .pre .0 .0 in (
       omega arith,
-      none-before (entry .args .alive .now) (entry .args .nodes) (entry .args .parts - 1) (at-loop .loop .block) (c .before .real-nodes .result) (omega arith) (c .before .real-nodes .ensures) (c .if1 .left) (at-loop .loop .inv .1),
+      none-before (entry .args .alive .now) (entry .args .nodes) (entry .args .parts - 1) (at-loop .loop .block) (c .before .real-nodes .result)
+          (omega arith) (c .before .real-nodes .ensures) (c .if1 .left) (at-loop .loop .inv .1),
     ))  -- loop-again
     (λ c. λ k l e. c .before .loop .inv .1 k l (omega arith) e))  -- returns-2

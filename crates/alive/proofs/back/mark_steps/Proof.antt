@@ -34,9 +34,7 @@ mark-steps-spec =
     (tie.spec
     Inv-loop
     μ-loop
-    (λ c.
-    let entry = c .before .before .before .before .before .before in
-    (refl, refl, refl, sweep-start (entry .pre .1 .1)))  -- loop-holds
+    (λ c. let entry = c .before .before .before .before .before .before in (refl, refl, refl, sweep-start (entry .pre .1 .1)))  -- loop-holds
     (λ c. search needs)  -- mul-m
     (λ c. omega (arith, trailing-le 64 (c .before .loop .left)))  -- cast-m
     (λ c. omega (arith, trailing-le 64 (c .before .loop .left)))  -- add-m
@@ -56,8 +54,7 @@ mark-steps-spec =
     (λ c.
     let at-mark-subjects = c .before .before .before .before .before .before in
     let at-loop = at-mark-subjects .before .before .before .before .before .before in
-    let entry = at-loop .before .before .before .before .before .before .before in
-    (
+    let entry = at-loop .before .before .before .before .before .before .before in (
       at-mark-subjects .mark-subjects .kept .1 .1 .1 .1 .1 .1 .0 ∙ at-loop .loop .inv .0,
       at-mark-subjects .mark-subjects .kept .1 .1 .1 .1 .1 .1 .1 .0 ∙ at-loop .loop .inv .1,
       at-mark-subjects .mark-subjects .kept .1 .1 .1 .1 .1 .1 .1 .1 .0 ∙ at-loop .loop .inv .2,

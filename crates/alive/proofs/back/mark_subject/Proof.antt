@@ -26,9 +26,7 @@ mark-subject-spec =
     (λ c. fits-widen tt (c .shared-slice-known3 .given _))  -- cast-subject
     (λ c. search needs)  -- mul-mark
     (λ c. search needs)  -- add-mark
-    (λ c κs.
-    let entry = c .before .before .before .before .before .before .before .before .before .before .before in
-    (_, omega arith, entry .pre .1 .1 .1))  -- mark-requires
+    (λ c κs. let entry = c .before .before .before .before .before .before .before .before .before .before .before in (_, omega arith, entry .pre .1 .1 .1))  -- mark-requires
     (λ c. search needs)  -- same-length
     (λ c. search needs)  -- same-length-2
     (λ c. search needs)  -- same-length-3
@@ -37,4 +35,5 @@ mark-subject-spec =
     let at-if1 = at-mark .before .before .before .before .before in
     let at-takes-predicate = at-if1 .before in
     let entry = at-takes-predicate .before .before .before .before .before .before in
-    subject-one (sym (at-takes-predicate .takes-predicate .ensures) ∙ not-false (at-takes-predicate .takes-predicate .result) (at-if1 .if1 .left)) (at-mark .mark .ensures _ (omega arith) (entry .pre .1 .1 .1))))  -- returns-2
+    subject-one (sym (at-takes-predicate .takes-predicate .ensures) ∙ not-false (at-takes-predicate .takes-predicate .result) (at-if1 .if1 .left))
+    (at-mark .mark .ensures _ (omega arith) (entry .pre .1 .1 .1))))  -- returns-2

@@ -23,20 +23,21 @@ mark-subjects-spec =
     (tie.spec
     Inv-loop
     μ-loop
-    (λ c.
-    let entry = c .before .before .before .before .before in
-    (refl, refl, refl, follow-start (entry .pre .1 .1)))  -- loop-holds
+    (λ c. let entry = c .before .before .before .before .before in (refl, refl, refl, follow-start (entry .pre .1 .1)))  -- loop-holds
     (λ c. search needs)  -- sub-mark-subject
     (λ c κs.
     let at-loop = c .before .before .before .before in
     let entry = at-loop .before .before .before .before .before .before in
-    let m = at-first (at-loop .loop .inv .3) (c .before .before .before .loop-test .taken) in let g = entry .pre .0 .whole _ m in (omega arith, (entry .pre .0 .nodes _ m, (entry .pre .1 .0, at-loop .loop .inv .3 .adds .after))))  -- mark-subject-requires
+    let m = at-first (at-loop .loop .inv .3) (c .before .before .before .loop-test .taken) in
+    let g = entry .pre .0 .whole _ m in
+    (omega arith, (entry .pre .0 .nodes _ m, (entry .pre .1 .0, at-loop .loop .inv .3 .adds .after))))  -- mark-subject-requires
     (λ c. search needs)  -- sub-at
     (λ c.
     let at-loop-test = c .before .before .before .before .before .before .before .before .before .before in
     let at-loop = at-loop-test .before in
     let entry = at-loop .before .before .before .before .before .before in
-    let g = entry .pre .0 .whole _ (at-first (at-loop .loop .inv .3) (at-loop-test .loop-test .taken)) in omega arith)  -- mul-at
+    let g = entry .pre .0 .whole _ (at-first (at-loop .loop .inv .3) (at-loop-test .loop-test .taken)) in
+    omega arith)  -- mul-at
     (λ c.
     let at-loop-test = c .before .before .before .before .before .before .before .before .before .before .before in
     let at-loop = at-loop-test .before in
@@ -47,12 +48,12 @@ mark-subjects-spec =
     let at-loop-test = c .before .before .before .before .before .before .before .before .before .before .before in
     let at-loop = at-loop-test .before in
     let entry = at-loop .before .before .before .before .before .before in
-    let g = entry .pre .0 .falls _ (at-first (at-loop .loop .inv .3) (at-loop-test .loop-test .taken)) in omega arith)  -- loop-less
+    let g = entry .pre .0 .falls _ (at-first (at-loop .loop .inv .3) (at-loop-test .loop-test .taken)) in
+    omega arith)  -- loop-less
     (λ c.
     let at-mark-subject = c .before .before .before .before .before .before .before in
     let at-loop-test = at-mark-subject .before .before .before .before in
-    let at-loop = at-loop-test .before in
-    (
+    let at-loop = at-loop-test .before in (
       at-mark-subject .mark-subject .kept .1 .1 .1 .1 .1 .0 ∙ at-loop .loop .inv .0,
       at-mark-subject .mark-subject .kept .1 .1 .1 .1 .1 .1 .0 ∙ at-loop .loop .inv .1,
       at-mark-subject .mark-subject .kept .1 .1 .1 .1 .1 .1 .1 .0 ∙ at-loop .loop .inv .2,

@@ -14,76 +14,50 @@ turned-spec =
     tie.close
     (tie.spec
     (λ c κs. c .before .before .before .before .pre .0 .0 .in-tree)  -- first-number-requires
-    (λ c.
-    let entry = c .before .before .before .before .before in
-    let e = c .first-number .ensures in let b = entry .pre .1 in let l = entry .pre .1 .1 in omega arith)  -- mul-first
-    (λ c.
-    let entry = c .before .before .before .before .before in
-    let e = c .first-number .ensures in let b = entry .pre .1 in let l = entry .pre .1 .1 in omega arith)  -- add-first
-    (λ c.
-    let entry = c .before .before .before .before .before in
-    let e = c .first-number .ensures in let b = entry .pre .1 in let l = entry .pre .1 .1 in omega arith)  -- mul-first-2
-    (λ c.
-    let entry = c .before .before .before .before .before .before in
-    let e = c .before .first-number .ensures in let b = entry .pre .1 in let l = entry .pre .1 .1 in omega arith)  -- shared-slice-read-first
+    (λ c. search needs)  -- mul-first
+    (λ c. search needs)  -- add-first
+    (λ c. search needs)  -- mul-first-2
+    (λ c. search needs)  -- shared-slice-read-first
     (λ c.
     let entry = c .before .before .before .before .before .before .before in
-    turned-sequence (entry .args .tree .now) (entry .args .alive .now) (entry .args .i) (entry .args .block) (getD (entry .args .next .now) (entry .args .i) 0) (sym (entry .pre .0 .1 .0) ∙ c .if2 .taken) _ (c .before .before .first-number .ensures))  -- returns
+    turned-sequence (entry .args .tree .now) (entry .args .alive .now) (entry .args .i) (entry .args .block) (getD (entry .args .next .now) (entry .args .i) 0)
+    (sym (entry .pre .0 .1 .0) ∙ c .if2 .taken) _ (c .before .before .first-number .ensures))  -- returns
     (λ c.
     let entry = c .before .before .before .before .before .before .before in
-    let k = entry .pre .0 .1 in let s = some-before (entry .pre .0 .0) (omega arith) in let p = entry .pre .0 .0 .short in let b = entry .pre .1 in let l = entry .pre .1 .1 in omega arith)  -- sub-result
-    (λ c.
-    let entry = c .before .before .before .before .before .before .before in
-    let k = entry .pre .0 .1 in let s = some-before (entry .pre .0 .0) (omega arith) in let p = entry .pre .0 .0 .short in let b = entry .pre .1 in let l = entry .pre .1 .1 in omega arith)  -- mul-result
-    (λ c.
-    let entry = c .before .before .before .before .before .before .before in
-    let k = entry .pre .0 .1 in let s = some-before (entry .pre .0 .0) (omega arith) in let p = entry .pre .0 .0 .short in let b = entry .pre .1 in let l = entry .pre .1 .1 in omega arith)  -- add-result
-    (λ c.
-    let entry = c .before .before .before .before .before .before .before in
-    let k = entry .pre .0 .1 in let s = some-before (entry .pre .0 .0) (omega arith) in let p = entry .pre .0 .0 .short in let b = entry .pre .1 in let l = entry .pre .1 .1 in omega arith)  -- mul-result-2
+    let k = entry .pre .0 .1 in
+    let s = some-before (entry .pre .0 .0) (omega arith) in
+    omega arith)  -- sub-result
+    (λ c. search needs)  -- mul-result
+    (λ c. search needs)  -- add-result
+    (λ c. search needs)  -- mul-result-2
+    (λ c. search needs)  -- shared-slice-read-result
     (λ c.
     let entry = c .before .before .before .before .before .before .before .before in
-    let k = entry .pre .0 .1 in let s = some-before (entry .pre .0 .0) (omega arith) in let p = entry .pre .0 .0 .short in let b = entry .pre .1 in let l = entry .pre .1 .1 in omega arith)  -- shared-slice-read-result
-    (λ c.
-    let entry = c .before .before .before .before .before .before .before .before in
-    let k = entry .pre .0 .1 .0 in let h = entry .pre .0 .0 .kind in turned-union (entry .args .tree .now) (entry .args .alive .now) (entry .args .i) (entry .args .block) (getD (entry .args .next .now) (entry .args .i) 0) (omega arith) _ (c .before .before .before .first-number .ensures))  -- returns-2
-    (λ c.
-    let entry = c .before .before .before .before in
-    let k = entry .pre .0 .1 in let s = some-before (entry .pre .0 .0) (omega arith) in let p = entry .pre .0 .0 .short in let b = entry .pre .1 in let l = entry .pre .1 .1 in omega arith)  -- sub-body
+    let k = entry .pre .0 .1 .0 in
+    let h = entry .pre .0 .0 .kind in
+    turned-union (entry .args .tree .now) (entry .args .alive .now) (entry .args .i) (entry .args .block) (getD (entry .args .next .now) (entry .args .i) 0) (omega arith) _
+    (c .before .before .before .first-number .ensures))  -- returns-2
     (λ c.
     let entry = c .before .before .before .before in
-    let k = entry .pre .0 .1 in let s = some-before (entry .pre .0 .0) (omega arith) in let p = entry .pre .0 .0 .short in let b = entry .pre .1 in let l = entry .pre .1 .1 in omega arith)  -- mul-body
-    (λ c.
-    let entry = c .before .before .before .before in
-    let k = entry .pre .0 .1 in let s = some-before (entry .pre .0 .0) (omega arith) in let p = entry .pre .0 .0 .short in let b = entry .pre .1 in let l = entry .pre .1 .1 in omega arith)  -- add-body
-    (λ c.
-    let entry = c .before .before .before .before in
-    let k = entry .pre .0 .1 in let s = some-before (entry .pre .0 .0) (omega arith) in let p = entry .pre .0 .0 .short in let b = entry .pre .1 in let l = entry .pre .1 .1 in omega arith)  -- mul-body-2
-    (λ c.
-    let entry = c .before .before .before .before .before in
-    let k = entry .pre .0 .1 in let s = some-before (entry .pre .0 .0) (omega arith) in let p = entry .pre .0 .0 .short in let b = entry .pre .1 in let l = entry .pre .1 .1 in omega arith)  -- shared-slice-read-body
-    (λ c.
-    let entry = c .before .before .before .before .before in
-    let p = entry .pre .0 .0 .short in let b = entry .pre .1 in let l = entry .pre .1 .1 in omega arith)  -- mul-after
-    (λ c.
-    let entry = c .before .before .before .before .before .before in
-    entry .pre .0 .0 .in-next)  -- shared-slice-read-after
+    let k = entry .pre .0 .1 in
+    let s = some-before (entry .pre .0 .0) (omega arith) in
+    omega arith)  -- sub-body
+    (λ c. search needs)  -- mul-body
+    (λ c. search needs)  -- add-body
+    (λ c. search needs)  -- mul-body-2
+    (λ c. search needs)  -- shared-slice-read-body
+    (λ c. search needs)  -- mul-after
+    (λ c. search needs)  -- shared-slice-read-after
     (λ c. fits-widen tt (c .shared-slice-known7 .given _))  -- cast-after
-    (λ c.
-    let entry = c .before .before .before .before .before .before in
-    let p = entry .pre .0 .0 .onward in let b = entry .pre .1 in let l = entry .pre .1 .1 in omega arith)  -- mul-after-2
-    (λ c.
-    let entry = c .before .before .before .before .before .before in
-    let p = entry .pre .0 .0 .onward in let b = entry .pre .1 in let l = entry .pre .1 .1 in omega arith)  -- add-after
-    (λ c.
-    let entry = c .before .before .before .before .before .before in
-    let p = entry .pre .0 .0 .onward in let b = entry .pre .1 in let l = entry .pre .1 .1 in omega arith)  -- mul-after-3
-    (λ c.
-    let entry = c .before .before .before .before .before .before .before in
-    let p = entry .pre .0 .0 .onward in let b = entry .pre .1 in let l = entry .pre .1 .1 in omega arith)  -- shared-slice-read-after-2
+    (λ c. search needs)  -- mul-after-2
+    (λ c. search needs)  -- add-after
+    (λ c. search needs)  -- mul-after-3
+    (λ c. search needs)  -- shared-slice-read-after-2
     (λ c.
     let entry = c .before .before .before .before .before .before .before .before in
-    turned-test (entry .args .tree .now) (entry .args .alive .now) (entry .args .i) (entry .args .block) (getD (entry .args .next .now) (entry .args .i) 0) (sym (entry .pre .0 .1 .0) ∙ c .if3 .taken))  -- returns-3
+    turned-test (entry .args .tree .now) (entry .args .alive .now) (entry .args .i) (entry .args .block) (getD (entry .args .next .now) (entry .args .i) 0)
+    (sym (entry .pre .0 .1 .0) ∙ c .if3 .taken))  -- returns-3
     (λ c.
     let entry = c .before .before .before .before .before .before .before .before in
-    let k = entry .pre .0 .1 in turned-star (entry .args .tree .now) (entry .args .alive .now) (entry .args .i) (entry .args .block) (getD (entry .args .next .now) (entry .args .i) 0) (omega arith)))  -- returns-4
+    let k = entry .pre .0 .1 in
+    turned-star (entry .args .tree .now) (entry .args .alive .now) (entry .args .i) (entry .args .block) (getD (entry .args .next .now) (entry .args .i) 0) (omega arith)))  -- returns-4
