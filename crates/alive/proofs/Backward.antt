@@ -1,59 +1,65 @@
--- The states of one part that a state, and what is marked, make alive. Assumes nothing.
+-- The states of one part that the states of a word, and what is marked, make alive. Assumes nothing.
 use borrow.Author.Tests.{not-true}
+use lib.Bits.{bitAnd, bitOr}
+use lib.Count.{trailingZeros}
 use lib.ListN.{getD}
-use mathlib.Core.Bool.{Bool, false, not, true}
+use mathlib.Core.Bool.{Bool, not, true}
 use mathlib.Core.List.{List}
-use mathlib.Core.Logic.{inl, inr, ⊎-elim, _⊎_}
-use mathlib.Core.Path.{refl, subst, sym, _∙_, _≡_}
-use native.Mathlib.Decide.{ℕ-discrete}
+use mathlib.Core.Logic.{inl, inr, ⊎-elim, _↔_, _⊎_}
+use mathlib.Core.Path.{ap, subst, sym, _∙_, _≡_}
 use native.Mathlib.Omega.{arith}
-use Prim.Native.Nat.{ℕ, _-_, _<_, _≤_}
-use Rattle.alive.specs.Steps.{AliveAt, LeafBack, Led, PartBack, PartReady, SubjectAt, SubjectOn, Turns, labels, leaves, stays, steps, takes, turns}
+use Prim.Native.Nat.{ℕ, _%_, _*_, _+_, _-_, _/_, _<_, _^_, _≤_}
+use Rattle.alive.specs.Steps.{FromWord, LeafBack, Led, PartBack, SubjectAt, SubjectOn, Turned, labels, leaves, stays, steps, turns}
 use Rattle.index.proofs.Chains.{met-first, met-later, met-none, met-split}
 use Rattle.index.specs.Index.{Met}
 use Rattle.index.specs.Triples.{predicateAt, subjectAt}
-use Rattle.meaning.specs.Limits.{maxStates}
-use Rattle.query.specs.Tree.{firstNumber, kindOf}
-use Rattle.states.proofs.Marking.{adds-as, adds-none, adds-same, adds-then}
-use Rattle.states.specs.State.{state}
-use Rattle.states.specs.Table.{Adds, Marked, Table}
-use Rattle.walk.proofs.KindLaws.{kind-chain, kind-either, kind-leaf, kind-repeat, kind-test}
-use Rattle.walk.specs.Parts.{Child, Part, chain, either, leaf, partOf, repeat, test}
 use Rattle.meaning.proofs.Cases.{true-false}
+use Rattle.meaning.proofs.Lists.Lowest.{cleared}
+use Rattle.meaning.proofs.Lists.Masks.{intersection-member, union-member}
+use Rattle.meaning.specs.Limits.{maxNodes, nodeWords, stateWords}
+use Rattle.meaning.specs.TypeSet.{bit}
+use Rattle.query.specs.Tree.{firstNumber, kindOf}
+use Rattle.states.proofs.Numbers.{in-node, in-part, state-is, word-mark, word-state}
+use Rattle.states.proofs.PartKinds.{is-leaf}
+use Rattle.states.specs.Parts.{AliveAt, takes}
+use Rattle.states.specs.State.{nodeAt, state, wordAt}
+use Rattle.walk.proofs.KindLaws.{kind-chain, kind-either, kind-repeat, kind-test}
+use Rattle.walk.specs.Parts.{Part, chain, either, partOf, repeat, test}
+use Rattle.worklist.proofs.Growth.{Sweeping, adds-as, adds-for, adds-none, adds-same, adds-then, next-in, sweep-again}
+use Rattle.worklist.proofs.Marks.{one-in}
+use Rattle.worklist.specs.Table.{Adds, AddsOnly, Board, InWord, Marked, Table}
 
 -- ---- one triple
 
-module _ {triples : List ℕ} {k kind want i : ℕ} {t₁ q₁ : List ℕ} {k₁ : ℕ} where
-  pub subject-none : (b : Bool) → not b ≡ true → b ≡ takes kind want (predicateAt triples k) → Table 1 maxStates t₁ q₁ k₁
-      → Adds 1 maxStates (SubjectAt triples k kind want i) (SubjectAt triples k kind want i) t₁ q₁ k₁ t₁ q₁ k₁
+module _ {triples : List ℕ} {k kind want i : ℕ} {b₁ : Board} where
+  pub subject-none : (b : Bool) → not b ≡ true → b ≡ takes kind want (predicateAt triples k) → Table stateWords b₁ → AddsOnly stateWords (SubjectAt triples k kind want i) b₁ b₁
   subject-none b n e t = adds-none t (λ y s. true-false (e ∙ s .taken) (not-true b n))
 
-  pub subject-one : {t₂ q₂ : List ℕ} {k₂ : ℕ} → takes kind want (predicateAt triples k) ≡ true
-      → Adds 1 maxStates (λ y. y ≡ state i (subjectAt triples k)) (λ y. y ≡ state i (subjectAt triples k)) t₁ q₁ k₁ t₂ q₂ k₂
-      → Adds 1 maxStates (SubjectAt triples k kind want i) (SubjectAt triples k kind want i) t₁ q₁ k₁ t₂ q₂ k₂
+  pub subject-one : {b₂ : Board} → takes kind want (predicateAt triples k) ≡ true → AddsOnly stateWords (λ y. y ≡ i * maxNodes + subjectAt triples k) b₁ b₂
+      → AddsOnly stateWords (SubjectAt triples k kind want i) b₁ b₂
+  unfolding state
   subject-one e a = adds-same a (λ y p. record { taken = e; state = p }) (λ y s. s .state)
 
 -- ---- a chain of triples
 
 -- What is left of the chain that begins at x begins at `at`.
-pub record Following (triples earlier : List ℕ) (x kind want i : ℕ) (t₁ q₁ : List ℕ) (k₁ : ℕ) (t₂ q₂ : List ℕ) (k₂ at : ℕ) : Type 0 where
-  pub adds : Adds 1 maxStates (SubjectOn triples earlier x kind want i) (λ y. ⊥) t₁ q₁ k₁ t₂ q₂ k₂
+pub record Following (triples earlier : List ℕ) (x kind want i : ℕ) (b₁ b₂ : Board) (at : ℕ) : Type 0 where
+  pub adds : Adds stateWords (SubjectOn triples earlier x kind want i) (λ y. ⊥) b₁ b₂
   pub inside : (k : ℕ) → Met earlier at k → Met earlier x k
-  pub left : (y : ℕ) → SubjectOn triples earlier x kind want i y → Marked 1 t₂ y ⊎ SubjectOn triples earlier at kind want i y
+  pub left : (y : ℕ) → SubjectOn triples earlier x kind want i y → Marked (b₂ .marked) y ⊎ SubjectOn triples earlier at kind want i y
 
-module _ {triples earlier : List ℕ} {x kind want i : ℕ} {t₁ q₁ : List ℕ} {k₁ : ℕ} where
-  pub follow-start : Table 1 maxStates t₁ q₁ k₁ → Following triples earlier x kind want i t₁ q₁ k₁ t₁ q₁ k₁ x
+module _ {triples earlier : List ℕ} {x kind want i : ℕ} {b₁ : Board} where
+  pub follow-start : Table stateWords b₁ → Following triples earlier x kind want i b₁ b₁ x
   follow-start t = record { adds = adds-none t (λ y h. h); inside = λ k m. m; left = λ y s. inr s }
 
-  module _ {t₂ q₂ : List ℕ} {k₂ at : ℕ} (f : Following triples earlier x kind want i t₁ q₁ k₁ t₂ q₂ k₂ at) where
+  module _ {b₂ : Board} {at : ℕ} (f : Following triples earlier x kind want i b₁ b₂ at) where
     -- the first triple of what is left
     pub at-first : 0 < at → Met earlier x (at - 1)
     at-first l = f .inside (at - 1) (met-first at l)
 
-    pub follow-again : {t₃ q₃ : List ℕ} {k₃ : ℕ}
-        → 0 < at → Adds 1 maxStates (SubjectAt triples (at - 1) kind want i) (SubjectAt triples (at - 1) kind want i) t₂ q₂ k₂ t₃ q₃ k₃
-        → Following triples earlier x kind want i t₁ q₁ k₁ t₃ q₃ k₃ (getD earlier (at - 1) 0)
-    follow-again {t₃} {q₃} {k₃} l a = record {
+    pub follow-again : {b₃ : Board} → 0 < at → AddsOnly stateWords (SubjectAt triples (at - 1) kind want i) b₂ b₃
+        → Following triples earlier x kind want i b₁ b₃ (getD earlier (at - 1) 0)
+    follow-again {b₃} l a = record {
       adds = adds-as {Y′ = λ y. ⊥} (adds-then (f .adds) (adds-as {S′ = SubjectOn triples earlier x kind want i} {Y′ = SubjectAt triples (at - 1) kind want i} a
           (λ y s. record { at = at - 1; met = at-first l; taken = s .taken; state = s .state }) (λ y s. s))) (λ y s. s) (λ y h. absurd h);
       inside = λ k m. f .inside k (met-later at l m);
@@ -61,102 +67,130 @@ module _ {triples earlier : List ℕ} {x kind want i : ℕ} {t₁ q₁ : List �
     }
       where
         split : (y : ℕ) → (r : SubjectOn triples earlier at kind want i y) → (r .at ≡ at - 1) ⊎ Met earlier (getD earlier (at - 1) 0) (r .at)
-            → Marked 1 t₃ y ⊎ SubjectOn triples earlier (getD earlier (at - 1) 0) kind want i y
+            → Marked (b₃ .marked) y ⊎ SubjectOn triples earlier (getD earlier (at - 1) 0) kind want i y
         split y r (inl e) = inl (a .all y (subst (λ k. SubjectAt triples k kind want i y) e (record { taken = r .taken; state = r .state })))
         split y r (inr m) = inr (record { at = r .at; met = m; taken = r .taken; state = r .state })
 
-    pub follow-done : at ≡ 0 → Adds 1 maxStates (SubjectOn triples earlier x kind want i) (SubjectOn triples earlier x kind want i) t₁ q₁ k₁ t₂ q₂ k₂
-    follow-done e = record {
-      after = f .adds .after;
-      longer = f .adds .longer;
-      kept = f .adds .kept;
-      more = f .adds .more;
-      new = f .adds .new;
-      all = λ y s. ⊎-elim (λ p. p) (λ r. absurd (met-none e (r .met))) (f .left y s);
-    }
+    pub follow-done : at ≡ 0 → AddsOnly stateWords (SubjectOn triples earlier x kind want i) b₁ b₂
+    follow-done e = adds-for (f .adds) (λ y s. s) (λ y s. ⊎-elim (λ p. p) (λ r. absurd (met-none e (r .met))) (f .left y s))
+
+-- ---- the nodes of a block that the bits say
+
+-- What R leads to from the next of them is marked.
+pub each-again : {R : ℕ → ℕ → Type 0} {block bits : ℕ} {a b c : Board} {rest : ℕ} → Sweeping stateWords (FromWord block bits R) R block bits a b rest → 0 < rest
+    → bits < 2 ^ 64 → AddsOnly stateWords (R (block * 64 + trailingZeros 64 rest)) b c → Sweeping stateWords (FromWord block bits R) R block bits a c (cleared rest)
+each-again {R} {block} {bits} {rest = rest} g l h d =
+    let m : ℕ = block * 64 + trailingZeros 64 rest in
+    sweep-again g l h (adds-as {S′ = FromWord block bits R} {Y′ = R m} d (λ y r. (m, next-in g l h, r)) (λ y r. r)) (λ y r. r)
+
+in-both : (block a b m : ℕ) → InWord block (bitAnd a b) m ↔ (InWord block a m × InWord block b m)
+in-both block a b m = (
+  (λ h. let (p, q) = intersection-member (m % 64) a b .0 (h .is) in (record { word = h .word; is = p }, record { word = h .word; is = q })),
+  (λ (p, q). record { word = p .word; is = intersection-member (m % 64) a b .1 (p .is, q .is) }),
+)
+
+block-node : {block bits m : ℕ} → block < nodeWords → InWord block bits m → m < maxNodes
+block-node l h = let w = h .word in omega arith
+
+-- The word of a part is marked: the part is at these nodes.
+pub at-nodes : (i : ℕ) {block bits : ℕ} {b₁ b₂ : Board} → block < nodeWords → AddsOnly stateWords (InWord (i * nodeWords + block) bits) b₁ b₂
+    → AddsOnly stateWords (FromWord block bits (λ m y. y ≡ state i m)) b₁ b₂
+unfolding wordAt
+at-nodes i {block} {bits} l a = adds-same a
+    (λ y x. (nodeAt y, in-node i block bits y l x, state-is y ∙ ap (λ p. state p (nodeAt y)) (in-part i block bits y l x)))
+    (λ y (m, x, e). subst (InWord (wordAt i block) bits) (sym e) (word-state i block bits m (block-node l x) x))
 
 -- ---- a leaf
 
-module _ {triples earlier : List ℕ} {x kind want i m : ℕ} {t₁ q₁ : List ℕ} {k₁ : ℕ} where
-  pub leaf-none : (kind ≡ 0 → ⊥) → 3 ≤ kind → (kind < 5 → want ≡ m → ⊥) → Table 1 maxStates t₁ q₁ k₁
-      → Adds 1 maxStates (LeafBack triples earlier x kind want i m) (LeafBack triples earlier x kind want i m) t₁ q₁ k₁ t₁ q₁ k₁
-  leaf-none z l n t = adds-none t none
+abbrev Leads : (triples earlier last : List ℕ) (kind want i block bits : ℕ) → ℕ → Type 0
+Leads triples earlier last kind want i block bits = FromWord block bits (λ m. LeafBack triples earlier (getD last m 0) kind want i m)
+
+module _ {triples earlier : List ℕ} (last : List ℕ) {kind want i block bits : ℕ} {b₁ : Board} where
+  -- No node of the block has the label.
+  pub leaf-none : 3 ≤ kind → (want / 64 ≡ block → ⊥) → Table stateWords b₁ → AddsOnly stateWords (Leads triples earlier last kind want i block bits) b₁ b₁
+  leaf-none k n t = adds-none t none
     where
-      none : (y : ℕ) → LeafBack triples earlier x kind want i m y → ⊥
-      none y (stays e s) = z e
-      none y (steps g h s) = omega arith
-      none y (labels g h e s) = n (omega arith) e
+      none : (y : ℕ) → Leads triples earlier last kind want i block bits y → ⊥
+      none y (m, x, stays e s) = omega arith
+      none y (m, x, steps g h s) = omega arith
+      none y (m, x, labels g h e s) = n (ap (λ z. z / 64) e ∙ x .word)
 
-  module _ {t₂ q₂ : List ℕ} {k₂ : ℕ} where
-    pub leaf-stay : kind ≡ 0 → Adds 1 maxStates (λ y. y ≡ state i m) (λ y. y ≡ state i m) t₁ q₁ k₁ t₂ q₂ k₂
-        → Adds 1 maxStates (LeafBack triples earlier x kind want i m) (LeafBack triples earlier x kind want i m) t₁ q₁ k₁ t₂ q₂ k₂
-    leaf-stay e a = adds-same a (λ y p. stays e p) back
+  module _ {b₂ : Board} where
+    pub leaf-stay : kind ≡ 0 → block < nodeWords → AddsOnly stateWords (InWord (i * nodeWords + block) bits) b₁ b₂
+        → AddsOnly stateWords (Leads triples earlier last kind want i block bits) b₁ b₂
+    leaf-stay e l a = adds-same (at-nodes i l a) (λ y (m, x, p). (m, x, stays e p)) back
       where
-        back : (y : ℕ) → LeafBack triples earlier x kind want i m y → y ≡ state i m
-        back y (stays f p) = p
-        back y (steps g h s) = absurd (omega arith)
-        back y (labels g h f p) = p
+        back : (y : ℕ) → Leads triples earlier last kind want i block bits y → FromWord block bits (λ m y. y ≡ state i m) y
+        back y (m, x, stays f p) = (m, x, p)
+        back y (m, x, steps g h s) = absurd (omega arith)
+        back y (m, x, labels g h f p) = (m, x, p)
 
-    pub leaf-step : (kind ≡ 0 → ⊥) → kind < 3 → Adds 1 maxStates (SubjectOn triples earlier x kind want i) (SubjectOn triples earlier x kind want i)
-        t₁ q₁ k₁ t₂ q₂ k₂ → Adds 1 maxStates (LeafBack triples earlier x kind want i m) (LeafBack triples earlier x kind want i m) t₁ q₁ k₁ t₂ q₂ k₂
-    leaf-step z l a = adds-same a (λ y s. steps (omega arith) (omega arith) s) back
+    pub leaf-step : (kind ≡ 0 → ⊥) → kind < 3 → AddsOnly stateWords (FromWord block bits (λ m. SubjectOn triples earlier (getD last m 0) kind want i)) b₁ b₂
+        → AddsOnly stateWords (Leads triples earlier last kind want i block bits) b₁ b₂
+    leaf-step z l a = adds-same a (λ y (m, x, s). (m, x, steps (omega arith) (omega arith) s)) back
       where
-        back : (y : ℕ) → LeafBack triples earlier x kind want i m y → SubjectOn triples earlier x kind want i y
-        back y (stays f p) = absurd (z f)
-        back y (steps g h s) = s
-        back y (labels g h f p) = absurd (omega arith)
+        back : (y : ℕ) → Leads triples earlier last kind want i block bits y → FromWord block bits (λ m. SubjectOn triples earlier (getD last m 0) kind want i) y
+        back y (m, x, stays f p) = absurd (z f)
+        back y (m, x, steps g h s) = (m, x, s)
+        back y (m, x, labels g h f p) = absurd (omega arith)
 
-    pub leaf-label : 3 ≤ kind → kind < 5 → want ≡ m → Adds 1 maxStates (λ y. y ≡ state i m) (λ y. y ≡ state i m) t₁ q₁ k₁ t₂ q₂ k₂
-        → Adds 1 maxStates (LeafBack triples earlier x kind want i m) (LeafBack triples earlier x kind want i m) t₁ q₁ k₁ t₂ q₂ k₂
-    leaf-label l h e a = adds-same a (λ y p. labels l (omega arith) e p) back
+    -- w is the node's bit as code makes it
+    pub leaf-label : 3 ≤ kind → kind < 5 → block < nodeWords → want / 64 ≡ block → (w : ℕ) → w ≡ 2 ^ (want % 64)
+        → AddsOnly stateWords (InWord (i * nodeWords + block) (bitAnd bits w)) b₁ b₂ → AddsOnly stateWords (Leads triples earlier last kind want i block bits) b₁ b₂
+    leaf-label k h l e w p a = adds-same (at-nodes i l a) forth back
       where
-        back : (y : ℕ) → LeafBack triples earlier x kind want i m y → y ≡ state i m
-        back y (stays f p) = p
-        back y (steps g r s) = absurd (omega arith)
-        back y (labels g r f p) = p
+        only : {m : ℕ} → InWord block w m → want ≡ m
+        only {m} x = sym (one-in want m .0 (record { word = x .word ∙ sym e; is = ap (bit (m % 64)) (sym p) ∙ x .is }))
+
+        forth : (y : ℕ) → FromWord block (bitAnd bits w) (λ m y. y ≡ state i m) y → Leads triples earlier last kind want i block bits y
+        forth y (m, x, q) = let (u, v) = in-both block bits w m .0 x in (m, u, labels k (omega arith) (only v) q)
+
+        is : {m : ℕ} → InWord block bits m → want ≡ m → InWord block w m
+        is {m} x f = let z = one-in want m .1 (sym f) in record { word = x .word; is = ap (bit (m % 64)) p ∙ z .is }
+
+        back : (y : ℕ) → Leads triples earlier last kind want i block bits y → FromWord block (bitAnd bits w) (λ m y. y ≡ state i m) y
+        back y (m, x, stays f q) = absurd (omega arith)
+        back y (m, x, steps g r s) = absurd (omega arith)
+        back y (m, x, labels g r f q) = (m, in-both block bits w m .1 (x, is x f), q)
 
 -- ---- a part that has parts
 
-module _ (tree : List ℕ) (i : ℕ) (B : ℕ → Type 0) (after : ℕ) where
-  taken-as : (b : Bool) (p : Part) → partOf tree i ≡ p → Turns b B after p → Turns b B after (partOf tree i)
-  taken-as b p e t = subst (λ q. Turns b B after q) (sym e) t
+module _ (tree table : List ℕ) (i block after : ℕ) where
+  abbrev word : ℕ → ℕ
+  word j = getD table (j * nodeWords + block) 0
 
-  pub turns-leaf : kindOf tree i < 5 → Turns false B after (partOf tree i)
-  turns-leaf l = taken-as false leaf (is-leaf tree i l) (λ x. x)
+  -- what a word says of the part j
+  says : (j m : ℕ) → m < maxNodes → m / 64 ≡ block → (bit (m % 64) (word j) ≡ 1) ↔ AliveAt table m j
+  unfolding wordAt
+  says j m l e =
+      let p = ap (λ b. bit (m % 64) (getD table (j * nodeWords + b) 0)) (sym e) ∙ word-mark table j m l in
+      (λ h. sym p ∙ h, λ h. p ∙ h)
 
-  -- whether x says the last of it
-  by : (x : Bool) (p : Part) → partOf tree i ≡ p → (x ≡ true → Led B after p) → (x ≡ false → Led B after p → ⊥) → Turns x B after (partOf tree i)
-  by true p e f g = taken-as true p e (f refl)
-  by false p e f g = taken-as false p e (g refl)
+  of-part : (bits : ℕ) (p : Part) → partOf tree i ≡ p → Turned bits table block after p → Turned bits table block after (partOf tree i)
+  of-part bits p e t = subst (Turned bits table block after) (sym e) t
 
-  pub turns-test-no : kindOf tree i ≡ 5 → (B (i - 1) → ⊥) → Turns false B after (partOf tree i)
-  turns-test-no k n = taken-as false (test (i - 1)) (kind-test tree i k) (λ (x, y). n x)
+  joined : (j k m : ℕ) → m < maxNodes → m / 64 ≡ block → (bit (m % 64) (bitOr (word j) (word k)) ≡ 1) ↔ (AliveAt table m j ⊎ AliveAt table m k)
+  joined j k m l e = (
+    (λ h. ⊎-elim (λ u. inl (says j m l e .0 u)) (λ u. inr (says k m l e .0 u)) (union-member (m % 64) (word j) (word k) .0 h)),
+    (λ h. union-member (m % 64) (word j) (word k) .1 (⊎-elim (λ u. inl (says j m l e .1 u)) (λ u. inr (says k m l e .1 u)) h)),
+  )
 
-  pub turns-test : kindOf tree i ≡ 5 → B (i - 1) → (x : Bool) → (x ≡ true → B after) → (B after → x ≡ true) → Turns x B after (partOf tree i)
-  turns-test k b x f g = by x (test (i - 1)) (kind-test tree i k) (λ e. (b, f e)) (λ n (u, w). true-false (g w) n)
+  pub turned-sequence : kindOf tree i ≡ 7 → (first : ℕ) → first ≡ firstNumber tree i → Turned (word first) table block after (partOf tree i)
+  turned-sequence k first e = subst (λ f. Turned (word f) table block after (partOf tree i)) (sym e)
+      (of-part (word (firstNumber tree i)) (chain (firstNumber tree i) (i - 1)) (kind-chain tree i k) (λ m l h. says (firstNumber tree i) m l h))
 
-  pub turns-star-yes : kindOf tree i ≡ 6 → B after → Turns true B after (partOf tree i)
-  turns-star-yes k b = taken-as true (repeat (i - 1)) (kind-repeat tree i k) (inl b)
+  pub turned-union : kindOf tree i ≡ 8 → (first : ℕ) → first ≡ firstNumber tree i → Turned (bitOr (word first) (word (i - 1))) table block after (partOf tree i)
+  turned-union k first e = subst (λ f. Turned (bitOr (word f) (word (i - 1))) table block after (partOf tree i)) (sym e)
+      (of-part (bitOr (word (firstNumber tree i)) (word (i - 1))) (either (firstNumber tree i) (i - 1)) (kind-either tree i k) (λ m l h. joined (firstNumber tree i) (i - 1) m l h))
 
-  pub turns-star : kindOf tree i ≡ 6 → (B after → ⊥) → (x : Bool) → (x ≡ true → B (i - 1)) → (B (i - 1) → x ≡ true) → Turns x B after (partOf tree i)
-  turns-star k n x f g = by x (repeat (i - 1)) (kind-repeat tree i k) (λ e. inr (f e)) (λ m. ⊎-elim (λ b. n b) (λ b. true-false (g b) m))
+  pub turned-star : kindOf tree i ≡ 6 → Turned (bitOr (word after) (word (i - 1))) table block after (partOf tree i)
+  turned-star k = of-part (bitOr (word after) (word (i - 1))) (repeat (i - 1)) (kind-repeat tree i k) (λ m l h. joined after (i - 1) m l h)
 
-  -- a sequence or a union, whose left part is alive
-  pub turns-left : 5 ≤ kindOf tree i → kindOf tree i ≤ 8 → (kindOf tree i ≡ 5 → ⊥) → (kindOf tree i ≡ 6 → ⊥) → B (firstNumber tree i) → Turns true B after (partOf tree i)
-  turns-left l h n m b = go (ℕ-discrete (kindOf tree i) 7)
-    where
-      go : Dec (kindOf tree i ≡ 7) → Turns true B after (partOf tree i)
-      go (yes k) = taken-as true (chain (firstNumber tree i) (i - 1)) (kind-chain tree i k) b
-      go (no k) = taken-as true (either (firstNumber tree i) (i - 1)) (kind-either tree i (omega arith)) (inl b)
-
-  pub turns-sequence-no : kindOf tree i ≡ 7 → (B (firstNumber tree i) → ⊥) → Turns false B after (partOf tree i)
-  turns-sequence-no k n = taken-as false (chain (firstNumber tree i) (i - 1)) (kind-chain tree i k) n
-
-  pub turns-union : kindOf tree i ≡ 8 → (B (firstNumber tree i) → ⊥) → (x : Bool) → (x ≡ true → B (i - 1)) → (B (i - 1) → x ≡ true) → Turns x B after (partOf tree i)
-  turns-union k n x f g = by x (either (firstNumber tree i) (i - 1)) (kind-either tree i k) (λ e. inr (f e)) (λ m. ⊎-elim (λ b. n b) (λ b. true-false (g b) m))
-
-  pub led-no-leaf : Led B after (partOf tree i) → kindOf tree i < 5 → ⊥
-  led-no-leaf x l = subst (λ p. Led B after p) (is-leaf tree i l) x
+  pub turned-test : kindOf tree i ≡ 5 → Turned (bitAnd (word (i - 1)) (word after)) table block after (partOf tree i)
+  turned-test k = of-part (bitAnd (word (i - 1)) (word after)) (test (i - 1)) (kind-test tree i k) (λ m l e. (
+    (λ h. let (u, v) = intersection-member (m % 64) (word (i - 1)) (word after) .0 h in (says (i - 1) m l e .0 u, says after m l e .0 v)),
+    (λ (u, v). intersection-member (m % 64) (word (i - 1)) (word after) .1 (says (i - 1) m l e .1 u, says after m l e .1 v)),
+  ))
 
 -- ---- any part
 
@@ -165,31 +199,36 @@ leaf-kind (stays e s) = omega arith
 leaf-kind (steps g h s) = omega arith
 leaf-kind (labels g h e s) = omega arith
 
-module _ {triples earlier last tree next wanted table : List ℕ} {i j m : ℕ} {q₁ : List ℕ} {k₁ : ℕ} where
-  pub part-turns : {t₂ q₂ : List ℕ} {k₂ : ℕ} → Led (AliveAt table m) (getD next i 0) (partOf tree i)
-      → Adds 1 maxStates (λ y. y ≡ state i m) (λ y. y ≡ state i m) table q₁ k₁ t₂ q₂ k₂
-      → Adds 1 maxStates (PartBack triples earlier last tree next wanted table i j m) (PartBack triples earlier last tree next wanted table i j m) table q₁ k₁ t₂ q₂ k₂
-  part-turns l a = adds-same a (λ y e. turns l e) back
-    where
-      back : (y : ℕ) → PartBack triples earlier last tree next wanted table i j m y → y ≡ state i m
-      back y (leaves e b) = absurd (led-no-leaf tree i (AliveAt table m) (getD next i 0) l (leaf-kind b))
-      back y (turns x e) = e
+led-no-leaf : (tree : List ℕ) (i : ℕ) (B : ℕ → Type 0) (after : ℕ) → Led B after (partOf tree i) → kindOf tree i < 5 → ⊥
+led-no-leaf tree i B after x l = subst (λ p. Led B after p) (is-leaf tree i l) x
 
-  pub part-none : (Led (AliveAt table m) (getD next i 0) (partOf tree i) → ⊥) → (getD next i 0 ≡ j → ⊥) → Table 1 maxStates table q₁ k₁
-      → Adds 1 maxStates (PartBack triples earlier last tree next wanted table i j m) (PartBack triples earlier last tree next wanted table i j m) table q₁ k₁ table q₁ k₁
-  part-none l n t = adds-none t none
+module _ {triples earlier last tree next wanted : List ℕ} {i j block bits : ℕ} {b₁ : Board} where
+  pub part-turns : {b₂ : Board} → 5 ≤ kindOf tree i → block < nodeWords → (r : ℕ) → Turned r (b₁ .marked) block (getD next i 0) (partOf tree i)
+      → AddsOnly stateWords (InWord (i * nodeWords + block) (bitAnd r bits)) b₁ b₂
+      → AddsOnly stateWords (FromWord block bits (PartBack triples earlier last tree next wanted (b₁ .marked) i j)) b₁ b₂
+  part-turns k l r t a = adds-same (at-nodes i l a) forth back
     where
-      none : (y : ℕ) → PartBack triples earlier last tree next wanted table i j m y → ⊥
-      none y (leaves e b) = n e
-      none y (turns x e) = l x
+      forth : (y : ℕ) → FromWord block (bitAnd r bits) (λ m y. y ≡ state i m) y → FromWord block bits (PartBack triples earlier last tree next wanted (b₁ .marked) i j) y
+      forth y (m, x, e) = let (u, v) = in-both block r bits m .0 x in (m, v, turns (t m (block-node l u) (u .word) .0 (u .is)) e)
 
-  pub part-leaf : {t₂ q₂ : List ℕ} {k₂ : ℕ} → (Led (AliveAt table m) (getD next i 0) (partOf tree i) → ⊥) → getD next i 0 ≡ j → (kind : ℕ) → kind ≡ kindOf tree i
-      → Adds 1 maxStates (LeafBack triples earlier (getD last m 0) kind (getD wanted i 0) i m) (LeafBack triples earlier (getD last m 0) kind (getD wanted i 0) i m) table q₁ k₁ t₂ q₂ k₂
-      → Adds 1 maxStates (PartBack triples earlier last tree next wanted table i j m) (PartBack triples earlier last tree next wanted table i j m) table q₁ k₁ t₂ q₂ k₂
-  part-leaf {t₂} {q₂} {k₂} l e kind k a = adds-same
-      (subst (λ x. Adds 1 maxStates (LeafBack triples earlier (getD last m 0) x (getD wanted i 0) i m)
-      (LeafBack triples earlier (getD last m 0) x (getD wanted i 0) i m) table q₁ k₁ t₂ q₂ k₂) k a) (λ y b. leaves e b) back
+      back : (y : ℕ) → FromWord block bits (PartBack triples earlier last tree next wanted (b₁ .marked) i j) y → FromWord block (bitAnd r bits) (λ m y. y ≡ state i m) y
+      back y (m, x, leaves e b) = absurd (let z = leaf-kind b in omega arith)
+      back y (m, x, turns d e) = (m, in-both block r bits m .1 (record { word = x .word; is = t m (block-node l x) (x .word) .1 d }, x), e)
+
+  pub part-none : kindOf tree i < 5 → (getD next i 0 ≡ j → ⊥) → Table stateWords b₁
+      → AddsOnly stateWords (FromWord block bits (PartBack triples earlier last tree next wanted (b₁ .marked) i j)) b₁ b₁
+  part-none k n t = adds-none t none
     where
-      back : (y : ℕ) → PartBack triples earlier last tree next wanted table i j m y → LeafBack triples earlier (getD last m 0) (kindOf tree i) (getD wanted i 0) i m y
-      back y (leaves f b) = b
-      back y (turns x f) = absurd (l x)
+      none : (y : ℕ) → FromWord block bits (PartBack triples earlier last tree next wanted (b₁ .marked) i j) y → ⊥
+      none y (m, x, leaves e b) = n e
+      none y (m, x, turns d e) = led-no-leaf tree i (AliveAt (b₁ .marked) m) (getD next i 0) d k
+
+  pub part-leaf : {b₂ : Board} → (kind : ℕ) → kind ≡ kindOf tree i → kind < 5 → getD next i 0 ≡ j
+      → AddsOnly stateWords (Leads triples earlier last kind (getD wanted i 0) i block bits) b₁ b₂
+      → AddsOnly stateWords (FromWord block bits (PartBack triples earlier last tree next wanted (b₁ .marked) i j)) b₁ b₂
+  part-leaf {b₂} kind k l e a =
+      adds-same (subst (λ x. AddsOnly stateWords (Leads triples earlier last x (getD wanted i 0) i block bits) b₁ b₂) k a) (λ y (m, x, b). (m, x, leaves e b)) back
+    where
+      back : (y : ℕ) → FromWord block bits (PartBack triples earlier last tree next wanted (b₁ .marked) i j) y → Leads triples earlier last (kindOf tree i) (getD wanted i 0) i block bits y
+      back y (m, x, leaves f b) = (m, x, b)
+      back y (m, x, turns d f) = absurd (led-no-leaf tree i (AliveAt (b₁ .marked) m) (getD next i 0) d (omega arith))

@@ -6,18 +6,17 @@ use Prim.Native.Nat.{ℕ, _<_}
 use Rattle.alive.specs.Steps.{LeafBack}
 use Rattle.index.specs.Index.{ByObject}
 use Rattle.index.specs.Triples.{subjectAt}
-use Rattle.meaning.specs.Limits.{maxNodes}
 use Rattle.states.proofs.Leaves.{LeafJoins, goes, is-at, rests}
 use Rattle.states.specs.Lists.{Lists}
 use Rattle.states.specs.State.{state}
 
-module _ {L : Lists} {last earlier : List ℕ} {kind want i m : ℕ} (b : ByObject (L .triples) (L .edges) last earlier) (l : m < maxNodes) where
-  pub back-joins : {y : ℕ} → m < L .nodes → LeafBack (L .triples) earlier (getD last m 0) kind want i m y → (n : ℕ) × (y ≡ state i n) × LeafJoins L kind want n m
-  back-joins h (LeafBack.stays e s) = (m, s, rests e h refl)
-  back-joins h (LeafBack.steps g r s) =
+module _ {L : Lists} {last earlier : List ℕ} {kind want i m : ℕ} (b : ByObject (L .triples) (L .nodes) (L .edges) last earlier) (l : m < L .nodes) where
+  pub back-joins : {y : ℕ} → LeafBack (L .triples) earlier (getD last m 0) kind want i m y → (n : ℕ) × (y ≡ state i n) × LeafJoins L kind want n m
+  back-joins (LeafBack.stays e s) = (m, s, rests e l refl)
+  back-joins (LeafBack.steps g r s) =
       let (lt, o) = b .exactly m (s .at) l .0 (s .met) in
       (subjectAt (L .triples) (s .at), s .state, goes g r (s .at) lt refl o (s .taken))
-  back-joins h (LeafBack.labels g r e s) = (m, s, is-at g r h e refl)
+  back-joins (LeafBack.labels g r e s) = (m, s, is-at g r l e refl)
 
   pub joins-back : {n y : ℕ} → LeafJoins L kind want n m → y ≡ state i n → LeafBack (L .triples) earlier (getD last m 0) kind want i m y
   joins-back {n} {y} (rests e h p) s = LeafBack.stays e (s ∙ ap (λ x. state i x) p)

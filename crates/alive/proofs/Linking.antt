@@ -7,17 +7,17 @@ use mathlib.Core.Path.{subst, sym, _∙_, _≡_}
 use native.Mathlib.Decide.{decLt, ℕ-discrete}
 use native.Mathlib.Omega.{arith}
 use Prim.Native.Nat.{ℕ, _*_, _+_, _-_, _/_, _<_, _≤_}
-use Rattle.alive.specs.Fits.{ListsFit}
-use Rattle.alive.specs.Links.{Caused, Link, LinksListed, LinkReady, maxLinks}
-use Rattle.alive.specs.Lists.{Lists}
+use Rattle.alive.specs.Links.{Caused, Link, LinksListed, LinkReady, maxCauses, maxLinks}
 use Rattle.alive.specs.Steps.{Touches}
 use Rattle.index.specs.Index.{ByObject, ChainReady, Met}
 use Rattle.index.specs.Triples.{GraphFits, objectAt, subjectAt}
-use Rattle.meaning.specs.Limits.{maxNodes, maxParts}
+use Rattle.meaning.specs.Limits.{maxParts}
 use Rattle.query.specs.Tree.{firstNumber, kindOf}
+use Rattle.states.proofs.PartKinds.{part-ready}
+use Rattle.states.specs.Fits.{ListsFit}
+use Rattle.states.specs.Lists.{Lists}
 use Rattle.walk.proofs.KindLaws.{kind-chain, kind-either, kind-leaf, kind-repeat, kind-test}
 use Rattle.walk.specs.Parts.{Part, chain, either, leaf, partOf, repeat, test}
-use Rattle.alive.proofs.States.{part-ready}
 
 -- ---- link by link
 
@@ -78,11 +78,11 @@ pub link-ready : {L : Lists} → ListsFit L → LinkReady (L .tree) (L .next) (L
 link-ready f = record { few = f .query .few; ready = λ i l. part-ready f i l }
 
 -- No part has a chain yet.
-pub heads-ready : {parts : ℕ} → parts ≤ maxParts → ChainReady (parts * 3) (replicate maxNodes 0) (replicate maxLinks 0)
-heads-ready l = record { heads = omega arith; links = omega arith; none = λ o h. getD-replicate maxNodes o 0 0 h }
+pub heads-ready : {parts : ℕ} → parts ≤ maxParts → ChainReady maxCauses (parts * 3) (replicate maxCauses 0) (replicate maxLinks 0)
+heads-ready l = record { heads = omega arith; links = omega arith; none = λ o h. getD-replicate maxCauses o 0 0 h }
 
 -- Links are triples within their bounds.
-pub links-fit : {tree next links : List ℕ} {parts : ℕ} → parts ≤ maxParts → LinksListed tree next (parts * 3) links → GraphFits maxNodes (parts * 3) links
+pub links-fit : {tree next links : List ℕ} {parts : ℕ} → parts ≤ maxParts → LinksListed tree next (parts * 3) links → GraphFits maxCauses (parts * 3) links
 links-fit l d = record {
   few-nodes = omega arith;
   few-edges = omega arith;
@@ -91,22 +91,23 @@ links-fit l d = record {
   objects = λ k h. d .objects k h .small;
 }
 
-module _ {L : Lists} {links heads rest : List ℕ} (f : ListsFit L) (d : LinksListed (L .tree) (L .next) (L .parts * 3) links) (b : ByObject links (L .parts * 3) heads rest) where
+module _ {L : Lists} {links heads rest : List ℕ} (f : ListsFit L) (d : LinksListed (L .tree) (L .next) (L .parts * 3) links) (b : ByObject links maxCauses (L .parts * 3) heads rest) where
   -- a link of the part i that leads from j
-  found : (i j e : ℕ) → j < maxNodes → e < L .parts * 3 → e / 3 ≡ i → objectAt links e ≡ j → (e : ℕ) × Met rest (getD heads j 0) e × (e / 3 ≡ i)
+  found : (i j e : ℕ) → j < maxCauses → e < L .parts * 3 → e / 3 ≡ i → objectAt links e ≡ j → (e : ℕ) × Met rest (getD heads j 0) e × (e / 3 ≡ i)
   found i j e h l p q = (e, b .exactly j e h .1 (l, q), p)
 
-  module _ (i j : ℕ) (l : i < L .parts) (h : j < maxNodes) where
-    from-after : j ≡ getD (L .next) i 0 → (e : ℕ) × Met rest (getD heads j 0) e × (e / 3 ≡ i)
-    from-after q =
+  module _ (i j : ℕ) (l : i < L .parts) (h : j < maxCauses) where
+    from-after : kindOf (L .tree) i < 7 → j ≡ getD (L .next) i 0 → (e : ℕ) × Met rest (getD heads j 0) e × (e / 3 ≡ i)
+    from-after k q =
         let p : i * 3 / 3 ≡ i = omega arith in
-        found i j (i * 3) h (omega arith) p (subst (λ k. objectAt links (i * 3) ≡ getD (L .next) k 0) p (d .objects (i * 3) (omega arith) .after (omega arith)) ∙ sym q)
+        found i j (i * 3) h (omega arith) p (subst (λ x. kindOf (L .tree) x < 7 → objectAt links (i * 3) ≡ getD (L .next) x 0) p
+        (d .objects (i * 3) (omega arith) .after (omega arith)) k ∙ sym q)
 
-    from-body : 5 ≤ kindOf (L .tree) i → j ≡ i - 1 → (e : ℕ) × Met rest (getD heads j 0) e × (e / 3 ≡ i)
-    from-body k q =
+    from-body : 5 ≤ kindOf (L .tree) i → (kindOf (L .tree) i ≡ 7 → ⊥) → j ≡ i - 1 → (e : ℕ) × Met rest (getD heads j 0) e × (e / 3 ≡ i)
+    from-body k n q =
         let p : (i * 3 + 1) / 3 ≡ i = omega arith in
-        found i j (i * 3 + 1) h (omega arith) p (subst (λ x. 5 ≤ kindOf (L .tree) x → objectAt links (i * 3 + 1) ≡ x - 1) p
-        (d .objects (i * 3 + 1) (omega arith) .body (omega arith)) k ∙ sym q)
+        found i j (i * 3 + 1) h (omega arith) p (subst (λ x. 5 ≤ kindOf (L .tree) x → (kindOf (L .tree) x ≡ 7 → ⊥) → objectAt links (i * 3 + 1) ≡ x - 1) p
+        (d .objects (i * 3 + 1) (omega arith) .body (omega arith)) k n ∙ sym q)
 
     from-first : 7 ≤ kindOf (L .tree) i → j ≡ firstNumber (L .tree) i → (e : ℕ) × Met rest (getD heads j 0) e × (e / 3 ≡ i)
     from-first k q =
@@ -123,24 +124,24 @@ module _ {L : Lists} {links heads rest : List ℕ} (f : ListsFit L) (d : LinksLi
     way : Way (partOf (L .tree) i)
     way = go (ℕ-discrete (kindOf (L .tree) i) 5) (ℕ-discrete (kindOf (L .tree) i) 6) (ℕ-discrete (kindOf (L .tree) i) 7) (ℕ-discrete (kindOf (L .tree) i) 8)
       where
-        testing : 5 ≤ kindOf (L .tree) i → Way (test (i - 1))
-        testing k (inl q) = from-body k q
-        testing k (inr q) = from-after q
+        testing : kindOf (L .tree) i ≡ 5 → Way (test (i - 1))
+        testing k (inl q) = from-body (omega arith) (λ e. omega arith) q
+        testing k (inr q) = from-after (omega arith) q
 
-        repeating : 5 ≤ kindOf (L .tree) i → Way (repeat (i - 1))
-        repeating k (inl q) = from-after q
-        repeating k (inr q) = from-body k q
+        repeating : kindOf (L .tree) i ≡ 6 → Way (repeat (i - 1))
+        repeating k (inl q) = from-after (omega arith) q
+        repeating k (inr q) = from-body (omega arith) (λ e. omega arith) q
 
-        choosing : 7 ≤ kindOf (L .tree) i → Way (either (firstNumber (L .tree) i) (i - 1))
-        choosing k (inl q) = from-first k q
-        choosing k (inr q) = from-body (omega arith) q
+        choosing : kindOf (L .tree) i ≡ 8 → Way (either (firstNumber (L .tree) i) (i - 1))
+        choosing k (inl q) = from-first (omega arith) q
+        choosing k (inr q) = from-body (omega arith) (λ e. omega arith) q
 
         go : Dec (kindOf (L .tree) i ≡ 5) → Dec (kindOf (L .tree) i ≡ 6) → Dec (kindOf (L .tree) i ≡ 7) → Dec (kindOf (L .tree) i ≡ 8) → Way (partOf (L .tree) i)
-        go (yes k) b c d = by (test (i - 1)) (kind-test (L .tree) i k) (testing (omega arith))
-        go (no a) (yes k) c d = by (repeat (i - 1)) (kind-repeat (L .tree) i k) (repeating (omega arith))
+        go (yes k) b c d = by (test (i - 1)) (kind-test (L .tree) i k) (testing k)
+        go (no a) (yes k) c d = by (repeat (i - 1)) (kind-repeat (L .tree) i k) (repeating k)
         go (no a) (no b) (yes k) d = by (chain (firstNumber (L .tree) i) (i - 1)) (kind-chain (L .tree) i k) (λ q. from-first (omega arith) q)
-        go (no a) (no b) (no c) (yes k) = by (either (firstNumber (L .tree) i) (i - 1)) (kind-either (L .tree) i k) (choosing (omega arith))
-        go (no a) (no b) (no c) (no e) = by leaf (kind-leaf (L .tree) i a b c e) (λ q. from-after q)
+        go (no a) (no b) (no c) (yes k) = by (either (firstNumber (L .tree) i) (i - 1)) (kind-either (L .tree) i k) (choosing k)
+        go (no a) (no b) (no c) (no e) = by leaf (kind-leaf (L .tree) i a b c e) (λ q. let z = f .query .kinds i l in from-after (omega arith) q)
 
   pub chains-cause : Caused L heads rest
   chains-cause = record {

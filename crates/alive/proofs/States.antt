@@ -3,27 +3,27 @@ use lib.ListN.{getD}
 use mathlib.Core.List.{List}
 use mathlib.Core.Logic.{inl, inr}
 use mathlib.Core.Path.{refl, subst, sym, _≡_}
-use native.Mathlib.Decide.{decLt}
 use native.Mathlib.Omega.{arith}
-use Prim.Native.Nat.{ℕ, _<_, _≤_}
-use Rattle.alive.specs.Fits.{ListsFit}
-use Rattle.alive.specs.Lists.{AliveIn, Lists}
-use Rattle.alive.specs.Steps.{AllAlive, AliveAt, BackAt, Chain, Led, PartBack, PartReady, StateAlive, leads, leaves, turns}
+use Prim.Native.Nat.{ℕ, _%_, _/_, _<_, _≤_}
+use Rattle.alive.specs.Steps.{AllAlive, AllMarked, BackAt, Chain, Chains, Led, PartBack, StateAlive, leads, leaves, turns}
 use Rattle.index.specs.Index.{ByObject, Met}
-use Rattle.meaning.specs.Limits.{maxNodes}
+use Rattle.meaning.specs.Limits.{maxNodes, nodeWords, stateWords}
 use Rattle.query.specs.Tree.{kindOf}
-use Rattle.states.proofs.States.{state-inside, state-node, state-part}
+use Rattle.states.proofs.Leaves.{LeafJoins, leaf-from, leaf-says, says-leaf}
+use Rattle.states.proofs.Numbers.{state-inside, state-node, state-part, word-is, word-state}
+use Rattle.states.proofs.PartKinds.{is-leaf, leaf-kind}
+use Rattle.states.specs.Fits.{ListsFit}
+use Rattle.states.specs.Lists.{AliveIn, Lists}
+use Rattle.states.specs.Parts.{AliveAt}
 use Rattle.states.specs.State.{nodeAt, partAt, state}
-use Rattle.states.specs.Table.{Marked}
 use Rattle.walk.specs.Parts.{Child, Part, chain, either, leaf, partOf, repeat, test}
 use Rattle.walk.specs.Walk.{begins, goes-left, goes-right, moves, tested, repeats, stops}
-use Rattle.alive.proofs.Backward.{is-leaf, not-leaf}
-use Rattle.alive.proofs.Leaves.{LeafJoins, back-joins, joins-back, leaf-from, leaf-says, says-leaf}
+use Rattle.worklist.specs.Table.{InWord, Marked}
+use Rattle.alive.proofs.Leaves.{back-joins, joins-back}
 
--- The parts that a part leads to, and the end, are within the table.
 module _ {L : Lists} (f : ListsFit L) where
   -- The chain of the triples that end at m.
-  pub chain-ready : {last earlier : List ℕ} → ByObject (L .triples) (L .edges) last earlier → (m : ℕ) → m < maxNodes → Chain (L .triples) earlier (getD last m 0)
+  chain-ready : {last earlier : List ℕ} → ByObject (L .triples) (L .nodes) (L .edges) last earlier → (m : ℕ) → m < L .nodes → Chain (L .triples) earlier (getD last m 0)
   chain-ready {last} {earlier} b m l = record {
     listed = λ k x. let g = inside k x in let h = b .links in omega arith;
     whole = λ k x. let g = inside k x in let h = f .graph .whole in omega arith;
@@ -36,13 +36,20 @@ module _ {L : Lists} (f : ListsFit L) where
 
   -- ---- a part at a node, by what is alive there
 
+  -- a state, by its part and its node
+  alive-state : (j m : ℕ) → m < maxNodes → StateAlive L (state j m) → (j ≤ L .parts) × (m < L .nodes) × AliveIn L j m
+  alive-state j m l s =
+      let u = state-part j m (state j m) l refl in
+      let v = state-node j m (state j m) l refl in
+      let p = s .part in
+      let n = s .node in
+      (omega arith, omega arith, subst (λ x. AliveIn L x m) u (subst (λ x. AliveIn L (partAt (state j m)) x) v (s .alive)))
+
   pub alive-at : (table : List ℕ) → AllAlive L table → (m j : ℕ) → m < L .nodes → j ≤ L .parts → AliveAt table m j → AliveIn L j m
   alive-at table a m j l h e =
       let p = f .query .few in
       let q = f .graph .few-nodes in
-      let s = a (state j m) (state-inside j m (omega arith) (omega arith)) e in
-      subst (λ x. AliveIn L x m) (state-part j m (state j m) (omega arith) refl)
-      (subst (λ x. AliveIn L (partAt (state j m)) x) (state-node j m (state j m) (omega arith) refl) (s .alive))
+      alive-state j m (omega arith) (a (state j m) (state-inside j m (omega arith) (omega arith)) e) .2
 
   led-alive : (i m : ℕ) → i < L .parts → m < L .nodes → (B : ℕ → Type 0) → ((j : ℕ) → j ≤ L .parts → B j → AliveIn L j m)
       → Led B (getD (L .next) i 0) (partOf (L .tree) i) → AliveIn L i m
@@ -71,23 +78,38 @@ module _ {L : Lists} (f : ListsFit L) where
         alive = subst (λ x. AliveIn L x (nodeAt y)) (sym u) (subst (λ x. AliveIn L i x) (sym v) a);
       }
 
+  -- ---- the states of a word, which are marked
+
+  module _ (table : List ℕ) {w bits : ℕ} (a : AllAlive L table) (k : AllMarked table w bits) (l : w < stateWords) where
+    -- the word's part is alive at the nodes of its block
+    pub word-alive : (m : ℕ) → InWord (w % nodeWords) bits m → (w / nodeWords ≤ L .parts) × (m < L .nodes) × AliveIn L (w / nodeWords) m
+    word-alive m h =
+        let q = h .word in
+        let n : m < maxNodes = omega arith in
+        let s = subst (λ v. InWord v bits (state (w / nodeWords) m)) (sym (word-is w)) (word-state (w / nodeWords) (w % nodeWords) bits m n h) in
+        let r = s .word in
+        alive-state (w / nodeWords) m n (a (state (w / nodeWords) m) (omega arith) (k (state (w / nodeWords) m) s))
+
+    pub chains-ready : {last earlier : List ℕ} → ByObject (L .triples) (L .nodes) (L .edges) last earlier → Chains (L .triples) earlier last (w % nodeWords) bits
+    chains-ready b = record {
+      heads = λ m h. let p = word-alive m h .1 in let q = b .heads in omega arith;
+      chain = λ m h. chain-ready b m (word-alive m h .1);
+    }
+
   -- SOUND: what a part adds is alive.
-  pub part-alive : {last earlier table : List ℕ} → ByObject (L .triples) (L .edges) last earlier → AllAlive L table → (s : ℕ) → StateAlive L s → (i y : ℕ) → i < L .parts
-      → PartBack (L .triples) earlier last (L .tree) (L .next) (L .wanted) table i (partAt s) (nodeAt s) y → StateAlive L y
-  part-alive {last} {earlier} {table} b a s w i y l (leaves e x) =
-      let q = f .graph .few-nodes in
-      let d = w .node in
-      let (n, p, j) = back-joins {L = L} b (omega arith) d x in
-      state-alive i n y (omega arith) (leaf-from (f .graph) j) p
-      (moves l (is-leaf (L .tree) i (λ k. ⊥) 0 (small j)) (says-leaf L i n (nodeAt s) j) (subst (λ x. AliveIn L x (nodeAt s)) (sym e) (w .alive)))
+  pub part-alive : {last earlier table : List ℕ} → ByObject (L .triples) (L .nodes) (L .edges) last earlier → AllAlive L table → (j m : ℕ) → m < L .nodes → AliveIn L j m
+      → (i y : ℕ) → i < L .parts → PartBack (L .triples) earlier last (L .tree) (L .next) (L .wanted) table i j m y → StateAlive L y
+  part-alive {last} {earlier} {table} b a j m h w i y l (leaves e x) =
+      let (n, p, g) = back-joins {L = L} b h x in
+      state-alive i n y (omega arith) (leaf-from (f .graph) g) p
+      (moves l (is-leaf (L .tree) i (small g)) (says-leaf L i n m g) (subst (λ x. AliveIn L x m) (sym e) w))
     where
       small : {n m : ℕ} → LeafJoins L (kindOf (L .tree) i) (getD (L .wanted) i 0) n m → kindOf (L .tree) i < 5
       small (LeafJoins.rests e h p) = omega arith
       small (LeafJoins.goes g h k lt u o t) = omega arith
       small (LeafJoins.is-at g h c u p) = omega arith
-  part-alive {last} {earlier} {table} b a s w i y l (turns x e) =
-      state-alive i (nodeAt s) y (omega arith) (w .node) e
-      (led-alive i (nodeAt s) l (w .node) (AliveAt table (nodeAt s)) (λ j h z. alive-at table a (nodeAt s) j (w .node) h z) x)
+  part-alive {last} {earlier} {table} b a j m h w i y l (turns x e) =
+      state-alive i m y (omega arith) h e (led-alive i m l h (AliveAt table m) (λ j r z. alive-at table a m j h r z) x)
 
   -- COMPLETE: what a part is to add, it adds; more may be marked by then.
   pub led-more : (B C : ℕ → Type 0) → ((j : ℕ) → B j → C j) → (after : ℕ) (p : Part) → Led B after p → Led C after p
@@ -99,9 +121,9 @@ module _ {L : Lists} (f : ListsFit L) where
   led-more B C up after (either a b) (inl x) = inl (up a x)
   led-more B C up after (either a b) (inr x) = inr (up b x)
 
-  pub back-part : {last earlier table table′ : List ℕ} → ByObject (L .triples) (L .edges) last earlier
-      → ((x : ℕ) → Marked 1 table x → Marked 1 table′ x) → (s i y : ℕ) → nodeAt s < maxNodes → i < L .parts
+  pub back-part : {last earlier table table′ : List ℕ} → ByObject (L .triples) (L .nodes) (L .edges) last earlier
+      → ((x : ℕ) → Marked table x → Marked table′ x) → (s i y : ℕ) → nodeAt s < L .nodes → i < L .parts
       → BackAt L table s i y → PartBack (L .triples) earlier last (L .tree) (L .next) (L .wanted) table′ i (partAt s) (nodeAt s) y
-  back-part {last} {earlier} {table} {table′} b up s i y d l (leads n e p j q) = leaves p (joins-back {L = L} b d (leaf-says L i n (nodeAt s) (leaf-kind i l e) j) q)
+  back-part {last} {earlier} {table} {table′} b up s i y d l (leads n e p j q) = leaves p (joins-back {L = L} b d (leaf-says L i n (nodeAt s) (leaf-kind f i l e) j) q)
   back-part {last} {earlier} {table} {table′} b up s i y d l (BackAt.turns x w q) =
       turns (led-more (AliveAt table (nodeAt s)) (AliveAt table′ (nodeAt s)) (λ j h. up (state j (nodeAt s)) h) (getD (L .next) i 0) (partOf (L .tree) i) x) q

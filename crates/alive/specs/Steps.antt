@@ -1,20 +1,21 @@
--- One part's steps backward into a state, over the lists, as the code takes them. Assumes nothing.
-use lib.Dec.{eqb}
+-- One part's steps backward into the states of a word, over the lists, as the code takes them. Assumes nothing.
 use lib.ListN.{getD, length}
-use mathlib.Core.Bool.{Bool, false, true, _||_}
+use mathlib.Core.Bool.{true}
 use mathlib.Core.List.{List}
-use mathlib.Core.Logic.{_⊎_}
+use mathlib.Core.Logic.{_↔_, _⊎_}
 use mathlib.Core.Path.{_≡_}
-use Prim.Native.Nat.{ℕ, _*_, _+_, _<_, _≤_}
-use Rattle.alive.specs.Lists.{AliveIn, Lists, leafAt, numbered}
+use Prim.Native.Nat.{ℕ, _%_, _*_, _+_, _/_, _<_, _≤_}
 use Rattle.index.specs.Index.{Met}
 use Rattle.index.specs.Triples.{predicateAt, subjectAt}
-use Rattle.meaning.specs.Limits.{maxNodes, maxParts, maxStates}
+use Rattle.meaning.specs.Limits.{maxNodes, stateWords}
 use Rattle.meaning.specs.Query.{Joins}
+use Rattle.meaning.specs.TypeSet.{bit}
 use Rattle.query.specs.Tree.{kindOf}
+use Rattle.states.specs.Lists.{AliveIn, Lists, leafAt, numbered}
+use Rattle.states.specs.Parts.{AliveAt, takes}
 use Rattle.states.specs.State.{nodeAt, partAt, state}
-use Rattle.states.specs.Table.{Marked}
-use Rattle.walk.specs.Parts.{Child, Part, chain, either, leaf, partOf, repeat, test}
+use Rattle.walk.specs.Parts.{Part, chain, either, leaf, partOf, repeat, test}
+use Rattle.worklist.specs.Table.{InWord, Marked}
 
 -- The triples of a chain are there, their subjects are nodes, and the chain ends.
 pub record Chain (triples earlier : List ℕ) (x : ℕ) : Type 0 where
@@ -22,6 +23,15 @@ pub record Chain (triples earlier : List ℕ) (x : ℕ) : Type 0 where
   pub whole : (k : ℕ) → Met earlier x k → k * 3 + 3 ≤ length triples
   pub nodes : (k : ℕ) → Met earlier x k → subjectAt triples k < maxNodes
   pub falls : (k : ℕ) → Met earlier x k → getD earlier k 0 ≤ k
+
+-- Each node of a block that the bits say has such a chain.
+pub record Chains (triples earlier last : List ℕ) (block bits : ℕ) : Type 0 where
+  pub heads : (m : ℕ) → InWord block bits m → m < length last
+  pub chain : (m : ℕ) → InWord block bits m → Chain triples earlier (getD last m 0)
+
+-- R leads to y from a node of a block that the bits say.
+abbrev pub FromWord : ℕ → ℕ → (ℕ → ℕ → Type 0) → ℕ → Type 0
+FromWord block bits R y = (m : ℕ) × InWord block bits m × R m y
 
 -- y is the part i at the subject of the triple k, which the step takes.
 pub record SubjectAt (triples : List ℕ) (k kind want i y : ℕ) : Type 0 where
@@ -49,14 +59,18 @@ Led B after (repeat body) = B after ⊎ B body
 Led B after (chain left right) = B left
 Led B after (either left right) = B left ⊎ B right
 
-abbrev pub Turns : Bool → (ℕ → Type 0) → ℕ → Part → Type 0
-Turns true B after p = Led B after p
-Turns false B after p = Led B after p → ⊥
+-- The bits say at which nodes of a block the part p is alive by what is marked there.
+abbrev pub Turned : ℕ → List ℕ → ℕ → ℕ → Part → Type 0
+Turned bits table block after p = (m : ℕ) → m < maxNodes → m / 64 ≡ block → (bit (m % 64) bits ≡ 1) ↔ Led (AliveAt table m) after p
 
 -- y is the part i at a node from which a step of it leads to (j, m), or which its own parts at m make alive.
 pub data PartBack (triples earlier last tree next wanted table : List ℕ) (i j m y : ℕ) : Type 0 where
   leaves : getD next i 0 ≡ j → LeafBack triples earlier (getD last m 0) (kindOf tree i) (getD wanted i 0) i m y → PartBack triples earlier last tree next wanted table i j m y
   turns : Led (AliveAt table m) (getD next i 0) (partOf tree i) → y ≡ state i m → PartBack triples earlier last tree next wanted table i j m y
+
+-- The bits say which nodes of a block are among the first nodes.
+abbrev pub RealNodes : ℕ → ℕ → ℕ → Type 0
+RealNodes nodes block bits = (m : ℕ) → m / 64 ≡ block → (bit (m % 64) bits ≡ 1) ↔ (m < nodes)
 
 -- y is the end at a node.
 pub record EndAt (nodes parts y : ℕ) : Type 0 where
@@ -72,7 +86,11 @@ pub record StateAlive (L : Lists) (x : ℕ) : Type 0 where
 
 -- Every marked state is alive.
 abbrev pub AllAlive : Lists → List ℕ → Type 0
-AllAlive L table = (x : ℕ) → x < maxStates → Marked 1 table x → StateAlive L x
+AllAlive L table = (x : ℕ) → x < stateWords * 64 → Marked table x → StateAlive L x
+
+-- The states of a word that the bits say are marked.
+abbrev pub AllMarked : List ℕ → ℕ → ℕ → Type 0
+AllMarked table w bits = (x : ℕ) → InWord w bits x → Marked table x
 
 -- The part p, after which `after` comes, can turn alive when the part j does.
 abbrev pub Touches : ℕ → Part → ℕ → Type 0
@@ -93,3 +111,7 @@ pub record BackTo (L : Lists) (table : List ℕ) (s y : ℕ) : Type 0 where
   pub part : ℕ
   pub is : part < L .parts
   pub back : BackAt L table s part y
+
+-- y is alive if one of the states of a word that the bits say and what is marked are.
+abbrev pub BackToWord : Lists → List ℕ → ℕ → ℕ → ℕ → Type 0
+BackToWord L table w bits y = (x : ℕ) × InWord w bits x × BackTo L table x y

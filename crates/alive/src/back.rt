@@ -1,24 +1,23 @@
-// The states from which a step leads to one.
+// The states from which a step leads to one of a word, a word at a time where nodes do not change.
 ghost use lib.ListN.{getD, length};
 ghost use mathlib.Core.Path.{_≡_};
 ghost use Prim.Native.Nat.{_*_, _+_, _<_, _≤_};
-ghost use Rattle.alive.specs.Steps.{AliveAt, Chain, LeafBack, PartBack, PartReady, SubjectAt, SubjectOn, Turns, takes};
+ghost use Rattle.alive.specs.Steps.{Chain, Chains, FromWord, LeafBack, PartBack, SubjectAt, SubjectOn, Turned};
 ghost use Rattle.index.specs.Triples.{subjectAt};
-ghost use Rattle.meaning.specs.Limits.{maxNodes, maxParts, maxStates};
-ghost use Rattle.states.specs.Table.{AddsOnly, Table};
+ghost use Rattle.meaning.specs.Limits.{maxNodes, maxParts, nodeWords, stateWords};
+ghost use Rattle.query.specs.Tree.{kindOf};
+ghost use Rattle.states.specs.Parts.{PartReady};
 ghost use Rattle.walk.specs.Parts.{partOf};
+ghost use Rattle.worklist.specs.Table.{AddsOnly, Table, board};
+use meaning::MAX_NODES;
+use meaning::NODE_WORDS;
 use query::kinds;
 use query::parts::first_number;
 use query::parts::kind_of;
-use states::is_marked;
-use states::mark;
-
-// Whether a step of this kind takes the predicate.
-pub fn takes_predicate(kind: usize, want: u16, predicate: u16) -> bool
-    ensures { λ r. ⌜ r ≡ takes kind want predicate ⌝ }
-{
-    kind == kinds::ANY_STEP || predicate == want
-}
+use states::takes_predicate;
+use worklist::WORD;
+use worklist::mark;
+use worklist::mark_word;
 
 // Marks the part i at the subject of the triple k, if the step takes it.
 fn mark_subject(
@@ -27,18 +26,21 @@ fn mark_subject(
     kind: usize,
     want: u16,
     i: usize,
-    alive: &mut [u8],
-    queue: &mut [u32],
-    tail: usize,
+    alive: &mut [u64],
+    waiting: &mut [u64],
+    stack: &mut [u16],
+    top: usize,
 ) -> usize
-    requires { ⌜ (k * 3 + 3 ≤ length (now triples)) × ((subjectAt (now triples) k < maxNodes) × ((i < maxParts) × Table 1 maxStates (now alive) (now queue) tail)) ⌝ }
-    ensures { λ r. ⌜ AddsOnly 1 maxStates (SubjectAt (now (triples .entry)) k kind want i) (now (alive .entry)) (now (queue .entry)) tail (now (alive .exit)) (now (queue .exit)) r ⌝ }
+    requires { ⌜ (k * 3 + 3 ≤ length (now triples)) × ((subjectAt (now triples) k < maxNodes)
+        × ((i < maxParts) × Table stateWords (board (now alive) (now waiting) (now stack) top))) ⌝ }
+    ensures { λ r. ⌜ AddsOnly stateWords (SubjectAt (now (triples .entry)) k kind want i)
+        (board (now (alive .entry)) (now (waiting .entry)) (now (stack .entry)) top) (board (now (alive .exit)) (now (waiting .exit)) (now (stack .exit)) r) ⌝ }
 {
     if !takes_predicate(kind, want, triples[k * 3 + 1]) {
-        return tail;
+        return top;
     }
     let subject = triples[k * 3] as usize;
-    mark(i, subject, alive, queue, tail)
+    mark(i * MAX_NODES + subject, alive, waiting, stack, top)
 }
 
 // Marks the part i at the subjects of the triples of a chain, which begins at x, that the step takes.
@@ -49,89 +51,134 @@ fn mark_subjects(
     kind: usize,
     want: u16,
     i: usize,
-    alive: &mut [u8],
-    queue: &mut [u32],
-    tail: usize,
+    alive: &mut [u64],
+    waiting: &mut [u64],
+    stack: &mut [u16],
+    top: usize,
 ) -> usize
-    requires { ⌜ Chain (now triples) (now earlier) x × ((i < maxParts) × Table 1 maxStates (now alive) (now queue) tail) ⌝ }
-    ensures { λ r. ⌜ AddsOnly 1 maxStates (SubjectOn (now (triples .entry)) (now (earlier .entry)) x kind want i) (now (alive .entry))
-        (now (queue .entry)) tail (now (alive .exit)) (now (queue .exit)) r ⌝ }
+    requires { ⌜ Chain (now triples) (now earlier) x × ((i < maxParts) × Table stateWords (board (now alive) (now waiting) (now stack) top)) ⌝ }
+    ensures { λ r. ⌜ AddsOnly stateWords (SubjectOn (now (triples .entry)) (now (earlier .entry)) x kind want i)
+        (board (now (alive .entry)) (now (waiting .entry)) (now (stack .entry)) top) (board (now (alive .exit)) (now (waiting .exit)) (now (stack .exit)) r) ⌝ }
 {
-    let mut end = tail;
+    let mut end = top;
     let mut at = x;
     while 0 < at {
-        end = mark_subject(triples, at - 1, kind, want, i, alive, queue, end);
+        end = mark_subject(triples, at - 1, kind, want, i, alive, waiting, stack, end);
         at = earlier[at - 1] as usize;
     }
     end
 }
 
-// Marks the leaf i, of this kind, at the nodes from which it leads to m; a chain from x has the triples that end at m.
-fn mark_leaf(
+// Marks the step i, of this kind, at the nodes from which it leads to a node of a block that the bits say.
+fn mark_steps(
     triples: &[u16],
     earlier: &[u16],
-    x: usize,
+    last: &[u16],
     kind: usize,
     want: u16,
     i: usize,
-    m: usize,
-    alive: &mut [u8],
-    queue: &mut [u32],
-    tail: usize,
+    block: usize,
+    bits: u64,
+    alive: &mut [u64],
+    waiting: &mut [u64],
+    stack: &mut [u16],
+    top: usize,
 ) -> usize
-    requires { ⌜ Chain (now triples) (now earlier) x × (((i < maxParts) × (m < maxNodes)) × Table 1 maxStates (now alive) (now queue) tail) ⌝ }
-    ensures { λ r. ⌜ AddsOnly 1 maxStates (LeafBack (now (triples .entry)) (now (earlier .entry)) x kind want i m) (now (alive .entry))
-        (now (queue .entry)) tail (now (alive .exit)) (now (queue .exit)) r ⌝ }
+    requires { ⌜ Chains (now triples) (now earlier) (now last) block bits × (((i < maxParts) × (block < nodeWords))
+        × Table stateWords (board (now alive) (now waiting) (now stack) top)) ⌝ }
+    ensures { λ r. ⌜ AddsOnly stateWords (FromWord block bits (λ m. SubjectOn (now (triples .entry)) (now (earlier .entry)) (getD (now (last .entry)) m 0) kind want i))
+        (board (now (alive .entry)) (now (waiting .entry)) (now (stack .entry)) top) (board (now (alive .exit)) (now (waiting .exit)) (now (stack .exit)) r) ⌝ }
+{
+    let mut end = top;
+    let mut left = bits;
+    while left != 0 {
+        let m = block * WORD + u64::trailing_zeros(left) as usize;
+        left &= left - 1;
+        end = mark_subjects(
+            triples,
+            earlier,
+            last[m] as usize,
+            kind,
+            want,
+            i,
+            alive,
+            waiting,
+            stack,
+            end,
+        );
+    }
+    end
+}
+
+// Marks the leaf i, of this kind, at the nodes from which it leads to a node of a block that the bits say.
+fn mark_leaf(
+    triples: &[u16],
+    earlier: &[u16],
+    last: &[u16],
+    kind: usize,
+    want: u16,
+    i: usize,
+    block: usize,
+    bits: u64,
+    alive: &mut [u64],
+    waiting: &mut [u64],
+    stack: &mut [u16],
+    top: usize,
+) -> usize
+    requires { ⌜ (Chains (now triples) (now earlier) (now last) block bits × (kind < 5)) × (((i < maxParts) × (block < nodeWords))
+        × Table stateWords (board (now alive) (now waiting) (now stack) top)) ⌝ }
+    ensures { λ r. ⌜ AddsOnly stateWords (FromWord block bits (λ m. LeafBack (now (triples .entry)) (now (earlier .entry)) (getD (now (last .entry)) m 0) kind want i m))
+        (board (now (alive .entry)) (now (waiting .entry)) (now (stack .entry)) top) (board (now (alive .exit)) (now (waiting .exit)) (now (stack .exit)) r) ⌝ }
 {
     if kind == kinds::STAY {
-        return mark(i, m, alive, queue, tail);
+        return mark_word(i * NODE_WORDS + block, bits, alive, waiting, stack, top);
     }
     if kind < kinds::AT_IRI {
-        return mark_subjects(triples, earlier, x, kind, want, i, alive, queue, tail);
+        return mark_steps(
+            triples,
+            earlier,
+            last,
+            kind,
+            want,
+            i,
+            block,
+            bits,
+            alive,
+            waiting,
+            stack,
+            top,
+        );
     }
-    if kinds::NESTED <= kind {
-        return tail;
+    let node = want as usize;
+    if node / WORD != block {
+        return top;
     }
-    if want as usize != m {
-        return tail;
-    }
-    mark(i, m, alive, queue, tail)
+    let here = bits & (1u64 << (node % WORD));
+    mark_word(i * NODE_WORDS + block, here, alive, waiting, stack, top)
 }
 
-// Whether the part i, which has parts, is alive at m by what is marked there.
-fn turns_alive(tree: &[u32], next: &[u16], i: usize, m: usize, alive: &[u8]) -> bool
-    requires { ⌜ PartReady (now tree) (now next) i × ((m < maxNodes) × (maxStates ≤ length (now alive))) ⌝ }
-    ensures { λ r. ⌜ Turns r (AliveAt (now (alive .entry)) m) (getD (now (next .entry)) i 0) (partOf (now (tree .entry)) i) ⌝ }
+// The nodes of a block at which the part i, of this kind, which has parts, is alive by what is marked there.
+fn turned(tree: &[u32], next: &[u16], i: usize, kind: usize, block: usize, alive: &[u64]) -> u64
+    requires { ⌜ (PartReady (now tree) (now next) i × ((kind ≡ kindOf (now tree) i) × (5 ≤ kind))) × ((block < nodeWords) × (stateWords ≤ length (now alive))) ⌝ }
+    ensures { λ r. ⌜ Turned r (now (alive .entry)) block (getD (now (next .entry)) i 0) (partOf (now (tree .entry)) i) ⌝ }
 {
-    let kind = kind_of(tree, i);
-    if kind < kinds::NESTED {
-        return false;
+    if kinds::SEQUENCE <= kind {
+        let first = alive[first_number(tree, i) * NODE_WORDS + block];
+        if kind == kinds::SEQUENCE {
+            return first;
+        }
+        return first | alive[(i - 1) * NODE_WORDS + block];
     }
-    let body = is_marked(alive, i - 1, m);
-    let after = is_marked(alive, next[i] as usize, m);
-    let first = is_marked(alive, first_number(tree, i), m);
+    let body = alive[(i - 1) * NODE_WORDS + block];
+    let after = alive[next[i] as usize * NODE_WORDS + block];
     if kind == kinds::NESTED {
-        if !body {
-            return false;
-        }
-        return after;
+        return body & after;
     }
-    if kind == kinds::STAR {
-        if after {
-            return true;
-        }
-        return body;
-    }
-    if first {
-        return true;
-    }
-    if kind == kinds::SEQUENCE {
-        return false;
-    }
-    body
+    after | body
 }
 
-// Marks the part i at each node from which it leads to (j, m), or at m, if its own parts make it alive there.
+// Marks the part i at each node from which it leads to the part j at a node of a block that the bits say, or, if it has
+// parts, at each of these nodes at which they make it alive.
 pub fn mark_part(
     triples: &[u16],
     earlier: &[u16],
@@ -141,34 +188,39 @@ pub fn mark_part(
     wanted: &[u16],
     i: usize,
     j: usize,
-    m: usize,
-    alive: &mut [u8],
-    queue: &mut [u32],
-    tail: usize,
+    block: usize,
+    bits: u64,
+    alive: &mut [u64],
+    waiting: &mut [u64],
+    stack: &mut [u16],
+    top: usize,
 ) -> usize
-    requires { ⌜ (Chain (now triples) (now earlier) (getD (now last) m 0) × (maxNodes ≤ length (now last)))
-        × ((PartReady (now tree) (now next) i × (i < length (now wanted))) × ((m < maxNodes) × Table 1 maxStates (now alive) (now queue) tail)) ⌝ }
-    ensures { λ r. ⌜ AddsOnly 1 maxStates (PartBack (now (triples .entry)) (now (earlier .entry)) (now (last .entry)) (now (tree .entry))
-        (now (next .entry)) (now (wanted .entry)) (now (alive .entry)) i j m) (now (alive .entry)) (now (queue .entry)) tail (now (alive .exit))
-        (now (queue .exit)) r ⌝ }
+    requires { ⌜ Chains (now triples) (now earlier) (now last) block bits × ((PartReady (now tree) (now next) i × (i < length (now wanted)))
+        × ((block < nodeWords) × Table stateWords (board (now alive) (now waiting) (now stack) top))) ⌝ }
+    ensures { λ r. ⌜ AddsOnly stateWords (FromWord block bits (PartBack (now (triples .entry)) (now (earlier .entry)) (now (last .entry)) (now (tree .entry))
+        (now (next .entry)) (now (wanted .entry)) (now (alive .entry)) i j))
+        (board (now (alive .entry)) (now (waiting .entry)) (now (stack .entry)) top) (board (now (alive .exit)) (now (waiting .exit)) (now (stack .exit)) r) ⌝ }
 {
-    if turns_alive(tree, next, i, m, &alive[..]) {
-        return mark(i, m, alive, queue, tail);
+    let kind = kind_of(tree, i);
+    if kinds::NESTED <= kind {
+        let here = turned(tree, next, i, kind, block, &alive[..]) & bits;
+        return mark_word(i * NODE_WORDS + block, here, alive, waiting, stack, top);
     }
     if next[i] as usize != j {
-        return tail;
+        return top;
     }
-    let kind = kind_of(tree, i);
     mark_leaf(
         triples,
         earlier,
-        last[m] as usize,
+        last,
         kind,
         wanted[i],
         i,
-        m,
+        block,
+        bits,
         alive,
-        queue,
-        tail,
+        waiting,
+        stack,
+        top,
     )
 }

@@ -1,52 +1,73 @@
-// The states of a query over a graph in number lists from which the end is reached, found backward from the ends.
+// The states of a query over a graph in number lists from which the end is reached, found backward from the ends, a word of
+// states at a time.
 mod links; // the parts that each part can make alive
-pub mod back; // the states from which a step leads to one
+mod back; // the states from which a step leads to one
 
 ghost use lib.ListN.{length};
-ghost use Prim.Native.Nat.{_-_, _<_, _≤_};
-ghost use Rattle.alive.specs.Fits.{ListsFit};
+ghost use Prim.Native.Nat.{_*_, _-_, _<_, _≤_};
 ghost use Rattle.alive.specs.Links.{Caused};
-ghost use Rattle.alive.specs.Lists.{lists};
-ghost use Rattle.alive.specs.Living.{Living, SomeAt};
-ghost use Rattle.alive.specs.Steps.{AllAlive, BackTo, EndAt, StateAlive};
+ghost use Rattle.alive.specs.Steps.{AllAlive, AllMarked, BackToWord, EndAt, RealNodes, StateAlive};
 ghost use Rattle.index.specs.Index.{ByObject};
-ghost use Rattle.meaning.specs.Limits.{maxNodes, maxParts, maxStates};
-ghost use Rattle.states.specs.Table.{Adds, AddsOnly, Marked, Table, Unmarked};
+ghost use Rattle.meaning.specs.Limits.{maxNodes, maxParts, stateWords};
+ghost use Rattle.states.specs.Fits.{ListsFit};
+ghost use Rattle.states.specs.Lists.{lists};
+ghost use Rattle.states.specs.Living.{Living, SomeAt};
+ghost use Rattle.worklist.specs.Table.{Adds, AddsOnly, Stacked, Table, Unmarked, board};
 use crate::back::mark_part;
 use crate::links::link_parts;
 use index::chain_by_object;
-use meaning::MAX_NODES;
 use meaning::MAX_PARTS;
-use states::is_marked;
-use states::mark;
-use states::node_at;
-use states::part_at;
-
-// How many nodes, triples and parts there are.
-pub struct Sizes {
-    pub nodes: usize,
-    pub edges: usize,
-    pub parts: usize,
-}
+use meaning::NODE_WORDS;
+use states::Sizes;
+use worklist::WORD;
+use worklist::mark_word;
+use worklist::take_word;
 
 // Three for each part.
 const MAX_LINKS: usize = MAX_PARTS * 3;
 
-// Marks the end at every node.
-fn mark_ends(nodes: usize, parts: usize, alive: &mut [u8], queue: &mut [u32]) -> usize
-    requires { ⌜ ((nodes ≤ maxNodes) × (parts ≤ maxParts)) × Unmarked 1 maxStates (now alive) (now queue) ⌝ }
-    ensures { λ r. ⌜ AddsOnly 1 maxStates (EndAt nodes parts) (now (alive .entry)) (now (queue .entry)) 0 (now (alive .exit)) (now (queue .exit)) r ⌝ }
+// The parts, the end, and one that stands for no part.
+const MAX_CAUSES: usize = MAX_PARTS + 2;
+
+// All bits of a word.
+const ALL_BITS: u64 = 18446744073709551615;
+
+// The nodes of a block that are among the first nodes.
+fn real_nodes(nodes: usize, block: usize) -> u64
+    requires { ⌜ block * 64 < nodes ⌝ }
+    ensures { λ r. ⌜ RealNodes nodes block r ⌝ }
 {
-    let mut tail = 0;
-    let mut n = 0;
-    while n < nodes {
-        tail = mark(parts, n, alive, queue, tail);
-        n += 1;
+    let count = nodes - block * WORD;
+    if WORD <= count {
+        return ALL_BITS;
     }
-    tail
+    (1u64 << count) - 1
 }
 
-// Marks each state that the state s makes alive. The parts that a part can make alive are chained in `heads` and `rest`.
+// Marks the end at every node.
+fn mark_ends(
+    nodes: usize,
+    parts: usize,
+    alive: &mut [u64],
+    waiting: &mut [u64],
+    stack: &mut [u16],
+) -> usize
+    requires { ⌜ ((nodes ≤ maxNodes) × (parts ≤ maxParts)) × Unmarked stateWords (now alive) (now waiting) (now stack) ⌝ }
+    ensures { λ r. ⌜ AddsOnly stateWords (EndAt nodes parts)
+        (board (now (alive .entry)) (now (waiting .entry)) (now (stack .entry)) 0) (board (now (alive .exit)) (now (waiting .exit)) (now (stack .exit)) r) ⌝ }
+{
+    let mut top = 0;
+    let mut block = 0;
+    while block * WORD < nodes {
+        let here = real_nodes(nodes, block);
+        top = mark_word(parts * NODE_WORDS + block, here, alive, waiting, stack, top);
+        block += 1;
+    }
+    top
+}
+
+// Marks each state that one of the states of a word makes alive. The parts that a part can make alive are chained in `heads`
+// and `rest`.
 fn mark_back(
     sizes: Sizes,
     triples: &[u16],
@@ -57,23 +78,25 @@ fn mark_back(
     wanted: &[u16],
     heads: &[u16],
     rest: &[u16],
-    s: usize,
-    alive: &mut [u8],
-    queue: &mut [u32],
-    tail: usize,
+    w: usize,
+    bits: u64,
+    alive: &mut [u64],
+    waiting: &mut [u64],
+    stack: &mut [u16],
+    top: usize,
 ) -> usize
     requires { ⌜ (ListsFit (lists sizes (now triples) (now tree) (now next) (now wanted))
-        × (ByObject (now triples) (sizes .edges) (now last) (now earlier)
+        × (ByObject (now triples) (sizes .nodes) (sizes .edges) (now last) (now earlier)
         × Caused (lists sizes (now triples) (now tree) (now next) (now wanted)) (now heads) (now rest)))
-        × ((AllAlive (lists sizes (now triples) (now tree) (now next) (now wanted)) (now alive) × ((s < maxStates) × (Marked 1 (now alive) s)))
-        × Table 1 maxStates (now alive) (now queue) tail) ⌝ }
-    ensures { λ r. ⌜ Adds 1 maxStates (StateAlive (lists sizes (now (triples .entry)) (now (tree .entry)) (now (next .entry)) (now (wanted .entry))))
-        (BackTo (lists sizes (now (triples .entry)) (now (tree .entry)) (now (next .entry)) (now (wanted .entry))) (now (alive .entry)) s)
-        (now (alive .entry)) (now (queue .entry)) tail (now (alive .exit)) (now (queue .exit)) r ⌝ }
+        × ((AllAlive (lists sizes (now triples) (now tree) (now next) (now wanted)) (now alive) × ((w < stateWords) × AllMarked (now alive) w bits))
+        × Table stateWords (board (now alive) (now waiting) (now stack) top)) ⌝ }
+    ensures { λ r. ⌜ Adds stateWords (StateAlive (lists sizes (now (triples .entry)) (now (tree .entry)) (now (next .entry)) (now (wanted .entry))))
+        (BackToWord (lists sizes (now (triples .entry)) (now (tree .entry)) (now (next .entry)) (now (wanted .entry))) (now (alive .entry)) w bits)
+        (board (now (alive .entry)) (now (waiting .entry)) (now (stack .entry)) top) (board (now (alive .exit)) (now (waiting .exit)) (now (stack .exit)) r) ⌝ }
 {
-    let j = part_at(s);
-    let m = node_at(s);
-    let mut end = tail;
+    let j = w / NODE_WORDS;
+    let block = w % NODE_WORDS;
+    let mut end = top;
     let mut at = heads[j] as usize;
     while 0 < at {
         let i = (at - 1) / 3;
@@ -86,9 +109,11 @@ fn mark_back(
             wanted,
             i,
             j,
-            m,
+            block,
+            bits,
             alive,
-            queue,
+            waiting,
+            stack,
             end,
         );
         at = rest[at - 1] as usize;
@@ -107,19 +132,21 @@ fn mark_all(
     wanted: &[u16],
     heads: &[u16],
     rest: &[u16],
-    alive: &mut [u8],
-    queue: &mut [u32],
+    alive: &mut [u64],
+    waiting: &mut [u64],
+    stack: &mut [u16],
 )
     requires { ⌜ (ListsFit (lists sizes (now triples) (now tree) (now next) (now wanted))
-        × (ByObject (now triples) (sizes .edges) (now last) (now earlier)
-        × Caused (lists sizes (now triples) (now tree) (now next) (now wanted)) (now heads) (now rest))) × Unmarked 1 maxStates (now alive) (now queue) ⌝ }
-    ensures { λ _. ⌜ Living (lists sizes (now (triples .entry)) (now (tree .entry)) (now (next .entry)) (now (wanted .entry))) (now (alive .exit)) ⌝ }
+        × (ByObject (now triples) (sizes .nodes) (sizes .edges) (now last) (now earlier)
+        × Caused (lists sizes (now triples) (now tree) (now next) (now wanted)) (now heads) (now rest)))
+        × Unmarked stateWords (now alive) (now waiting) (now stack) ⌝ }
+    ensures { λ _. ⌜ Living (lists sizes (now (triples .entry)) (now (tree .entry)) (now (next .entry)) (now (wanted .entry))) (now (alive .exit))
+        × Stacked stateWords (now (waiting .exit)) (now (stack .exit)) 0 ⌝ }
 {
-    let mut tail = mark_ends(sizes.nodes, sizes.parts, alive, queue);
-    let mut head = 0;
-    while head < tail {
-        let s = queue[head] as usize;
-        tail = mark_back(
+    let mut top = mark_ends(sizes.nodes, sizes.parts, alive, waiting, stack);
+    while 0 < top {
+        let word = take_word(waiting, &stack[..], top);
+        top = mark_back(
             sizes,
             triples,
             earlier,
@@ -129,12 +156,13 @@ fn mark_all(
             wanted,
             heads,
             rest,
-            s,
+            word.0,
+            word.1,
             alive,
-            queue,
-            tail,
+            waiting,
+            stack,
+            top - 1,
         );
-        head += 1;
     }
 }
 
@@ -147,20 +175,22 @@ pub fn mark_alive(
     tree: &[u32],
     next: &[u16],
     wanted: &[u16],
-    alive: &mut [u8],
-    queue: &mut [u32],
+    alive: &mut [u64],
+    waiting: &mut [u64],
+    stack: &mut [u16],
 )
     requires { ⌜ (ListsFit (lists sizes (now triples) (now tree) (now next) (now wanted))
-        × ByObject (now triples) (sizes .edges) (now last) (now earlier)) × Unmarked 1 maxStates (now alive) (now queue) ⌝ }
-    ensures { λ _. ⌜ Living (lists sizes (now (triples .entry)) (now (tree .entry)) (now (next .entry)) (now (wanted .entry))) (now (alive .exit)) ⌝ }
+        × ByObject (now triples) (sizes .nodes) (sizes .edges) (now last) (now earlier)) × Unmarked stateWords (now alive) (now waiting) (now stack) ⌝ }
+    ensures { λ _. ⌜ Living (lists sizes (now (triples .entry)) (now (tree .entry)) (now (next .entry)) (now (wanted .entry))) (now (alive .exit))
+        × Stacked stateWords (now (waiting .exit)) (now (stack .exit)) 0 ⌝ }
 {
     let mut links = [0u16; MAX_LINKS * 3];
-    let mut heads = [0u16; MAX_NODES];
+    let mut heads = [0u16; MAX_CAUSES];
     let mut rest = [0u16; MAX_LINKS];
     link_parts(tree, next, sizes.parts, &mut links);
     chain_by_object(
         &links[..],
-        MAX_NODES,
+        MAX_CAUSES,
         sizes.parts * 3,
         &mut heads,
         &mut rest,
@@ -176,21 +206,22 @@ pub fn mark_alive(
         &heads[..],
         &rest[..],
         alive,
-        queue,
+        waiting,
+        stack,
     );
 }
 
 // Whether the root is marked at some node.
-pub fn some_alive(nodes: usize, parts: usize, alive: &[u8]) -> bool
-    requires { ⌜ ((nodes ≤ maxNodes) × ((0 < parts) × (parts ≤ maxParts))) × (maxStates ≤ length (now alive)) ⌝ }
+pub fn some_alive(nodes: usize, parts: usize, alive: &[u64]) -> bool
+    requires { ⌜ ((nodes ≤ maxNodes) × ((0 < parts) × (parts ≤ maxParts))) × (stateWords ≤ length (now alive)) ⌝ }
     ensures { λ r. ⌜ SomeAt r (now (alive .entry)) nodes (parts - 1) ⌝ }
 {
-    let mut n = 0;
-    while n < nodes {
-        if is_marked(alive, parts - 1, n) {
+    let mut block = 0;
+    while block * WORD < nodes {
+        if alive[(parts - 1) * NODE_WORDS + block] & real_nodes(nodes, block) != 0 {
             return true;
         }
-        n += 1;
+        block += 1;
     }
     false
 }

@@ -9,7 +9,6 @@ use native.Mathlib.Omega.{arith}
 use Prim.Native.Nat.{suc, zero, ℕ, _+_, _-_, _<_, _≤_}
 use Rattle.index.specs.Index.{ByObject, ChainReady, Met, first, later}
 use Rattle.index.specs.Triples.{objectAt}
-use Rattle.meaning.specs.Limits.{maxNodes}
 
 -- Numbers fall along a chain.
 abbrev pub Falls : List ℕ → ℕ → Type 0
@@ -40,19 +39,20 @@ met-later zero l m = absurd (omega arith)
 -- ---- triple by triple
 
 -- The first k triples are chained.
-pub record Chained (triples last earlier : List ℕ) (k : ℕ) : Type 0 where
-  pub begins : (o : ℕ) → o < maxNodes → getD last o 0 ≤ k
+pub record Chained (triples : List ℕ) (nodes : ℕ) (last earlier : List ℕ) (k : ℕ) : Type 0 where
+  pub begins : (o : ℕ) → o < nodes → getD last o 0 ≤ k
   pub falls : Falls earlier k
-  pub exactly : (o j : ℕ) → o < maxNodes → Met earlier (getD last o 0) j ↔ ((j < k) × (objectAt triples j ≡ o))
+  pub exactly : (o j : ℕ) → o < nodes → Met earlier (getD last o 0) j ↔ ((j < k) × (objectAt triples j ≡ o))
 
-pub chain-start : {triples last earlier : List ℕ} {edges : ℕ} → ChainReady edges last earlier → Chained triples last earlier 0
+pub chain-start : {triples last earlier : List ℕ} {nodes edges : ℕ} → ChainReady nodes edges last earlier → Chained triples nodes last earlier 0
 chain-start {triples} {last} {earlier} r = record {
   begins = λ o l. let z = r .none o l in omega arith;
   falls = λ k l. absurd (omega arith);
   exactly = λ o j l. ((λ m. absurd (met-none (r .none o l) m)), (λ (h, e). absurd (omega arith)));
 }
 
-module _ {triples last earlier : List ℕ} {k : ℕ} (c : Chained triples last earlier k) (room : k < length earlier) (heads : maxNodes ≤ length last) (small : objectAt triples k < maxNodes) where
+module _ {triples last earlier : List ℕ} {nodes k : ℕ} (c : Chained triples nodes last earlier k) (room : k < length earlier)
+    (heads : nodes ≤ length last) (small : objectAt triples k < nodes) where
   object : ℕ
   object = objectAt triples k
 
@@ -88,7 +88,7 @@ module _ {triples last earlier : List ℕ} {k : ℕ} (c : Chained triples last e
   unfolding last′
   at-other o n = getD-set-other last (objectAt triples k) o (k + 1) 0 n
 
-  begins′ : (o : ℕ) → o < maxNodes → getD last′ o 0 ≤ k + 1
+  begins′ : (o : ℕ) → o < nodes → getD last′ o 0 ≤ k + 1
   begins′ o l = go (ℕ-discrete o (objectAt triples k))
     where
       go : Dec (o ≡ objectAt triples k) → getD last′ o 0 ≤ k + 1
@@ -96,13 +96,13 @@ module _ {triples last earlier : List ℕ} {k : ℕ} (c : Chained triples last e
       go (no p) = let z = at-other o p in let b = c .begins o l in omega arith
 
   -- the old chains, read through the new links
-  forth : (o j : ℕ) → o < maxNodes → Met earlier (getD last o 0) j → Met earlier′ (getD last o 0) j
+  forth : (o j : ℕ) → o < nodes → Met earlier (getD last o 0) j → Met earlier′ (getD last o 0) j
   forth o j l m = met-kept (c .falls) (c .begins o l) same m
 
-  back : (o j : ℕ) → o < maxNodes → Met earlier′ (getD last o 0) j → Met earlier (getD last o 0) j
+  back : (o j : ℕ) → o < nodes → Met earlier′ (getD last o 0) j → Met earlier (getD last o 0) j
   back o j l m = met-kept (λ i h. let z = falls′ i (omega arith) in z) (c .begins o l) (λ i h. sym (same i h)) m
 
-  exactly′ : (o j : ℕ) → o < maxNodes → Met earlier′ (getD last′ o 0) j ↔ ((j < k + 1) × (objectAt triples j ≡ o))
+  exactly′ : (o j : ℕ) → o < nodes → Met earlier′ (getD last′ o 0) j ↔ ((j < k + 1) × (objectAt triples j ≡ o))
   exactly′ o j l = go (ℕ-discrete o (objectAt triples k))
     where
       from-split : o ≡ objectAt triples k → (j ≡ suc k - 1) ⊎ Met earlier′ (getD earlier′ (suc k - 1) 0) j → (j < k + 1) × (objectAt triples j ≡ o)
@@ -130,13 +130,13 @@ module _ {triples last earlier : List ℕ} {k : ℕ} (c : Chained triples last e
           before h e (yes q) = absurd (p (sym e ∙ ap (λ x. objectAt triples x) q))
           before h e (no q) = omega arith
 
-  pub chain-again : Chained triples (set last (objectAt triples k) (k + 1)) (set earlier k (getD last (objectAt triples k) 0)) (k + 1)
+  pub chain-again : Chained triples nodes (set last (objectAt triples k) (k + 1)) (set earlier k (getD last (objectAt triples k) 0)) (k + 1)
   unfolding earlier′ last′
   chain-again = record { begins = begins′; falls = falls′; exactly = exactly′ }
 
-pub chain-done : {triples last earlier : List ℕ} {edges k : ℕ} → Chained triples last earlier k → edges ≡ k → maxNodes ≤ length last
-    → edges ≤ length earlier → ByObject triples edges last earlier
-chain-done {triples} {last} {earlier} {edges} {k} c e h l = subst (λ n. n ≤ length earlier → ByObject triples n last earlier) (sym e) (λ g. record {
+pub chain-done : {triples last earlier : List ℕ} {nodes edges k : ℕ} → Chained triples nodes last earlier k → edges ≡ k → nodes ≤ length last
+    → edges ≤ length earlier → ByObject triples nodes edges last earlier
+chain-done {triples} {last} {earlier} {nodes} {edges} {k} c e h l = subst (λ n. n ≤ length earlier → ByObject triples nodes n last earlier) (sym e) (λ g. record {
   heads = h;
   links = g;
   begins = c .begins;

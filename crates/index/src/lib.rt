@@ -19,8 +19,8 @@ pub fn chain_by_object(
     last: &mut [u16],
     earlier: &mut [u16],
 )
-    requires { ⌜ GraphFits nodes edges (now triples) × ChainReady edges (now last) (now earlier) ⌝ }
-    ensures { λ _. ⌜ ByObject (now (triples .entry)) edges (now (last .exit)) (now (earlier .exit)) ⌝ }
+    requires { ⌜ GraphFits nodes edges (now triples) × ChainReady nodes edges (now last) (now earlier) ⌝ }
+    ensures { λ _. ⌜ ByObject (now (triples .entry)) nodes edges (now (last .exit)) (now (earlier .exit)) ⌝ }
 {
     let mut k = 0;
     while k < edges {

@@ -10,24 +10,27 @@ mark-alive-spec =
     tie.close
     (tie.spec
     (λ c. search needs)  -- slice-aggregate-link-parts
-    (λ c κs. let f = c .before .before .before .before .before .before .before .before .before .pre .0 .0 in let h = f .query .few in (link-ready f, omega arith))  -- link-parts-requires
+    (λ c κs.
+    let entry = c .before .before .before .before .before .before .before .before .before .before in
+    let h = entry .pre .0 .0 .query .few in
+    (link-ready (entry .pre .0 .0), omega arith))  -- link-parts-requires
     (λ c. search needs)  -- slice-aggregate-chain-by-object
     (λ c. search needs)  -- mul-chain-by-object
     (λ c. search needs)  -- slice-aggregate-chain-by-object-2
     (λ c. search needs)  -- slice-aggregate-chain-by-object-3
     (λ c κs.
     let at-link-parts = c .before .before .before .before .before in
-    let entry = at-link-parts .before .before .before .before .before .before .before .before .before .before in
+    let entry = at-link-parts .before .before .before .before .before .before .before .before .before .before .before in
     let h = entry .pre .0 .0 .query .few in
     (links-fit h (at-link-parts .link-parts .ensures), heads-ready h))  -- chain-by-object-requires
     (λ c. search needs)  -- slice-aggregate-mark-all
     (λ c. search needs)  -- slice-aggregate-mark-all-2
     (λ c κs.
-    let at-chain-by-object = c .before .before .before .before .before .before in
-    let p = c .before .before .before .before .before .before .before .before .before .before .before .before .before .before .before .before .before .before .before .before .before .before
-    .pre in
+    let at-chain-by-object = c .before .before .before .before .before .before .before in
     let at-link-parts = at-chain-by-object .before .before .before .before .before .before in
-    ((p .0 .0, (p .0 .1, chains-cause (p .0 .0) (at-link-parts .link-parts .ensures) (at-chain-by-object .chain-by-object .ensures))), p .1))  -- mark-all-requires
+    let entry = at-link-parts .before .before .before .before .before .before .before .before .before .before .before in
+    ((entry .pre .0 .0, (entry .pre .0 .1, chains-cause (entry .pre .0 .0) (at-link-parts .link-parts .ensures) (at-chain-by-object .chain-by-object .ensures))), entry .pre .1))  -- mark-all-requires
     (λ c. search needs)  -- same-length
     (λ c. search needs)  -- same-length-2
-    (λ c. c .before .before .before .before .mark-all .ensures))  -- returns
+    (λ c. search needs)  -- same-length-3
+    (λ c. let at-mark-all = c .before .before .before .before .before .before in at-mark-all .mark-all .ensures))  -- returns

@@ -1,23 +1,23 @@
 -- `alive::mark_all` meets its contract. Assumes nothing.
 use borrow.Author.Needs.{needs}
 use lib.ListN.{length}
-use mathlib.Core.Path.{refl, _∙_, _≡_}
-use mir.Facts.{fits-widen}
+use mathlib.Core.Path.{refl, subst, _∙_, _≡_}
 use native.Mathlib.Omega.{arith}
-use Prim.Native.Nat.{_-_}
-use Rattle.alive.specs.Lists.{lists}
-use Rattle.meaning.specs.Limits.{maxStates}
-use Rattle.states.proofs.Marking.{tail-within}
-use Rattle.alive.proofs.Growing.{Growing, grow-again, grow-done, grow-start, now-inside, now-marked}
+use Rattle.meaning.specs.Limits.{stateWords}
+use Rattle.states.specs.Lists.{lists}
+use Rattle.worklist.proofs.Growth.{turn-left, turn-marked, turn-table}
+use Rattle.worklist.specs.Table.{Stacked, board, left}
+use Rattle.alive.proofs.Growing.{Growing, grow-again, grow-done, grow-start}
 use Rattle.alive.proofs.mark_all.Statement.{statement}
 use Rattle.alive.proofs.mark_all.Tie as tie
 
 abbrev Inv-loop : tie.InvT-loop
-Inv-loop sizes triples earlier last tree next wanted heads rest alive₀ queue₀ tail₀ head₀ alive queue tail head =
-    (length alive ≡ length alive₀) × (length queue ≡ length queue₀) × Growing (lists sizes triples tree next wanted) alive queue head tail
+Inv-loop sizes triples earlier last tree next wanted heads rest alive₀ waiting₀ stack₀ top₀ alive waiting stack top =
+    (length alive ≡ length alive₀) × (length waiting ≡ length waiting₀) × (length stack ≡ length stack₀)
+    × Growing (lists sizes triples tree next wanted) (board alive waiting stack top)
 
 abbrev μ-loop : tie.MeasureT-loop
-μ-loop sizes triples earlier last tree next wanted heads rest alive₀ queue₀ tail₀ head₀ alive queue tail head = maxStates - head
+μ-loop sizes triples earlier last tree next wanted heads rest alive₀ waiting₀ stack₀ top₀ alive waiting stack top = left stateWords (board alive waiting stack top)
 
 pub mark-all-spec : {M : Type 1} → statement M
 mark-all-spec =
@@ -26,47 +26,45 @@ mark-all-spec =
     Inv-loop
     μ-loop
     (λ c κs.
-    let pre = c .before .before .before .before .before .before .before .before .before .before .before .before .pre in
-    let a = pre .0 .0 .graph .few-nodes in
-    let b = pre .0 .0 .query .few in
-    ((omega arith, omega arith), pre .1))  -- mark-ends-requires
+    let entry = c .before .before .before .before .before .before .before .before .before .before .before .before .before .before in
+    let a = entry .pre .0 .0 .graph .few-nodes in
+    let b = entry .pre .0 .0 .query .few in
+    ((omega arith, omega arith), entry .pre .1))  -- mark-ends-requires
     (λ c.
-    let at-mark-ends = c .before .before .before .before in
-    let entry = at-mark-ends .before .before .before .before .before .before .before .before .before .before .before .before .before in
-    (refl, refl, grow-start (entry .pre .0 .0) (entry .pre .1) (at-mark-ends .mark-ends .ensures)))  -- loop-holds
-    (λ c. search needs)  -- mul-s
-    (λ c. let a = tail-within (c .before .before .loop .inv .2 .marks) in let b = c .before .before .loop .inv .2 .marks .room in omega arith)  -- slice-read-s
-    (λ c. fits-widen tt (c .slice-known5 .given _))  -- cast-s
+    let at-mark-ends = c .before .before .before .before .before .before in
+    let entry = at-mark-ends .before .before .before .before .before .before .before .before .before .before .before .before .before .before .before in
+    (refl, refl, refl, grow-start (entry .pre .0 .0) (entry .pre .1) (at-mark-ends .mark-ends .ensures)))  -- loop-holds
+    (λ c κs. (omega arith, (_, c .before .before .before .loop .inv .3 .marks .stacked)))  -- take-word-requires
+    (λ c. search needs)  -- sub-mark-back
     (λ c κs.
-    let at-loop-test = c .before .before .before in
-    let at-loop = at-loop-test .before in
-    let entry = at-loop .before .before .before .before .before .before .before .before .before .before .before .before .before .before .before .before .before .before in (
-      entry .pre .0,
-      (
-        (
-          (at-loop .loop .inv .2 .sound),
-          (
-            now-inside (entry .pre .0 .0) (at-loop .loop .inv .2) (at-loop-test .loop-test .taken),
-            now-marked (entry .pre .0 .0) (at-loop .loop .inv .2) (at-loop-test .loop-test .taken),
-          ),
-        ),
-        at-loop .loop .inv .2 .marks,
-      ),
-    ))  -- mark-back-requires
-    (λ c. search needs)  -- add-head
-    (λ c. let a = tail-within (c .before .before .before .before .before .before .before .before .before .loop .inv .2 .marks) in omega arith)  -- loop-less
+    let at-take-word = c .before .before .before .before .before in
+    let at-loop = at-take-word .before .before .before .before in
+    let far = at-loop .before .before .before .before .before .before .before .before .before .before .before .before .before .before .before .before .before .before in
+    let entry = far .before .before .before .before in
+    let k = at-take-word .take-word .ensures stateWords (at-loop .loop .inv .3 .marks .stacked) in
+    (entry .pre .0, ((at-loop .loop .inv .3 .sound, (k .0, turn-marked (at-loop .loop .inv .3 .marks) (k .1))), turn-table (at-loop .loop .inv .3 .marks) (k .1))))  -- mark-back-requires
     (λ c.
-    let at-mark-back = c .before .before .before .before in
-    let at-loop-test = at-mark-back .before .before .before .before in
-    let at-loop = at-loop-test .before in
-    let entry = at-loop .before .before .before .before .before .before .before .before .before .before .before .before .before .before .before .before .before .before in (
-      at-mark-back .mark-back .kept .1 .1 .1 .1 .1 .1 .1 .1 .1 .1 .0 ∙ at-loop .loop .inv .0,
-      at-mark-back .mark-back .kept .1 .1 .1 .1 .1 .1 .1 .1 .1 .1 .1 .0
-          ∙ at-loop .loop .inv .1,
-      grow-again (entry .pre .0 .0) (at-loop .loop .inv .2) (at-loop-test .loop-test .taken) (at-mark-back .mark-back .ensures),
+    let at-mark-back = c .before .before .before .before .before .before in
+    let at-take-word = at-mark-back .before .before .before .before .before .before in
+    let at-loop = at-take-word .before .before .before .before in
+    let k = at-take-word .take-word .ensures stateWords (at-loop .loop .inv .3 .marks .stacked) in
+    turn-left (at-loop .loop .inv .3 .marks) (k .1) (at-mark-back .mark-back .ensures))  -- loop-less
+    (λ c.
+    let at-mark-back = c .before .before .before .before .before .before in
+    let at-take-word = at-mark-back .before .before .before .before .before .before in
+    let at-loop = at-take-word .before .before .before .before in
+    let far = at-loop .before .before .before .before .before .before .before .before .before .before .before .before .before .before .before .before .before .before in
+    let entry = far .before .before .before .before in
+    let k = at-take-word .take-word .ensures stateWords (at-loop .loop .inv .3 .marks .stacked) in (
+      at-mark-back .mark-back .kept .1 .1 .1 .1 .1 .1 .1 .1 .1 .1 .1 .0 ∙ at-loop .loop .inv .0,
+      at-mark-back .mark-back .kept .1 .1 .1 .1 .1 .1 .1 .1 .1 .1 .1 .1 .0 ∙ at-take-word .take-word .kept .0 ∙ at-loop .loop .inv .1,
+      at-mark-back .mark-back .kept .1 .1 .1 .1 .1 .1 .1 .1 .1 .1 .1 .1 .1 .0 ∙ at-loop .loop .inv .2,
+      grow-again (entry .pre .0 .0) (at-loop .loop .inv .3) (k .1) (at-mark-back .mark-back .ensures),
     ))  -- loop-again
-    (λ c. c .before .loop .inv .0 ∙ c .before .before .before .before .before .before .mark-ends .kept .1 .1 .0)  -- same-length
-    (λ c. c .before .loop .inv .1 ∙ c .before .before .before .before .before .before .mark-ends .kept .1 .1 .1 .0)  -- same-length-2
+    (λ c. let at-mark-ends = c .before .before .before .before .before .before .before .before in c .before .loop .inv .0 ∙ at-mark-ends .mark-ends .kept .1 .1 .0)  -- same-length
+    (λ c. let at-mark-ends = c .before .before .before .before .before .before .before .before in c .before .loop .inv .1 ∙ at-mark-ends .mark-ends .kept .1 .1 .1 .0)  -- same-length-2
+    (λ c. let at-mark-ends = c .before .before .before .before .before .before .before .before in c .before .loop .inv .2 ∙ at-mark-ends .mark-ends .kept .1 .1 .1 .1 .0)  -- same-length-3
     (λ c.
-    let pre = c .before .before .before .before .before .before .before .before .before .before .before .before .before .before .before .before .before .before .before .pre in
-    grow-done (pre .0 .0) (c .before .loop .inv .2) (omega arith)))  -- returns
+    let far = c .before .before .before .before .before .before .before .before .before .before .before .before .before .before .before .before .before .before .before in
+    let entry = far .before .before .before .before in
+    (grow-done (entry .pre .0 .0) (c .before .loop .inv .3) (omega arith), subst (Stacked stateWords _ _) (omega arith) (c .before .loop .inv .3 .marks .stacked))))  -- returns

@@ -18,17 +18,22 @@ mark-subject-spec =
     (λ c. search needs)  -- shared-slice-read-takes-predicate
     (λ c κs. search needs)  -- takes-predicate-requires
     (λ c.
-    let pre = c .before .before .before .before .before .before .pre in
-    subject-none (c .before .takes-predicate .result) (c .if1 .taken) (c .before .takes-predicate .ensures) (pre .1 .1 .1))  -- returns
+    let entry = c .before .before .before .before .before .before .before in
+    subject-none (c .before .takes-predicate .result) (c .if1 .taken) (c .before .takes-predicate .ensures) (entry .pre .1 .1 .1))  -- returns
     (λ c. search needs)  -- mul-subject
     (λ c. search needs)  -- mul-subject-2
     (λ c. search needs)  -- shared-slice-read-subject
     (λ c. fits-widen tt (c .shared-slice-known3 .given _))  -- cast-subject
-    (λ c κs. ((omega arith, omega arith), c .before .before .before .before .before .before .before .before .before .pre .1 .1 .1))  -- mark-requires
+    (λ c. search needs)  -- mul-mark
+    (λ c. search needs)  -- add-mark
+    (λ c κs. let entry = c .before .before .before .before .before .before .before .before .before .before .before in (_, omega arith, entry .pre .1 .1 .1))  -- mark-requires
     (λ c. search needs)  -- same-length
     (λ c. search needs)  -- same-length-2
+    (λ c. search needs)  -- same-length-3
     (λ c.
-    let at-mark = c .before .before .before .before in
-    let at-if1 = at-mark .before .before .before .before in
+    let at-mark = c .before .before .before .before .before .before in
+    let at-if1 = at-mark .before .before .before .before .before in
     let at-takes-predicate = at-if1 .before in
-    subject-one (sym (at-takes-predicate .takes-predicate .ensures) ∙ not-false (at-takes-predicate .takes-predicate .result) (at-if1 .if1 .left)) (at-mark .mark .ensures)))  -- returns-2
+    let entry = at-takes-predicate .before .before .before .before .before .before in
+    subject-one (sym (at-takes-predicate .takes-predicate .ensures) ∙ not-false (at-takes-predicate .takes-predicate .result) (at-if1 .if1 .left))
+    (at-mark .mark .ensures _ (omega arith) (entry .pre .1 .1 .1))))  -- returns-2
