@@ -1,6 +1,9 @@
 -- `answers::joined_pairs` meets its contract. Assumes nothing.
 use borrow.Author.Needs.{needs}
+
+use mathlib.Core.Path.{_∙_}
 use native.Mathlib.Omega.{arith}
+use Rattle.worklist.proofs.Stack.{stacked-fewer}
 use Rattle.answers.proofs.joined_pairs.Statement.{statement}
 use Rattle.answers.proofs.joined_pairs.Tie as tie
 
@@ -8,32 +11,16 @@ pub joined-pairs-spec : {M : Type 1} → statement M
 joined-pairs-spec =
     tie.close
     (tie.spec
-    (λ c κs.
-    let pre = c .before .before .before .before .before .before .before .before .before .before .before .before .before .pre in
-    (pre .0 .fits .graph, pre .0 .chains))  -- chain-by-object-requires
-    (λ c κs.
-    let at-chain-by-object = c .before .before .before .before .before .before .before .before in
-    let entry = at-chain-by-object .before .before .before .before .before .before .before .before .before .before .before .before .before .before in
-    ((entry .pre .0 .fits, at-chain-by-object .chain-by-object .ensures), entry .pre .0 .unmarked))  -- mark-alive-requires
-    (λ c κs.
-    let pre = c .before .before .before .before .before .before .before .before .before .before .before .before .before .before .before .before .before .before .before .before .before
-    .before .before .before .before .before .before .before .pre in
-    (pre .0 .fits .graph, (pre .1 .rise, pre .1 .starts)))  -- start-by-subject-requires
-    (λ c κs.
-    let at-start-by-subject = c .before .before .before .before .before .before .before in
-    let at-mark-alive = at-start-by-subject .before .before .before .before .before .before in
-    let entry = at-mark-alive .before .before .before .before .before .before .before .before .before .before .before .before .before .before .before .before .before .before .before .before
-    .before .before .before in
-    let a = at-mark-alive .mark-alive .kept .1 .1 .1 .1 .1 .1 .1 .1 .0 in
-    let b = entry .pre .0 .unmarked .room in (
-      (entry .pre .0 .fits, at-start-by-subject .start-by-subject .ensures),
-      ((at-mark-alive .mark-alive .ensures, entry .pre .1 .nodes), (record { clean = entry .pre .1 .unseen; room = omega arith }, entry .pre .1 .room)),
-    ))  -- list-pairs-requires
-    (λ c. search needs)  -- same-length
-    (λ c. search needs)  -- same-length-2
-    (λ c. search needs)  -- same-length-3
-    (λ c. search needs)  -- same-length-4
-    (λ c. search needs)  -- same-length-5
-    (λ c. search needs)  -- same-length-6
-    (λ c. search needs)  -- same-length-7
-    (λ c. c .before .before .before .before .before .before .list-pairs .ensures))  -- returns
+    (λ c κs. (c .before .before .before .before .before .before .before .before .before .before .before .before .before .before .pre .0 .fits .graph, c .before .before .before .before .before .before .before .before .before .before .before .before .before .before .pre .0 .chains))  -- chain-by-object-requires
+    (λ c κs. ((c .before .before .before .before .before .before .before .before .before .before .before .before .before .before .before .before .before .before .before .before .before .before .before .before .pre .0 .fits, c .before .before .before .before .before .before .before .before .before .chain-by-object .ensures), c .before .before .before .before .before .before .before .before .before .before .before .before .before .before .before .before .before .before .before .before .before .before .before .before .pre .0 .unmarked))  -- mark-alive-requires
+    (λ c κs. let g = c .before .before .before .before .before .before .before .before .before .before .before .before .before .before .before .before .before .before .before .before .before .before .before .before .before .before .before .before .before .before .before .before .before .pre .0 .fits .graph in ((g .few-edges, g .whole, c .before .before .before .before .before .before .before .before .before .before .before .before .before .before .before .before .before .before .chain-by-object .ensures .links), c .before .before .before .before .before .before .before .before .before .before .before .before .before .before .before .before .before .before .before .before .before .before .before .before .before .before .before .before .before .before .before .before .before .pre .1 .rise, c .before .before .before .before .before .before .before .before .before .before .before .before .before .before .before .before .before .before .before .before .before .before .before .before .before .before .before .before .before .before .before .before .before .pre .1 .few, c .before .before .before .before .before .before .before .before .before .before .before .before .before .before .before .before .before .before .before .before .before .before .before .before .before .before .before .before .before .before .before .before .before .pre .1 .starts))  -- own-by-subject-requires
+    (λ c κs. let p = c .before .before .before .before .before .before .before .before .before .before .before .before .before .before .before .before .before .before .before .before .before .before .before .before .before .before .before .before .before .before .before .before .before .before .before .before .before .before .before .before .before .before .before .before .before .pre .1 in (record { fits = c .before .before .before .before .before .before .before .before .before .before .before .before .before .before .before .before .before .before .before .before .before .before .before .before .before .before .before .before .before .before .before .before .before .before .before .before .before .before .before .before .before .before .before .before .before .pre .0 .fits; nodes = p .nodes; few = p .few; inward = p .inward; ranges = c .before .before .before .before .before .before .before .before .before .before .before .own-by-subject .ensures; living = c .before .before .before .before .before .before .before .before .before .before .before .before .before .before .before .before .before .before .before .before .mark-alive .ensures .0 }, record { long = p .unseen .long; none = p .unseen .none; empty = stacked-fewer (omega arith) (c .before .before .before .before .before .before .before .before .before .before .before .before .before .before .before .before .before .before .before .before .mark-alive .ensures .1) }, p .room))  -- list-pairs-requires
+    (λ c. c .before .before .before .before .before .before .before .before .before .before .before .before .before .before .before .before .before .before .before .before .before .before .before .before .before .before .before .before .before .before .before .before .before .before .before .before .before .before .before .chain-by-object .kept .1 .1 .1 .0)  -- same-length
+    (λ c. c .before .before .before .before .before .before .before .before .before .before .before .before .before .before .before .before .before .before .before .before .own-by-subject .kept .1 .1 .1 .0 ∙ c .before .before .before .before .before .before .before .before .before .before .before .before .before .before .before .before .before .before .before .before .before .before .before .before .before .before .before .before .before .before .before .before .before .before .before .before .before .before .before .chain-by-object .kept .1 .1 .1 .1 .0)  -- same-length-2
+    (λ c. c .before .before .before .before .before .before .before .before .before .before .before .before .before .before .before .before .before .before .before .before .own-by-subject .kept .1 .1 .1 .1 .0)  -- same-length-3
+    (λ c. c .before .before .before .before .before .before .before .before .before .before .before .before .before .before .before .before .before .before .before .before .before .before .before .before .before .before .before .before .before .mark-alive .kept .1 .1 .1 .1 .1 .1 .1 .0)  -- same-length-4
+    (λ c. c .before .before .before .before .before .before .before .before .list-pairs .kept .1 .1 .1 .1 .1 .1 .1 .1 .1 .1 .0 ∙ c .before .before .before .before .before .before .before .before .before .before .before .before .before .before .before .before .before .before .before .before .before .before .before .before .before .before .before .before .before .mark-alive .kept .1 .1 .1 .1 .1 .1 .1 .1 .0)  -- same-length-5
+    (λ c. c .before .before .before .before .before .before .before .before .list-pairs .kept .1 .1 .1 .1 .1 .1 .1 .1 .1 .1 .1 .0 ∙ c .before .before .before .before .before .before .before .before .before .before .before .before .before .before .before .before .before .before .before .before .before .before .before .before .before .before .before .before .before .mark-alive .kept .1 .1 .1 .1 .1 .1 .1 .1 .1 .0)  -- same-length-6
+    (λ c. c .before .before .before .before .before .before .before .before .list-pairs .kept .1 .1 .1 .1 .1 .1 .1 .1 .1 .0)  -- same-length-7
+    (λ c. c .before .before .before .before .before .before .before .before .list-pairs .kept .1 .1 .1 .1 .1 .1 .1 .1 .1 .1 .1 .1 .0)  -- same-length-8
+    (λ c. c .before .before .before .before .before .before .before .before .list-pairs .ensures))  -- returns
