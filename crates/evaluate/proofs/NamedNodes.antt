@@ -68,7 +68,7 @@ module _ {A : Type 0} {D : A → Type 0} (decide : (x : A) → Dec (D x)) where
         without-differ = r .without-differ;
         with-members = members;
         without-members = λ y m. let q = r .without-members y m in (there (q .0), q .1);
-        all = ap suc (r .all);
+        all = let h = r .all in omega arith;
       }
         where
           members : (y : A) → y ∈ (x ∷ r .with) → (y ∈ (x ∷ xs)) × D y
@@ -108,7 +108,7 @@ module _ {A : Type 0} {D : A → Type 0} (decide : (x : A) → Dec (D x)) where
 below-many : (n : ℕ) → (length (below n) ≡ n) × InOrder _≢_ (below n) × ((x : ℕ) → x ∈ below n → x < n)
 unfolding below
 below-many zero = (refl, empty, λ x m. elim m [ ])
-below-many (suc n) = let (a, b, c) = below-many n in (ap suc a, before (λ y m e. let h = c y m in omega arith) b, upto c)
+below-many (suc n) = let (a, b, c) = below-many n in (ap suc a, before (λ y m e. absurd (let h = c y m in let z : n ≡ y = e in omega arith)) b, upto c)
   where
     upto : ((x : ℕ) → x ∈ below n → x < n) → (x : ℕ) → x ∈ (n ∷ below n) → x < suc n
     upto c x (here e) = omega arith

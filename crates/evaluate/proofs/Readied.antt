@@ -18,5 +18,7 @@ module _ {pack query : Text} {tree : List ℕ} {parts : ℕ} {wanted nodes : Lis
   pub threadable : {next : List ℕ} → maxParts ≤ length next → Threadable tree next parts
   threadable l = record { text = query; held = ready .held; parts = ready .room; room = let a = parts-few in omega arith }
 
-  pub chain-ready : ChainReady edges (zeros maxNodes) (zeros maxTriples)
-  chain-ready = record { heads = omega arith; links = ready .graph .graph .has .graph .few-triples; none = λ o h. getD-replicate maxNodes o 0 0 h }
+  pub chain-ready : ChainReady count edges (zeros maxNodes) (zeros maxTriples)
+  chain-ready =
+      let g = ready .graph .graph .has .graph in
+      record { heads = omega (arith, g .few-nodes); links = g .few-triples; none = λ o h. getD-replicate maxNodes o 0 0 (omega (arith, g .few-nodes)) }

@@ -8,10 +8,10 @@ use Rattle.evaluate.proofs.yes.yes.Tie as tie
 
 -- the places where the call begins and where the parts are threaded
 abbrev start : tie.After-next → tie.Start
-start c = c .before .before .before .before .before .before .before
+start c = c .before .before .before .before .before .before .before .before
 
-abbrev linked : tie.After-some-joined-arg2 → tie.After-thread
-linked c = c .before .before .before .before .before .before
+abbrev linked : tie.After-some-joined-arg3 → tie.After-thread
+linked c = c .before .before .before .before .before .before .before
 
 pub yes-spec : {M : Type 1} → statement M
 yes-spec =
@@ -30,7 +30,8 @@ yes-spec =
     record { fits = lists-fit r (t .last .1 .1 .0) (t .ensures) (omega (arith, t .kept .1 .1 .0)); chains = chain-ready r; unmarked = p .1 })
     (λ c. search needs)  -- same-length
     (λ c. search needs)  -- same-length-2
+    (λ c. search needs)  -- same-length-3
     (λ c pack query r.  -- returns
-    let j = c .before .before .before .before .before .before in
+    let j = c .before .before .before .before .before .before .before .before in
     let t = linked (j .before) .thread in
     yes-answer r (t .last .1 .1 .0) (t .ensures) (j .some-joined .result) (j .some-joined .ensures)))
