@@ -5,7 +5,7 @@ use mathlib.Core.List.{List, [], _∷_, _++_, append-assoc, flatten, map}
 use mathlib.Core.Path.{_≡_, refl, sym, ap, subst, _∙_}
 use native.Mathlib.Omega.{arith}
 use Prim.Native.Nat.{ℕ, zero, suc, _+_, _*_, _≤_, _<_}
-use Rattle.answers.specs.Keys.{pairFrom, pairKeys, pairTo}
+use Rattle.reached.specs.Keys.{pairFrom, pairKeys, pairTo}
 use Rattle.evaluate.specs.Answered.{AllPairs}
 use Rattle.evaluate.specs.Named.{pairOf}
 use Rattle.meaning.specs.Limits.{pairWidth}

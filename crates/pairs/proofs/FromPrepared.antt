@@ -5,8 +5,8 @@ use mathlib.Core.List.{List, [], _∷_, _++_, flatten, map}
 use mathlib.Core.Path.{_≡_, refl, sym, ap, subst, _∙_}
 use native.Mathlib.Omega.{arith}
 use Prim.Native.Nat.{ℕ, _*_, _≤_}
-use Rattle.answers.specs.declared.pairs.Pairs.the-variants.{Listed, TooMany}
-use Rattle.answers.specs.declared.pairs.Pairs.{Pairs}
+use Rattle.reached.specs.declared.pairs.Pairs.the-variants.{Listed, TooMany}
+use Rattle.reached.specs.declared.pairs.Pairs.{Pairs}
 use Rattle.calls.specs.Call.{Contents, gives, refuses, _becomes_}
 use Rattle.construct.specs.Outcome.{counted, refusedAs}
 use Rattle.construct.specs.declared.Constructed.{Constructed}
