@@ -82,7 +82,7 @@ pub extern "C" fn ciravehy_pairs(
     report: &mut [u16; REPORT_LENGTH],
 ) -> u8
     ensures { λ r. ⌜ Finds (now (pack .entry)) (now (query .entry)) r (lent nodes) (lent triples) (lent pairs) (lent rows) (lent heads) (lent alive)
-        (lent waiting) (lent stack) (lent seen) (lent own_nodes) (lent own_triples) (now (report .exit)) ⌝ }
+        (lent waiting) (lent stack) (lent seen) (lent «own_nodes») (lent «own_triples») (now (report .exit)) ⌝ }
 {
     let found = find_pairs(
         pack,

@@ -95,7 +95,7 @@ fn answer(
     own_nodes: &mut [u16],
     own_triples: &mut [u16],
 ) -> PairAnswer
-    requires { ⌜ Room (now nodes) (now triples) (now pairs) (now rows) (now heads) (now alive) (now waiting) (now stack) (now seen) (now own_nodes) (now own_triples) ⌝ }
+    requires { ⌜ Room (now nodes) (now triples) (now pairs) (now rows) (now heads) (now alive) (now waiting) (now stack) (now seen) (now «own_nodes») (now «own_triples») ⌝ }
     ensures { λ r. ⌜ Comes (now (pack .entry)) (now (query .entry)) r (lent nodes) (lent triples) (lent pairs) ⌝ }
 {
     let mut tree = [0u32; MAX_QUERY_BYTES];
@@ -164,7 +164,7 @@ pub fn pairs(
     own_triples: &mut [u16],
 ) -> PairAnswer
     ensures { λ r. ⌜ PairsAnswers (now (pack .entry)) (now (query .entry)) r (lent nodes) (lent triples) (lent pairs) (lent rows) (lent heads)
-        (lent alive) (lent waiting) (lent stack) (lent seen) (lent own_nodes) (lent own_triples) ⌝ }
+        (lent alive) (lent waiting) (lent stack) (lent seen) (lent «own_nodes») (lent «own_triples») ⌝ }
 {
     let asked = LEAST_LENGTHS;
     let lengths = [

@@ -11,14 +11,14 @@ use Rattle.pairs.proofs.in_lists.Tie as tie
 -- ---- the places where the call begins and where the pairs are found
 
 abbrev start : tie.After-find-pairs → tie.Start
-start c = c .before .before .before .before .before .before .before .before .before .before .before .before .before .before .before
+start c = c .before .before .before .before .before .before .before .before .before .before .before .before .before .before .before .before .before
 
 abbrev searched : tie.After-found2 → tie.After-find-pairs
-searched c = c .before .before .before .before .before .before .before
+searched c = c .before .before .before .before .before .before .before .before .before
 
 -- the list of what is found keeps its length
-found-room : (c : tie.After-find-pairs) → maxPairs ≤ length (c .find-pairs .last .1 .1 .1 .1 .1 .1 .1 .1 .1 .1 .0)
-found-room c = omega (arith, c .find-pairs .kept .1 .1 .1 .1 .1 .1 .1 .1 .1 .1 .0)
+found-room : (c : tie.After-find-pairs) → maxPairs ≤ length (c .find-pairs .last .1 .1 .1 .1 .1 .1 .1 .1 .1 .1 .1 .0)
+found-room c = omega (arith, c .find-pairs .kept .1 .1 .1 .1 .1 .1 .1 .1 .1 .1 .1 .0)
 
 pub in-lists-spec : {M : Type 1} → statement M
 in-lists-spec =
@@ -39,15 +39,17 @@ in-lists-spec =
     (λ c. search needs)  -- same-length
     (λ c. search needs)  -- same-length-2
     (λ c. search needs)  -- same-length-3
+    (λ c. search needs)  -- same-length-4
     (λ c pack query r.  -- returns
     let f = searched (c .before .before .before) in
     over (start f .args .graph) r _ _ (f .find-pairs .ensures pack query r) (c .before .enum-told .given .1) (c .refused .ensures))
-    (λ c. search needs)  -- same-length-4
     (λ c. search needs)  -- same-length-5
     (λ c. search needs)  -- same-length-6
     (λ c. search needs)  -- same-length-7
     (λ c. search needs)  -- same-length-8
     (λ c. search needs)  -- same-length-9
+    (λ c. search needs)  -- same-length-10
+    (λ c. search needs)  -- same-length-11
     (λ c pack query r.  -- returns-2
     let w = c .before .before .before .before .before .before in
     let k = w .before .before .before .before .before .before in

@@ -1,6 +1,5 @@
 -- `yes_no::yes_no` meets its contract. Assumes nothing.
 use borrow.Author.Needs.{needs}
-
 use mathlib.Core.Bool.{false}
 use mathlib.Core.Path.{refl, ap, _∙_}
 use Rattle.calls.proofs.Meets.{ran, refused-1}
@@ -18,8 +17,14 @@ yes-no-spec =
     (λ c. search needs)  -- slice-aggregate-long-enough-2
     (λ c κs. search needs)  -- long-enough-requires
     (λ c κs. search needs)  -- refused-requires
-    (λ c. let t = c .before .before .long-enough in refused-1 tt (t .result) (t .ensures) (c .before .if1 .taken) (ap {B = YesNo} (λ g. record { graph = g; yes = false }) (c .refused .ensures)) (refl, (refl, (refl, (refl, (refl, (refl, (refl, tt))))))))  -- returns
-    (λ c κs. let t = c .before .before .before .before .before .before .before .before .long-enough in passed (t .result) (t .ensures) (c .before .before .before .before .before .before .before .if1 .left))  -- answer-requires
+    (λ c.
+    let t = c .before .before .long-enough in
+    refused-1 tt (t .result) (t .ensures) (c .before .if1 .taken) (ap {B = YesNo} (λ g. record { graph = g; yes = false }) (c .refused .ensures))
+    (refl, (refl, (refl, (refl, (refl, (refl, (refl, tt))))))))  -- returns
+    (λ c κs.
+    let if1 = c .before .before .before .before .before .before .before .if1 in
+    let t = c .before .before .before .before .before .before .before .before .long-enough in
+    passed (t .result) (t .ensures) (if1 .left))  -- answer-requires
     (λ c κs. search needs)  -- clear-u16-requires
     (λ c κs. search needs)  -- clear-u64-requires
     (λ c κs. search needs)  -- clear-u64-requires-2
@@ -32,9 +37,27 @@ yes-no-spec =
     (λ c. search needs)  -- same-length-5
     (λ c. search needs)  -- same-length-6
     (λ c. search needs)  -- same-length-7
-    (λ c. 
-    let t = c .before .before .before .before .before .before .before .before .before .before .before .before .before .before .before .before .before .before .before .before .before .before .before .before .before .before .before .before .before .before .before .before .before .before .before .before .before .before .before .before .before .before .before .long-enough in
-    let q = c .before .before .before .before .before .before .before .before .before .before .before .before .before .before .before .before .before .before .before .before .before .before .before .before .before .before .before .before .before .before .before .before .before .before .answer in
-    ran tt (t .result) (t .ensures) (c .before .before .before .before .before .before .before .before .before .before .before .before .before .before .before .before .before .before .before .before .before .before .before .before .before .before .before .before .before .before .before .before .before .before .before .before .before .before .before .before .before .before .if1 .left) (q .ensures)
-    (c .before .before .before .before .before .before .before .before .before .before .before .before .before .before .before .before .before .before .clear-u16 .ensures ∙ ap zeros (q .kept .1 .1 .1 .1 .0), (c .before .before .before .before .before .before .before .before .before .before .before .before .before .before .clear-u64 .ensures ∙ ap zeros (q .kept .1 .1 .1 .1 .1 .0), (c .before .before .before .before .before .before .before .before .before .before .clear-u642 .ensures ∙ ap zeros (q .kept .1 .1 .1 .1 .1 .1 .0),
-    (c .before .before .before .before .before .before .clear-u643 .ensures ∙ ap zeros (q .kept .1 .1 .1 .1 .1 .1 .1 .0), (c .before .before .clear-u162 .ensures ∙ ap zeros (q .kept .1 .1 .1 .1 .1 .1 .1 .1 .0), tt)))))))  -- returns-2
+    (λ c.
+    let at-clear-u643 = c .before .before .before .before .before .before in
+    let at-clear-u642 = at-clear-u643 .before .before .before .before in
+    let at-clear-u64 = at-clear-u642 .before .before .before .before in
+    let at-clear-u16 = at-clear-u64 .before .before .before .before in
+    let at-if1 = at-clear-u16 .before .before .before .before .before .before .before .before .before .before .before .before .before .before .before .before .before .before .before .before
+    .before .before .before .before in
+    let t = c .before .before .before .before .before .before .before .before .before .before .before .before .before .before .before .before .before .before .before .before .before .before
+    .before .before .before .before .before .before .before .before .before .before .before .before .before .before .before .before .before .before .before .before .before .long-enough in
+    let q = c .before .before .before .before .before .before .before .before .before .before .before .before .before .before .before .before .before .before .before .before .before .before
+    .before .before .before .before .before .before .before .before .before .before .before .before .answer in
+    ran tt (t .result) (t .ensures) (at-if1 .if1 .left) (q .ensures) (
+      at-clear-u16 .clear-u16 .ensures ∙ ap zeros (q .kept .1 .1 .1 .1 .0),
+      (
+        at-clear-u64 .clear-u64 .ensures ∙ ap zeros (q .kept .1 .1 .1 .1 .1 .0),
+        (
+          at-clear-u642 .clear-u642 .ensures ∙ ap zeros (q .kept .1 .1 .1 .1 .1 .1 .0),
+          (
+            at-clear-u643 .clear-u643 .ensures ∙ ap zeros (q .kept .1 .1 .1 .1 .1 .1 .1 .0),
+            (c .before .before .clear-u162 .ensures ∙ ap zeros (q .kept .1 .1 .1 .1 .1 .1 .1 .1 .0), tt),
+          ),
+        ),
+      ),
+    )))  -- returns-2

@@ -1,6 +1,5 @@
 -- `pair_list::find::find_pairs` meets its contract. Assumes nothing.
 use borrow.Author.Needs.{needs}
-
 use native.Mathlib.Omega.{arith}
 use Rattle.evaluate.proofs.Started.{cleared, unseen}
 use Rattle.pair_list.proofs.find.find_pairs.Statement.{statement}
@@ -13,11 +12,15 @@ find-pairs-spec =
     (λ c κs. search needs)  -- clear-u64-requires
     (λ c κs. search needs)  -- clear-u64-requires-2
     (λ c κs. search needs)  -- clear-u64-requires-3
-    (λ c κs. 
-    let (ready, (alive, waiting, stack, seen), room) = c .before .before .before .before .before .before .before .before .before .before .before .before .before .before .before .before .before .before .before .before .before .before .before .before .before .before .pre in (
+    (λ c κs.
+    let at-clear-u643 = c .before .before .before .before .before .before .before in
+    let at-clear-u642 = at-clear-u643 .before .before .before .before in
+    let at-clear-u64 = at-clear-u642 .before .before .before .before in
+    let entry = at-clear-u64 .before .before .before .before .before .before .before .before .before .before .before in
+    let (ready, (alive, waiting, stack, seen), room) = entry .pre in (
       ready,
-      cleared (c .before .before .before .before .before .before .before .before .before .before .before .before .before .before .before .before .before .before .before .before .before .before .before .before .before .before .args .alive .now) (c .before .before .before .before .before .before .before .before .before .before .before .before .before .before .before .before .before .before .before .before .before .before .before .before .before .before .args .waiting .now) (c .before .before .before .before .before .before .before .before .before .before .before .before .before .before .before .clear-u64 .ensures) (c .before .before .before .before .before .before .before .before .before .before .before .clear-u642 .ensures) alive waiting stack,
-      record { long = omega (arith, c .before .before .before .before .before .before .before .clear-u643 .kept .0); none = unseen (c .before .before .before .before .before .before .before .before .before .before .before .before .before .before .before .before .before .before .before .before .before .before .before .before .before .before .args .seen .now) (c .before .before .before .before .before .before .before .clear-u643 .ensures) seen },
+      cleared (entry .args .alive .now) (entry .args .waiting .now) (at-clear-u64 .clear-u64 .ensures) (at-clear-u642 .clear-u642 .ensures) alive waiting stack,
+      record { long = omega (arith, at-clear-u643 .clear-u643 .kept .0); none = unseen (entry .args .seen .now) (at-clear-u643 .clear-u643 .ensures) seen },
       room,
     ))  -- pairs-requires
     (λ c. search needs)  -- same-length

@@ -37,9 +37,9 @@ visit-object-spec =
     (λ c. search needs)  -- same-length-3
     (λ c.
     let at-mark = c .before .before .before .before .before .before in
+    let pre = c .before .before .before .before .before .before .before .before .before .before .before .before .before .before .before .before .before .before .pre in
     let at-if1 = at-mark .before .before .before .before .before in
     let at-takes-predicate = at-if1 .before in
     let entry = at-takes-predicate .before .before .before .before .before .before in
-    let pre = c .before .before .before .before .before .before .before .before .before .before .before .before .before .before .before .before .before .before .pre in
     object-one (sym (at-takes-predicate .takes-predicate .ensures) ∙ not-false (at-takes-predicate .takes-predicate .result) (at-if1 .if1 .left))
     (marked-state (entry .args .to) _ (at-mark .mark .ensures _ (mark-room (entry .args .to) _ (pre .1) (pre .0 .2)) (pre .2)))))  -- returns-2
