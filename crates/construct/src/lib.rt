@@ -11,7 +11,6 @@ use meaning::CANDIDATES_LENGTH;
 use meaning::CLASH_WIDTH;
 use meaning::MAX_CORE_NODES;
 use meaning::MAX_CORE_TRIPLES;
-use meaning::MEMBER_SETS;
 use meaning::ShapeTable;
 use rule_heads::AllHeads;
 use rule_heads::all_heads;
@@ -68,19 +67,7 @@ fn from_core(
     ensures { λ r. ⌜ OfCore shapes arities (now (keys .entry)) (now (edges .entry)) (now (masks .entry))
         (λ P. FromCore P r (now (nodes .entry)) (now (nodes .exit)) (now (triples .entry)) (now (triples .exit))) ⌝ }
 {
-    let mut flags = [0u16; MEMBER_SETS];
-    let mut places = [0u16; MEMBER_SETS];
-    match build(
-        shapes,
-        arities,
-        keys,
-        edges,
-        masks,
-        &mut flags,
-        &mut places,
-        nodes,
-        triples,
-    ) {
+    match build(shapes, arities, keys, edges, masks, nodes, triples) {
         Built::Graph(n, t) => Constructed {
             refusal: 0,
             nodes: n,

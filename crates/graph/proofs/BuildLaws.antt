@@ -12,9 +12,9 @@ use Rattle.triple_list.specs.Triples.{TriplesListed}
 use Rattle.meaning.specs.NoGraph.{MixedKinds, TwoObjects}
 use Rattle.meaning.specs.Pack.{Pack}
 
-pub graph-written : {P : Pack} {n t : ℕ} {places out out′ edges edges′ : List ℕ} → ¬ TwoObjects P → ¬ MixedKinds P → (l : NodesListed P places out out′ n)
+pub graph-written : {P : Pack} {n t : ℕ} {out out′ edges edges′ : List ℕ} → ¬ TwoObjects P → ¬ MixedKinds P → (l : NodesListed P out out′ n)
     → TriplesListed P (l .inOrder) edges edges′ t → GraphWritten P n t (out becomes out′) (edges becomes edges′)
-graph-written {P} {n} {t} {places} {out} {out′} {edges} {edges′} not-10 not-11 l e = record {
+graph-written {P} {n} {t} {out} {out′} {edges} {edges′} not-10 not-11 l e = record {
   fronts = flatten (l .records) ∷ flatten (e .records) ∷ [];
   graph = G;
   written = (

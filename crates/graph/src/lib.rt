@@ -3,14 +3,17 @@ ghost use lib.ListN.{length};
 ghost use Prim.Native.Nat.{_≤_};
 ghost use Rattle.graph.specs.Build.{BuildShown};
 ghost use Rattle.core_lists.specs.Input.{KeysSmall, CoreFits};
-ghost use Rattle.meaning.specs.Limits.{memberSets, nodeListLength, tripleListLength};
+ghost use Rattle.meaning.specs.Limits.{nodeListLength, tripleListLength};
 ghost use Rattle.shapes.specs.Shapes.{CodesFit};
 use clash::find_clash;
 use invent::invent;
 use meaning::Arities;
+use meaning::SET_WORDS;
 use meaning::ShapeTable;
+use meaning::TYPE_SETS;
 use mixed::mixed;
 use node_list::list_nodes;
+use node_list::node_sets;
 use sets::ordered::Found;
 use triple_list::list_triples;
 
@@ -21,20 +24,18 @@ pub enum Built {
     Mixed,
 }
 
-// Writes the graph of a core, unless the pack has none. The flags and the places are working space.
+// Writes the graph of a core, unless the pack has none.
 pub fn build(
     shapes: ShapeTable,
     arities: Arities,
     nodes: &[u64],
     triples: &[u64],
     masks: &[u16],
-    flags: &mut [u16],
-    places: &mut [u16],
     records: &mut [u16],
     edges: &mut [u16],
 ) -> Built
-    requires { ⌜ CoreFits (now nodes) (now triples) (now masks) × KeysSmall (now nodes) × CodesFit shapes × (memberSets ≤ length (now flags))
-        × (memberSets ≤ length (now places)) × (nodeListLength ≤ length (now records)) × (tripleListLength ≤ length (now edges)) ⌝ }
+    requires { ⌜ CoreFits (now nodes) (now triples) (now masks) × KeysSmall (now nodes) × CodesFit shapes × (nodeListLength ≤ length (now records))
+        × (tripleListLength ≤ length (now edges)) ⌝ }
     ensures { λ r. ⌜ BuildShown shapes arities (now (nodes .entry)) (now (triples .entry)) (now (masks .entry)) (now (records .entry))
         (now (records .exit)) (now (edges .entry)) (now (edges .exit)) r ⌝ }
 {
@@ -43,11 +44,23 @@ pub fn build(
         Found::At(i) => return Built::Clash(i),
         Found::Nothing => {}
     }
-    invent(&shapes, nodes, triples, masks, flags);
-    if mixed(nodes, masks, flags) {
+    let mut flags = [0u64; SET_WORDS];
+    invent(&shapes, nodes, triples, masks, &mut flags);
+    if mixed(nodes, masks, &flags) {
         return Built::Mixed;
     }
-    let n = list_nodes(arities, nodes, masks, flags, places, records);
-    let t = list_triples(&shapes, nodes, triples, masks, flags, places, edges);
+    let mut sets = [0u16; TYPE_SETS];
+    let mut places = [0u16; TYPE_SETS];
+    let count = node_sets(&flags, &mut sets);
+    let n = list_nodes(arities, nodes, masks, &sets[..count], &mut places, records);
+    let t = list_triples(
+        &shapes,
+        nodes,
+        triples,
+        masks,
+        &sets[..count],
+        &places,
+        edges,
+    );
     Built::Graph(n, t)
 }

@@ -3,7 +3,7 @@
 use lib.ListN.{getD, getElem?, length}
 use mathlib.Core.Bool.{Bool, true, false}
 use mathlib.Core.List.{List}
-use mathlib.Core.Logic.{_↔_, _⊎_, inl, inr}
+use mathlib.Core.Logic.{_↔_}
 use mathlib.Core.Option.{some}
 use mathlib.Core.Path.{_≡_, sym, subst}
 use borrow.Author.Tests.{le-leb, lt-leb}
@@ -13,7 +13,7 @@ use native.Mathlib.Omega.{arith}
 use Prim.Native.Nat.{ℕ, _+_, _%_, _<_}
 use Rattle.core.specs.Keys.{keyOf, originAt, predicateOf, subjectOf, tripleKey}
 use Rattle.core_lists.specs.Input.{Input}
-use Rattle.invent.specs.Invent.{Follows, InventedSets, Lacks, Leads, FlagsMarked, Upto, follows, marked, setAt}
+use Rattle.invent.specs.Invent.{CoreLacks, Follows, InventedSets, Lacks, Leads, follows, marked, setAt}
 use Rattle.core_lists.proofs.Places.{edge-at, edge-key, masked, node-at, place-of, place-small, requires-masked, same-node-at, targets-masked, masked-targets, well}
 use Rattle.core_lists.specs.Origin.{HasOrigin}
 use Rattle.invent.proofs.SetNumbers.{number-one}
@@ -24,6 +24,7 @@ use Rattle.meaning.specs.Core.{CoreEdge, CoreNode, Node, asObject, asSubject}
 use Rattle.meaning.specs.Limits.{maxPredicates, memberSets, typeSets}
 use Rattle.meaning.specs.Pack.{Pack}
 use Rattle.meaning.specs.TypeSet.{TypeSet}
+use Rattle.worklist.specs.Table.{Marked}
 
 -- ---- the number of a set
 
@@ -101,15 +102,12 @@ module _ {P : Pack} {table : List (List ℕ)} {nodes triples masks : List ℕ} (
         targets = targets-masked P m p (l .leads .targets);
       })
 
-  module _ {zero-flags flags : List ℕ} (start : (j : ℕ) → getD zero-flags j 0 ≡ 1 → ⊥)
-      (m : FlagsMarked (Upto (λ s. Upto (Lacks P triples s (getD masks s 0)) maxPredicates) (length nodes)) zero-flags flags) where
-    seeded-built : (j : ℕ) → (getD zero-flags j 0 ≡ 1) ⊎ Upto (λ s. Upto (Lacks P triples s (getD masks s 0)) maxPredicates) (length nodes) j
-        → (j < memberSets) × IsBuilt P (invented (setAt j))
-    seeded-built j (inl e) = absurd (start j e)
-    seeded-built j (inr u) = let v = u .holds in (v .holds .leads .small, lacks-built j (u .at) (u .below) (v .at) (v .holds))
+  seeded-built : (j : ℕ) → CoreLacks nodes triples masks P j → (j < memberSets) × IsBuilt P (invented (setAt j))
+  seeded-built j u = let v = u .holds in (v .holds .leads .small, lacks-built j (u .at) (u .below) (v .at) (v .holds))
 
+  module _ {flags : List ℕ} (seeds : (j : ℕ) → Marked flags j ↔ CoreLacks nodes triples masks P j) where
     follows-built : {j : ℕ} → Follows P flags j → (j < memberSets) × IsBuilt P (invented (setAt j))
-    follows-built {j} (marked e) = seeded-built j (m .marks j .0 e)
+    follows-built {j} (marked e) = seeded-built j (seeds j .0 e)
     follows-built {j} (follows f h hp l) = (l .small, arises (follows-built f .1) (record { needs = l .needs; missing = λ z. z; targets = l .targets }))
 
     -- ---- what is built is marked
@@ -121,7 +119,7 @@ module _ {P : Pack} {table : List (List ℕ)} {nodes triples masks : List ℕ} (
         let k = masked I n (s .0) c (s .1) in
         let l = leads-to g (arises (inCore c) g) in
         let hp = known-predicate g in
-        marked (m .marks (setNumber X) .1 (inr (record {
+        marked (seeds (setNumber X) .1 (record {
           at = s .0;
           below = h;
           holds = record {
@@ -132,13 +130,13 @@ module _ {P : Pack} {table : List (List ℕ)} {nodes triples masks : List ℕ} (
               leads = record { small = l .small; needs = requires-masked P k p .1 (l .needs); targets = masked-targets P k p (l .targets) };
             };
           };
-        })))
+        }))
     built-follows {X} (arises {b = invented Y} {p} i g) =
         let n = number-back Y (small-set i) in
         let l = leads-to g (arises i g) in
         follows (built-follows i) (n .0) (known-predicate g) (subst (λ Z. Leads P (invented Z) p (setNumber X)) (sym (n .1)) l)
 
-    pub invented-sets : (after : List ℕ) → ((j : ℕ) → (getD after j 0 ≡ 1) ↔ Follows P flags j) → InventedSets P after
+    pub invented-sets : (after : List ℕ) → ((j : ℕ) → Marked after j ↔ Follows P flags j) → InventedSets P after
     invented-sets after c = record { sets = λ j. (λ e. follows-built (c j .0 e), λ h. c j .1 (back j h)) }
       where
         back : (j : ℕ) → (j < memberSets) × IsBuilt P (invented (setAt j)) → Follows P flags j

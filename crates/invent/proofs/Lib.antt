@@ -1,4 +1,4 @@
 pub mod SetNumbers
 pub mod Marks
-pub mod Rounds
+pub mod Closing
 pub mod Invented

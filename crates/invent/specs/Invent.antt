@@ -1,20 +1,19 @@
--- Type sets as numbers, and marking in a list of flags those that arise. Assumes nothing.
-use lib.Dec.{eqb, leb}
+-- Type sets as numbers, and marking in a table those that arise. Assumes nothing.
+use lib.Dec.{leb}
 use lib.ListN.{getD, length}
-use mathlib.Core.Bool.{cond}
-use mathlib.Core.List.{List, [], _∷_}
-use mathlib.Core.Logic.{_↔_, _⊎_}
-use mathlib.Core.Path.{_≡_}
+use mathlib.Core.List.{List}
+use mathlib.Core.Logic.{_↔_}
 use Prim.Native.Nat.{ℕ, _+_, _*_, _/_, _%_, _<_}
 use Rattle.core.specs.Keys.{originAt}
 use Rattle.core_lists.specs.Input.{Input}
 use Rattle.core_lists.specs.Origin.{HasOrigin}
 use Rattle.meaning.specs.Built.{BuiltNode, IsBuilt, PTargets, Requires, invented}
-use Rattle.meaning.specs.Limits.{literalWeight, maxPredicates, memberSets, typeSets}
+use Rattle.meaning.specs.Limits.{literalWeight, maxPredicates, memberSets, setWords, typeSets}
 use Rattle.meaning.specs.Pack.{Pack}
 use Rattle.meaning.specs.Tables.{setOfMask}
 use Rattle.meaning.specs.TypeSet.{TypeSet}
 use Rattle.shapes.specs.Shapes.{Tabled}
+use Rattle.worklist.specs.Table.{Adds, AddsOnly, Board, Looked, Marked}
 
 -- Set number j: its types by their weights, and as many more as there are sets of types where Literal is a member.
 unfoldable pub setAt : ℕ → TypeSet
@@ -33,51 +32,33 @@ pub record Leads (P : Pack) (b : BuiltNode) (p j : ℕ) : Type 0 where
   pub needs : Requires P b p
   pub targets : PTargets P b p (setAt j)
 
--- After, the flags are those of before and those of Q.
-pub record FlagsMarked (Q : ℕ → Type 0) (before after : List ℕ) : Type 0 where
-  pub marks : (j : ℕ) → (getD after j 0 ≡ 1) ↔ ((getD before j 0 ≡ 1) ⊎ Q j)
-
 -- Q at some number below n
 pub record Upto {A : Type 0} (Q : ℕ → A → Type 0) (n : ℕ) (x : A) : Type 0 where
   pub at : ℕ
   pub below : at < n
   pub holds : Q at x
 
--- the flags that are not set
-unfoldable pub unset : List ℕ → ℕ
-unset [] = 0
-unset (x ∷ xs) = cond (eqb x 1) 0 1 + unset xs
-
-module _ (table : List (List ℕ)) where
-  abbrev pub MarksTargets : ℕ → ℕ → List ℕ → List ℕ → Type 0
-  MarksTargets mask p before after = (P : Pack) → Tabled (P .setting) table → FlagsMarked (Leads P (invented (setOfMask mask)) p) before after
-
-  abbrev pub MarksAll : ℕ → List ℕ → List ℕ → Type 0
-  MarksAll mask before after =
-      (P : Pack) → Tabled (P .setting) table → FlagsMarked (Upto (Leads P (invented (setOfMask mask))) maxPredicates) before after
-
-  -- if the set is marked
-  abbrev pub MarksFollowing : ℕ → List ℕ → List ℕ → Type 0
-  MarksFollowing n before after =
-      (P : Pack) → Tabled (P .setting) table → FlagsMarked (λ j. (getD before n 0 ≡ 1) × Upto (Leads P (invented (setAt n))) maxPredicates j) before after
+-- More sets were marked, and wait; for each pack of this table, those that Q says and no others.
+pub record Marks (table : List (List ℕ)) (Q : Pack → ℕ → Type 0) (a b : Board) : Type 0 where
+  pub grows : Adds setWords (λ j. Unit) (λ j. ⊥) a b
+  pub adds : (P : Pack) → Tabled (P .setting) table → AddsOnly setWords (Q P) a b
 
 -- ---- what follows from the sets that are marked
 
 -- "An invented node gets one edge for each predicate it requires."
+abbrev pub Next : ℕ → Pack → ℕ → Type 0
+Next mask P = Upto (Leads P (invented (setOfMask mask))) maxPredicates
+
 pub data Follows (P : Pack) (flags : List ℕ) : ℕ → Type 0 where
-  marked : {j : ℕ} → getD flags j 0 ≡ 1 → Follows P flags j
+  marked : {j : ℕ} → Marked flags j → Follows P flags j
   follows : {i j p : ℕ} → Follows P flags i → i < memberSets → p < maxPredicates → Leads P (invented (setAt i)) p j → Follows P flags j
 
-pub record InventRound (P : Pack) (before after : List ℕ) : Type 0 where
-  pub sound : (j : ℕ) → getD after j 0 ≡ 1 → Follows P before j
-  pub keeps : (j : ℕ) → getD before j 0 ≡ 1 → getD after j 0 ≡ 1
-  pub passes : (i p j : ℕ) → i < memberSets → p < maxPredicates → getD before i 0 ≡ 1 → Leads P (invented (setAt i)) p j → getD after j 0 ≡ 1
-
-abbrev pub InventRoundShown : List (List ℕ) → List ℕ → List ℕ → Type 0
-InventRoundShown table before after = (P : Pack) → Tabled (P .setting) table → InventRound P before after
+-- No marked set has been looked at: all wait.
+abbrev pub AllWait : Board → Type 0
+AllWait b = (j : ℕ) → j < memberSets → ¬ Looked b j
 
 abbrev pub CloseShown : List (List ℕ) → List ℕ → List ℕ → Type 0
-CloseShown table before after = (P : Pack) → Tabled (P .setting) table → (j : ℕ) → (getD after j 0 ≡ 1) ↔ Follows P before j
+CloseShown table before after = (P : Pack) → Tabled (P .setting) table → (j : ℕ) → Marked after j ↔ Follows P before j
 
 -- ---- what the core's nodes get
 
@@ -86,22 +67,16 @@ pub record Lacks (P : Pack) (triples : List ℕ) (s mask p j : ℕ) : Type 0 whe
   pub none : ¬ HasOrigin triples (originAt s p)
   pub leads : Leads P (invented (setOfMask mask)) p j
 
-abbrev pub SeedShown : List (List ℕ) → List ℕ → ℕ → ℕ → ℕ → List ℕ → List ℕ → Type 0
-SeedShown table triples s mask p before after =
-    (P : Pack) → Tabled (P .setting) table → FlagsMarked (Lacks P triples s mask p) before after
+-- for some predicate, and for some node
+abbrev pub NodeLacks : List ℕ → ℕ → ℕ → Pack → ℕ → Type 0
+NodeLacks triples s mask P = Upto (Lacks P triples s mask) maxPredicates
 
-abbrev pub SeedNodeShown : List (List ℕ) → List ℕ → ℕ → ℕ → List ℕ → List ℕ → Type 0
-SeedNodeShown table triples s mask before after =
-    (P : Pack) → Tabled (P .setting) table → FlagsMarked (Upto (Lacks P triples s mask) maxPredicates) before after
+abbrev pub CoreLacks : List ℕ → List ℕ → List ℕ → Pack → ℕ → Type 0
+CoreLacks nodes triples masks P = Upto (λ s. NodeLacks triples s (getD masks s 0) P) (length nodes)
 
-abbrev pub SeedsShown : List (List ℕ) → List ℕ → List ℕ → List ℕ → List ℕ → List ℕ → Type 0
-SeedsShown table nodes triples masks before after =
-    (P : Pack) → Tabled (P .setting) table
-    → FlagsMarked (Upto (λ s. Upto (Lacks P triples s (getD masks s 0)) maxPredicates) (length nodes)) before after
-
--- A flag is set exactly if the invented node of its set is built.
+-- A set is marked exactly if its invented node is built.
 pub record InventedSets (P : Pack) (flags : List ℕ) : Type 0 where
-  pub sets : (j : ℕ) → (getD flags j 0 ≡ 1) ↔ ((j < memberSets) × IsBuilt P (invented (setAt j)))
+  pub sets : (j : ℕ) → Marked flags j ↔ ((j < memberSets) × IsBuilt P (invented (setAt j)))
 
 abbrev pub InventShown : List (List ℕ) → List ℕ → List ℕ → List ℕ → List ℕ → Type 0
 InventShown table nodes triples masks after =

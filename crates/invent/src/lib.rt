@@ -1,27 +1,28 @@
-// The sets of the invented nodes, as flags by set number.
-ghost use lib.ListN.{length};
-ghost use mathlib.Core.Bool.{true};
+// The sets of the invented nodes, as bits by set number: those that the core leads to, and what follows from each.
+ghost use lib.ListN.{length, replicate};
 ghost use mathlib.Core.Path.{_≡_};
 ghost use Prim.Native.Nat.{_+_, _*_, _<_, _≤_};
 ghost use Rattle.core.specs.Keys.{originAt};
 ghost use Rattle.core_lists.specs.Input.{CoreFits};
 ghost use Rattle.core_lists.specs.Origin.{keysBefore};
-ghost use Rattle.invent.specs.Invent.{CloseShown, InventShown, MarksAll, MarksFollowing, MarksTargets, maskOf, numberOf, InventRoundShown, SeedNodeShown, SeedShown, SeedsShown, unset};
-ghost use Rattle.meaning.specs.Limits.{maxCoreNodes, maxPredicates, memberSets};
+ghost use Rattle.invent.specs.Invent.{AllWait, CloseShown, CoreLacks, InventShown, Lacks, Leads, Marks, Next, NodeLacks, maskOf, numberOf};
+ghost use Rattle.meaning.specs.Built.{invented};
+ghost use Rattle.meaning.specs.Limits.{maxCoreNodes, maxPredicates, memberSets, setWords};
 ghost use Rattle.meaning.specs.Ordered.{InOrder};
-ghost use Rattle.meaning.specs.Pack.{requires as Requires};
-ghost use Rattle.sets.specs.Progress.{Progress};
-ghost use Rattle.shapes.specs.Shapes.{CodesFit, SomePasses};
+ghost use Rattle.meaning.specs.Tables.{setOfMask};
+ghost use Rattle.shapes.specs.Shapes.{CodesFit};
+ghost use Rattle.worklist.specs.Table.{Table, board};
 use core_lists::PREDICATES;
 use meaning::LITERAL_WEIGHT;
 use meaning::MAX_PREDICATES;
-use meaning::MEMBER_SETS;
 use meaning::PLACE_ROOM;
+use meaning::SET_WORDS;
 use meaning::ShapeTable;
 use meaning::TYPE_SETS;
-use sets::buffers::clear_u16;
 use shapes::required;
 use shapes::targets;
+use worklist::mark;
+use worklist::take;
 
 // How many sets of types there are and Literal's weight, as masks and as set numbers have them.
 const SETS: u16 = TYPE_SETS as u16;
@@ -29,7 +30,7 @@ const SETS: u16 = TYPE_SETS as u16;
 const LITERAL: usize = LITERAL_WEIGHT as usize;
 
 // The number of a mask's set: its types by their weights, and as many more as there are sets of types where Literal is a member.
-pub fn set_number(mask: u16) -> usize
+fn set_number(mask: u16) -> usize
     ensures { λ r. ⌜ r ≡ numberOf mask ⌝ }
 {
     (mask % SETS + mask / LITERAL_WEIGHT * SETS) as usize
@@ -43,81 +44,61 @@ fn set_mask(number: usize) -> u16
     (number % TYPE_SETS + number / TYPE_SETS * LITERAL) as u16
 }
 
-// Marks the p-targets of a set that is known to require p; says whether that is new.
-fn mark_set(shapes: &ShapeTable, mask: u16, p: usize, flags: &mut [u16]) -> bool
-    requires { ⌜ (p < maxPredicates) × (memberSets ≤ length (now flags)) × SomePasses Requires (now shapes) mask p true × CodesFit (now shapes) ⌝ }
-    ensures { λ r. ⌜ Progress unset r (now (flags .entry)) (now (flags .exit)) × MarksTargets (now (shapes .entry)) mask p (now (flags .entry)) (now (flags .exit)) ⌝ }
-{
-    let j = set_number(targets(shapes, mask, p));
-    if flags[j] == 1 {
-        return false;
-    }
-    flags[j] = 1;
-    true
-}
-
-// Marks the p-targets of a set if it requires p; says whether that is new.
-fn mark_targets(shapes: &ShapeTable, mask: u16, p: usize, flags: &mut [u16]) -> bool
-    requires { ⌜ (p < maxPredicates) × (memberSets ≤ length (now flags)) × CodesFit (now shapes) ⌝ }
-    ensures { λ r. ⌜ Progress unset r (now (flags .entry)) (now (flags .exit)) × MarksTargets (now (shapes .entry)) mask p (now (flags .entry)) (now (flags .exit)) ⌝ }
+// Marks the p-targets of a set if it requires p. A table of sets, those that wait, their stack and its top go together.
+fn mark_targets(
+    shapes: &ShapeTable,
+    mask: u16,
+    p: usize,
+    flags: &mut [u64],
+    waiting: &mut [u64],
+    stack: &mut [u16],
+    top: usize,
+) -> usize
+    requires { ⌜ (p < maxPredicates) × Table setWords (board (now flags) (now waiting) (now stack) top) × CodesFit (now shapes) ⌝ }
+    ensures { λ r. ⌜ Marks (now (shapes .entry)) (λ P. Leads P (invented (setOfMask mask)) p)
+        (board (now (flags .entry)) (now (waiting .entry)) (now (stack .entry)) top) (board (now (flags .exit)) (now (waiting .exit)) (now (stack .exit)) r) ⌝ }
 {
     if !required(shapes, mask, p) {
-        return false;
+        return top;
     }
-    mark_set(shapes, mask, p, flags)
+    mark(
+        set_number(targets(shapes, mask, p)),
+        flags,
+        waiting,
+        stack,
+        top,
+    )
 }
 
 // The same for every predicate.
-fn mark_all(shapes: &ShapeTable, mask: u16, flags: &mut [u16]) -> bool
-    requires { ⌜ (memberSets ≤ length (now flags)) × CodesFit (now shapes) ⌝ }
-    ensures { λ r. ⌜ Progress unset r (now (flags .entry)) (now (flags .exit)) × MarksAll (now (shapes .entry)) mask (now (flags .entry)) (now (flags .exit)) ⌝ }
+fn mark_all(
+    shapes: &ShapeTable,
+    mask: u16,
+    flags: &mut [u64],
+    waiting: &mut [u64],
+    stack: &mut [u16],
+    top: usize,
+) -> usize
+    requires { ⌜ Table setWords (board (now flags) (now waiting) (now stack) top) × CodesFit (now shapes) ⌝ }
+    ensures { λ r. ⌜ Marks (now (shapes .entry)) (Next mask) (board (now (flags .entry)) (now (waiting .entry)) (now (stack .entry)) top)
+        (board (now (flags .exit)) (now (waiting .exit)) (now (stack .exit)) r) ⌝ }
 {
-    let mut changed = false;
+    let mut end = top;
     for p in 0..MAX_PREDICATES {
-        let new = mark_targets(shapes, mask, p, flags);
-        if new {
-            changed = true;
-        }
+        end = mark_targets(shapes, mask, p, flags, waiting, stack, end);
     }
-    changed
+    end
 }
 
-// Marks what follows from a set, if it is marked; says whether that is new.
-fn mark_following(shapes: &ShapeTable, j: usize, flags: &mut [u16]) -> bool
-    requires { ⌜ (j < memberSets) × (memberSets ≤ length (now flags)) × CodesFit (now shapes) ⌝ }
-    ensures { λ r. ⌜ Progress unset r (now (flags .entry)) (now (flags .exit)) × MarksFollowing (now (shapes .entry)) j (now (flags .entry)) (now (flags .exit)) ⌝ }
-{
-    if flags[j] != 1 {
-        return false;
-    }
-    mark_all(shapes, set_mask(j), flags)
-}
-
-// Marks what follows from each marked set; says whether anything is new.
-fn round(shapes: &ShapeTable, flags: &mut [u16]) -> bool
-    requires { ⌜ (memberSets ≤ length (now flags)) × CodesFit (now shapes) ⌝ }
-    ensures { λ r. ⌜ Progress unset r (now (flags .entry)) (now (flags .exit)) × InventRoundShown (now (shapes .entry)) (now (flags .entry)) (now (flags .exit)) ⌝ }
-{
-    let mut changed = false;
-    for j in 0..MEMBER_SETS {
-        let new = mark_following(shapes, j, flags);
-        if new {
-            changed = true;
-        }
-    }
-    changed
-}
-
-// Rounds until one adds nothing.
-fn close(shapes: &ShapeTable, flags: &mut [u16])
-    requires { ⌜ (memberSets ≤ length (now flags)) × CodesFit (now shapes) ⌝ }
+// Takes the sets that wait, one after another, and marks what follows from each, until none waits.
+fn close(shapes: &ShapeTable, flags: &mut [u64], waiting: &mut [u64], stack: &mut [u16], top: usize)
+    requires { ⌜ Table setWords (board (now flags) (now waiting) (now stack) top) × AllWait (board (now flags) (now waiting) (now stack) top) × CodesFit (now shapes) ⌝ }
     ensures { λ _. ⌜ CloseShown (now (shapes .entry)) (now (flags .entry)) (now (flags .exit)) ⌝ }
 {
-    loop {
-        let changed = round(shapes, flags);
-        if !changed {
-            return;
-        }
+    let mut end = top;
+    while 0 < end {
+        let taken = take(waiting, &stack[..], end);
+        end = mark_all(shapes, set_mask(taken.0), flags, waiting, stack, taken.1);
     }
 }
 
@@ -136,27 +117,37 @@ fn after(triples: &[u64], origin: u64, from: usize) -> usize
     at
 }
 
-// Marks the p-targets of a core node that requires p and has no p-edge; returns the place after its p-edges.
+// How far the core's triples are passed, and the top of the stack.
+struct Seeded {
+    at: usize,
+    top: usize,
+}
+
+// Marks the p-targets of a core node that requires p and has no p-edge; passes its p-edges.
 fn seed_edge(
     shapes: &ShapeTable,
     triples: &[u64],
     subject: usize,
     mask: u16,
     p: usize,
-    from: usize,
-    flags: &mut [u16],
-) -> usize
-    requires { ⌜ InOrder _<_ (now triples) × (subject < maxCoreNodes) × (p < maxPredicates) × (from ≡ keysBefore (originAt subject p) (now triples))
-        × (memberSets ≤ length (now flags)) × CodesFit (now shapes) ⌝ }
-    ensures { λ r. ⌜ SeedShown (now (shapes .entry)) (now (triples .entry)) subject mask p (now (flags .entry)) (now (flags .exit))
-        × (r ≡ keysBefore (originAt subject p + 1) (now (triples .entry))) ⌝ }
+    from: Seeded,
+    flags: &mut [u64],
+    waiting: &mut [u64],
+    stack: &mut [u16],
+) -> Seeded
+    requires { ⌜ InOrder _<_ (now triples) × (subject < maxCoreNodes) × (p < maxPredicates) × (from .at ≡ keysBefore (originAt subject p) (now triples))
+        × Table setWords (board (now flags) (now waiting) (now stack) (from .top)) × CodesFit (now shapes) ⌝ }
+    ensures { λ r. ⌜ Marks (now (shapes .entry)) (λ P. Lacks P (now (triples .entry)) subject mask p)
+        (board (now (flags .entry)) (now (waiting .entry)) (now (stack .entry)) (from .top)) (board (now (flags .exit)) (now (waiting .exit)) (now (stack .exit)) (r .top))
+        × (r .at ≡ keysBefore (originAt subject p + 1) (now (triples .entry))) ⌝ }
 {
-    let at = after(triples, (subject * PREDICATES + p) as u64, from);
-    if at != from {
-        return at;
+    let start = from.at;
+    let at = after(triples, (subject * PREDICATES + p) as u64, start);
+    if at != start {
+        return Seeded { at, top: from.top };
     }
-    mark_targets(shapes, mask, p, flags);
-    at
+    let top = mark_targets(shapes, mask, p, flags, waiting, stack, from.top);
+    Seeded { at, top }
 }
 
 // The same for every predicate.
@@ -165,38 +156,72 @@ fn seed_node(
     triples: &[u64],
     subject: usize,
     mask: u16,
-    from: usize,
-    flags: &mut [u16],
-) -> usize
-    requires { ⌜ InOrder _<_ (now triples) × (subject < maxCoreNodes) × (from ≡ keysBefore (originAt subject 0) (now triples))
-        × (memberSets ≤ length (now flags)) × CodesFit (now shapes) ⌝ }
-    ensures { λ r. ⌜ SeedNodeShown (now (shapes .entry)) (now (triples .entry)) subject mask (now (flags .entry)) (now (flags .exit))
-        × (r ≡ keysBefore (originAt subject maxPredicates) (now (triples .entry))) ⌝ }
+    from: Seeded,
+    flags: &mut [u64],
+    waiting: &mut [u64],
+    stack: &mut [u16],
+) -> Seeded
+    requires { ⌜ InOrder _<_ (now triples) × (subject < maxCoreNodes) × (from .at ≡ keysBefore (originAt subject 0) (now triples))
+        × Table setWords (board (now flags) (now waiting) (now stack) (from .top)) × CodesFit (now shapes) ⌝ }
+    ensures { λ r. ⌜ Marks (now (shapes .entry)) (NodeLacks (now (triples .entry)) subject mask)
+        (board (now (flags .entry)) (now (waiting .entry)) (now (stack .entry)) (from .top)) (board (now (flags .exit)) (now (waiting .exit)) (now (stack .exit)) (r .top))
+        × (r .at ≡ keysBefore (originAt subject maxPredicates) (now (triples .entry))) ⌝ }
 {
-    let mut at = from;
+    let mut next = from;
     for p in 0..MAX_PREDICATES {
-        at = seed_edge(shapes, triples, subject, mask, p, at, flags);
+        let more = seed_edge(
+            shapes,
+            triples,
+            subject,
+            mask,
+            p,
+            next,
+            flags,
+            waiting,
+            stack,
+        );
+        next = more;
     }
-    at
+    next
 }
 
 // The same for every core node.
-fn seed(shapes: &ShapeTable, nodes: &[u64], triples: &[u64], masks: &[u16], flags: &mut [u16])
-    requires { ⌜ CoreFits (now nodes) (now triples) (now masks) × (memberSets ≤ length (now flags)) × CodesFit (now shapes) ⌝ }
-    ensures { λ _. ⌜ SeedsShown (now (shapes .entry)) (now (nodes .entry)) (now (triples .entry)) (now (masks .entry)) (now (flags .entry)) (now (flags .exit)) ⌝ }
+fn seed(
+    shapes: &ShapeTable,
+    nodes: &[u64],
+    triples: &[u64],
+    masks: &[u16],
+    flags: &mut [u64],
+    waiting: &mut [u64],
+    stack: &mut [u16],
+) -> usize
+    requires { ⌜ CoreFits (now nodes) (now triples) (now masks) × Table setWords (board (now flags) (now waiting) (now stack) 0) × CodesFit (now shapes) ⌝ }
+    ensures { λ r. ⌜ Marks (now (shapes .entry)) (CoreLacks (now (nodes .entry)) (now (triples .entry)) (now (masks .entry)))
+        (board (now (flags .entry)) (now (waiting .entry)) (now (stack .entry)) 0) (board (now (flags .exit)) (now (waiting .exit)) (now (stack .exit)) r) ⌝ }
 {
-    let mut at = 0;
+    let mut next = Seeded { at: 0, top: 0 };
     for s in 0..nodes.len() {
-        at = seed_node(shapes, triples, s, masks[s], at, flags);
+        let more = seed_node(shapes, triples, s, masks[s], next, flags, waiting, stack);
+        next = more;
     }
+    next.top
 }
 
-// The sets of the invented nodes: what the core leads to, and what follows.
-pub fn invent(shapes: &ShapeTable, nodes: &[u64], triples: &[u64], masks: &[u16], flags: &mut [u16])
-    requires { ⌜ CoreFits (now nodes) (now triples) (now masks) × (memberSets ≤ length (now flags)) × CodesFit (now shapes) ⌝ }
+// The sets of the invented nodes: what the core leads to, and what follows. The flags are lent without a set.
+pub fn invent(shapes: &ShapeTable, nodes: &[u64], triples: &[u64], masks: &[u16], flags: &mut [u64])
+    requires { ⌜ CoreFits (now nodes) (now triples) (now masks) × (now flags ≡ replicate setWords 0) × CodesFit (now shapes) ⌝ }
     ensures { λ _. ⌜ InventShown (now (shapes .entry)) (now (nodes .entry)) (now (triples .entry)) (now (masks .entry)) (now (flags .exit)) ⌝ }
 {
-    clear_u16(flags);
-    seed(shapes, nodes, triples, masks, flags);
-    close(shapes, flags);
+    let mut waiting = [0u64; SET_WORDS];
+    let mut stack = [0u16; SET_WORDS];
+    let top = seed(
+        shapes,
+        nodes,
+        triples,
+        masks,
+        flags,
+        &mut waiting,
+        &mut stack,
+    );
+    close(shapes, flags, &mut waiting, &mut stack, top);
 }

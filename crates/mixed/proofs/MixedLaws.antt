@@ -7,14 +7,14 @@ use mathlib.Core.Bool.{Bool, true, false, not}
 use mathlib.Core.List.{List}
 use mathlib.Core.Logic.{_↔_}
 use mathlib.Core.Option.{some}
-use mathlib.Core.Path.{_≡_, refl, sym, subst}
-use native.Mathlib.Decide.{ℕ-discrete}
+use mathlib.Core.Path.{_≡_, refl, sym, ap, subst, _∙_}
+use native.Mathlib.Decide.{decLt, ℕ-discrete}
 use native.Mathlib.Omega.{arith}
-use Prim.Native.Nat.{ℕ, _+_, _%_, _<_, _≤_}
+use Prim.Native.Nat.{ℕ, suc, _+_, _*_, _/_, _%_, _^_, _<_, _≤_}
 use Rattle.core.specs.Keys.{keyOf}
 use Rattle.core_lists.specs.Input.{Input, KeysSmall}
 use Rattle.invent.specs.Invent.{InventedSets, setAt}
-use Rattle.mixed.specs.Mixed.{MixedCore, MixedFlags, Somewhere, mixedNode}
+use Rattle.mixed.specs.Mixed.{MixedCore, MixedFlag, MixedFlags, Somewhere, mixedNode}
 use Rattle.invent.proofs.Invented.{lifted, number-back, setNumber, small-set}
 use Rattle.core_lists.proofs.Keys.{iri-key-lt}
 use Rattle.core_lists.proofs.Places.{NodeAt, masked, node-at, place-of, typed-node, well}
@@ -23,13 +23,15 @@ use Rattle.meaning.proofs.Lists.Bits.{bit-bound, zero-bits}
 use Rattle.meaning.proofs.Lists.Places.{entry-is, inside}
 use Rattle.meaning.specs.Built.{IsBuilt, invented}
 use Rattle.meaning.specs.Core.{CoreNode, CoreType, Node, iriNode, literalNode}
-use Rattle.meaning.specs.Limits.{firstLiteral, literalWeight, maxValues, typeSets}
+use Rattle.meaning.specs.Limits.{firstLiteral, literalWeight, maxValues, memberSets, setWords, typeSets}
 use Rattle.meaning.specs.NoGraph.{MixedKinds, iriLiteral, literalTyped, mixedSet}
 use Rattle.meaning.specs.Pack.{Literal, Pack, type}
 use Rattle.meaning.specs.Tables.{setOfMask}
 use Rattle.meaning.specs.TypeSet.{TypeSet, bit, _∈ₜ_}
 use Rattle.meaning.proofs.Lists.Below.{NoneBelow}
 use Rattle.meaning.proofs.Lists.Lowest.{lowest}
+use Rattle.meaning.proofs.Lists.Masks.{bit-small}
+use Rattle.worklist.proofs.Marks.{mark-bit, zero-word}
 
 -- ---- a search
 
@@ -38,6 +40,40 @@ found-at i n h q = (λ t. record { at = i; below = h; holds = q }, λ s. tt)
 
 pub found-none : {Q : ℕ → Type 0} {i : ℕ} (n : ℕ) → NoneBelow Q i → n ≤ i → T false ↔ Somewhere Q n
 found-none n k h = (λ t. absurd t, λ s. k .none (s .at) (let b = s .below in omega arith) (s .holds))
+
+-- ---- words of sets
+
+module _ (flags : List ℕ) where
+  -- set t of the word w
+  word-mixed : (w t : ℕ) → t < 64 → typeSets < w * 64 + t → w < setWords → bit t (getD flags w 0) ≡ 1 → T true ↔ MixedFlags flags
+  word-mixed w t s a h e =
+      let d : (w * 64 + t) / 64 ≡ w = omega arith in
+      let m : (w * 64 + t) % 64 ≡ t = omega arith in
+      found-at (w * 64 + t) memberSets (omega arith) (record { above = a; set = sym (mark-bit flags (w * 64 + t) w d) ∙ ap (λ x. bit x (getD flags w 0)) m ∙ e })
+
+  pub first-mixed : 1 < getD flags (setWords / 2) 0 → getD flags (setWords / 2) 0 < 2 ^ 64 → T true ↔ MixedFlags flags
+  unfolding bit
+  first-mixed h f =
+      let y = getD flags (setWords / 2) 0 / 2 in
+      let l = lowest 63 y (omega arith) (omega arith) .member in
+      let t = trailingZeros 63 y in
+      word-mixed (setWords / 2) (suc t) (let z = bit-small 63 t y l (omega arith) in omega arith) (omega arith) (omega arith) l
+
+  pub later-mixed : (w : ℕ) → setWords / 2 < w → w < setWords → 0 < getD flags w 0 → getD flags w 0 < 2 ^ 64 → T true ↔ MixedFlags flags
+  later-mixed w a b h f =
+      let l = lowest 64 (getD flags w 0) h f .member in
+      word-mixed w (trailingZeros 64 (getD flags w 0)) (bit-small 64 (trailingZeros 64 (getD flags w 0)) (getD flags w 0) l f) (omega arith) b l
+
+  -- {Literal} alone is not mixed
+  pub none-first : getD flags (setWords / 2) 0 ≤ 1 → NoneBelow (MixedFlag flags) ((setWords / 2 + 1) * 64)
+  none-first h = record { none = λ j l m. let a = m .above in let b = bit-bound (j % 64) (getD flags (setWords / 2) 0) (mark-bit flags j (setWords / 2) (omega arith) ∙ m .set) in omega arith }
+
+  pub none-later : (w : ℕ) → NoneBelow (MixedFlag flags) (w * 64) → getD flags w 0 ≡ 0 → NoneBelow (MixedFlag flags) ((w + 1) * 64)
+  none-later w n z = record { none = λ j l m. go j l m (decLt j (w * 64)) }
+    where
+      go : (j : ℕ) → j < (w + 1) * 64 → MixedFlag flags j → Dec (j < w * 64) → ⊥
+      go j l m (yes h) = n .none j h m
+      go j l m (no h) = let d : j / 64 ≡ w = omega arith in let y = zero-word flags j (ap (λ v. getD flags v 0) d ∙ z) in let s = m .set in omega arith
 
 -- ---- the core
 

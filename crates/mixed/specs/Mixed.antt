@@ -4,13 +4,13 @@ use lib.ListN.{getD, length}
 use mathlib.Core.Bool.{Bool, cond, not}
 use mathlib.Core.List.{List}
 use mathlib.Core.Logic.{_↔_}
-use mathlib.Core.Path.{_≡_}
 use Prim.Native.Nat.{ℕ, _%_, _<_}
 use Rattle.core_lists.specs.Input.{Input}
 use Rattle.invent.specs.Invent.{InventedSets}
 use Rattle.meaning.specs.Limits.{firstLiteral, literalWeight, memberSets, typeSets}
 use Rattle.meaning.specs.NoGraph.{MixedKinds}
 use Rattle.meaning.specs.Pack.{Pack}
+use Rattle.worklist.specs.Table.{Marked}
 
 -- Q at some number from a on, below n
 pub record Somewhere (Q : ℕ → Type 0) (n : ℕ) : Type 0 where
@@ -26,10 +26,10 @@ mixedNode key mask = cond (ltb key firstLiteral) (leb literalWeight mask) (not (
 abbrev pub MixedCore : List ℕ → List ℕ → Type 0
 MixedCore nodes masks = Somewhere (λ i. T (mixedNode (getD nodes i 0) (getD masks i 0))) (length nodes)
 
--- a flagged set holds Literal and a type
+-- "an invented node's set holds Literal and a type": the set is marked
 pub record MixedFlag (flags : List ℕ) (j : ℕ) : Type 0 where
   pub above : typeSets < j
-  pub set : getD flags j 0 ≡ 1
+  pub set : Marked flags j
 
 abbrev pub MixedFlags : List ℕ → Type 0
 MixedFlags flags = Somewhere (MixedFlag flags) memberSets

@@ -5,14 +5,13 @@ ghost use mathlib.Core.Logic.{_↔_};
 ghost use mathlib.Core.Path.{_≡_};
 ghost use Prim.Native.Nat.{_≤_};
 ghost use Rattle.mixed.specs.Mixed.{mixedNode, MixedCore, MixedFlags, MixedShown};
-ghost use Rattle.meaning.specs.Limits.{memberSets};
+ghost use Rattle.meaning.specs.Limits.{setWords};
 use meaning::FIRST_LITERAL;
 use meaning::LITERAL_WEIGHT;
-use meaning::MEMBER_SETS;
-use meaning::TYPE_SETS;
+use meaning::SET_WORDS;
 
-// The first set that has Literal and a type.
-const FIRST_MIXED: usize = TYPE_SETS + 1;
+// The first word of sets that have Literal; its first bit is {Literal}, which has no type.
+const LITERALS: usize = SET_WORDS / 2;
 
 // Whether a core node is of mixed kind.
 fn mixed_node(key: u64, mask: u16) -> bool
@@ -38,12 +37,15 @@ fn mixed_core(nodes: &[u64], masks: &[u16]) -> bool
 }
 
 // Whether some invented set has Literal and a type.
-fn mixed_sets(flags: &[u16]) -> bool
-    requires { ⌜ memberSets ≤ length (now flags) ⌝ }
+fn mixed_sets(flags: &[u64]) -> bool
+    requires { ⌜ setWords ≤ length (now flags) ⌝ }
     ensures { λ r. ⌜ T r ↔ MixedFlags (now (flags .entry)) ⌝ }
 {
-    for j in FIRST_MIXED..MEMBER_SETS {
-        if flags[j] == 1 {
+    if flags[LITERALS] > 1 {
+        return true;
+    }
+    for w in LITERALS + 1..SET_WORDS {
+        if flags[w] != 0 {
             return true;
         }
     }
@@ -51,8 +53,8 @@ fn mixed_sets(flags: &[u16]) -> bool
 }
 
 // Whether the pack is refused by 11.
-pub fn mixed(nodes: &[u64], masks: &[u16], flags: &[u16]) -> bool
-    requires { ⌜ (length (now nodes) ≤ length (now masks)) × (memberSets ≤ length (now flags)) ⌝ }
+pub fn mixed(nodes: &[u64], masks: &[u16], flags: &[u64]) -> bool
+    requires { ⌜ (length (now nodes) ≤ length (now masks)) × (setWords ≤ length (now flags)) ⌝ }
     ensures { λ r. ⌜ MixedShown (now (nodes .entry)) (now (masks .entry)) (now (flags .entry)) r ⌝ }
 {
     if mixed_core(nodes, masks) {

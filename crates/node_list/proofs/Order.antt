@@ -1,28 +1,29 @@
--- The built nodes in node order: the core's by their keys, then the marked sets. Assumes nothing.
-use borrow.Author.Tests.{eq-eqb, eqb-true, lt-leb, ne-eqb}
+-- The built nodes in node order: the core's by their keys, then the invented ones by their masks. Assumes nothing.
+use borrow.Author.Tests.{eq-eqb, lt-leb, ne-eqb}
 use lib.Dec.{T, eqb}
-use lib.ListN.{getD, getElem?, length, length-map}
-use mathlib.Core.Bool.{Bool, true, false, cond}
+use lib.ListN.{getD, getElem?, length, length-map, take}
+use mathlib.Core.Bool.{Bool, true, false}
 use mathlib.Core.List.{List, [], _∷_, _++_, map, Memᴰ·map as ∈-map, List·Memᴰ·append-cases, Forall₂, Forall₂·nil, Forall₂·cons}
 use mathlib.Core.Logic.{_⊎_, inl, inr}
 use mathlib.Core.Option.{Option, some, Option·none-ne-some, Option·some-injective}
 use mathlib.Core.Path.{_≡_, refl, sym, ap, subst, subst₂, _∙_}
-use native.Mathlib.Decide.{ℕ-discrete}
 use native.Mathlib.Omega.{arith}
 use Prim.Native.Nat.{ℕ, zero, suc, _+_, _%_, _<_, _≤_}
 use Rattle.core.specs.CoreHeld.{NodeKey}
 use Rattle.core.specs.Keys.{keyOf}
 use Rattle.core_lists.specs.Input.{Input}
 use Rattle.invent.specs.Invent.{InventedSets, setAt}
-use Rattle.node_list.specs.Records.{Arities, coreRecords, setList, setNumbers, setsFrom, slotOf}
-use Rattle.invent.proofs.Invented.{lifted, number-back, setNumber, small-set}
+use Rattle.node_list.specs.NodeList.{InventedNodes}
+use Rattle.node_list.specs.Records.{Arities, NodeSets, coreRecords, nodeSet, setNumbers, slotOf}
+use Rattle.invent.proofs.Invented.{small-set}
 use Rattle.core_lists.proofs.Keys.{key-one, less-key}
 use Rattle.core_lists.proofs.Places.{Masked, masked, well}
 use Rattle.core_lists.proofs.ResolvedNodes.{proper}
 use Rattle.node_list.proofs.Records.{core-record}
-use Rattle.node_list.proofs.SetList.{slot-first, slot-later}
+use Rattle.node_list.proofs.SetList.{slot-lt}
 use Rattle.meaning.proofs.Lists.Members.{element, ∈-append, ∈-map⁻¹}
-use Rattle.meaning.proofs.Lists.SetLists.{joined-order}
+use Rattle.meaning.proofs.Lists.Places.{at-later, entry-at, entry-map}
+use Rattle.meaning.proofs.Lists.SetLists.{joined-order, list-as}
 use Rattle.meaning.proofs.Theory.Invented.{literal-alone, types-some}
 use Rattle.meaning.specs.Built.{BuiltNode, IsBuilt, core, inCore, invented}
 use Rattle.meaning.specs.Core.{CoreNode, Node, iriNode, literalNode}
@@ -33,105 +34,54 @@ use Rattle.meaning.specs.NoGraph.{MixedKinds}
 use Rattle.meaning.specs.Ordered.{InOrder, _≺_, before, empty, equal, less}
 use Rattle.meaning.specs.Pack.{Pack}
 use Rattle.meaning.specs.TypeSet.{TypeSet}
+use Rattle.worklist.specs.Table.{Marked}
 
--- ---- the marked sets
-
-pub record Slot (flags : List ℕ) (k n j : ℕ) : Type 0 where
-  pub at : ℕ
-  pub from : k ≤ at
-  pub below : at < k + n
-  pub is : j ≡ slotOf at
-  pub set : getD flags (slotOf at) 0 ≡ 1
-
-pub slot-in : (flags : List ℕ) (k n j : ℕ) → j ∈ setsFrom flags k n → Slot flags k n j
-unfolding setsFrom
-slot-in flags k zero j m = elim m [ ]
-slot-in flags k (suc n) j m = go (eqb (getD flags (slotOf k) 0) 1) refl m (slot-in flags (suc k) n j)
-  where
-    later : Slot flags (suc k) n j → Slot flags k (suc n) j
-    later s = record { at = s .at; from = let f = s .from in omega arith; below = let b = s .below in omega arith; is = s .is; set = s .set }
-
-    first : getD flags (slotOf k) 0 ≡ 1 → (j ∈ setsFrom flags (suc k) n → Slot flags (suc k) n j) → j ∈ (slotOf k ∷ setsFrom flags (suc k) n) → Slot flags k (suc n) j
-    first e rest (here q) = record { at = k; from = omega arith; below = omega arith; is = q; set = e }
-    first e rest (there i) = later (rest i)
-
-    go : (b : Bool) → eqb (getD flags (slotOf k) 0) 1 ≡ b → j ∈ cond b (slotOf k ∷ setsFrom flags (suc k) n) (setsFrom flags (suc k) n)
-        → (j ∈ setsFrom flags (suc k) n → Slot flags (suc k) n j) → Slot flags k (suc n) j
-    go true e i rest = first (eqb-true (getD flags (slotOf k) 0) 1 e) rest i
-    go false e i rest = later (rest i)
-
-in-slot : (flags : List ℕ) (k n l : ℕ) → k ≤ l → l < k + n → getD flags (slotOf l) 0 ≡ 1 → slotOf l ∈ setsFrom flags k n
-unfolding setsFrom
-in-slot flags k zero l h b e = absurd (let z : ⊥ = omega arith in z)
-in-slot flags k (suc n) l h b e = go (ℕ-discrete l k) (in-slot flags (suc k) n l)
-  where
-    keep : (c : Bool) → slotOf l ∈ setsFrom flags (suc k) n → slotOf l ∈ cond c (slotOf k ∷ setsFrom flags (suc k) n) (setsFrom flags (suc k) n)
-    keep true m = there m
-    keep false m = m
-
-    go : Dec (l ≡ k) → (suc k ≤ l → l < suc k + n → getD flags (slotOf l) 0 ≡ 1 → slotOf l ∈ setsFrom flags (suc k) n) → slotOf l ∈ setsFrom flags k (suc n)
-    go (yes q) rest = rw (eq-eqb (getD flags (slotOf k) 0) 1 (subst (λ x. getD flags (slotOf x) 0 ≡ 1) q e)) (here (ap slotOf q))
-    go (no q) rest = keep (eqb (getD flags (slotOf k) 0) 1) (rest (omega arith) (omega arith) e)
+-- ---- the invented nodes
 
 abbrev pub setNode : ℕ → BuiltNode
-setNode j = invented (setAt j)
+setNode k = invented (nodeSet k)
 
--- the key of a set's node
-set-key : (j : ℕ) → j < typeSets → nodeKey (setNode j) ≡ 3 ∷ j ∷ []
-unfolding nodeKey setAt
-set-key j h =
-    let l = lt-leb typeSets j h in
-    let m : j % typeSets ≡ j = omega arith in
-    λ i. inventedKind (l i) ∷ m i ∷ []
+some-type : (k : ℕ) → eqb (suc k) 0 ≡ false
+some-type k = ne-eqb (suc k) 0 (λ z. omega arith)
 
-literal-key : nodeKey (setNode typeSets) ≡ 2 ∷ 0 ∷ []
-unfolding nodeKey setAt
-literal-key = refl
+set-key : (k : ℕ) → nodeKey (setNode (suc k)) ≡ 3 ∷ suc k ∷ []
+unfolding nodeKey nodeSet
+set-key k = rw (some-type k) refl
 
-by-keys : (x y : BuiltNode) {k l : List ℕ} → nodeKey x ≡ k → nodeKey y ≡ l → k ≺ l → x ◃ y
-by-keys x y {k} {l} p q r = subst (λ w. nodeKey x ≺ w) (sym q) (subst (λ w. w ≺ l) (sym p) r)
+-- in node order they are as their masks are
+sets-less : (k l : ℕ) → k < l → setNode k ◃ setNode l
+unfolding nodeKey nodeSet
+sets-less k zero h = absurd (omega arith)
+sets-less zero (suc l) h = subst (λ x. (2 ∷ 0 ∷ []) ≺ x) (sym (set-key l)) (less {x = 2} {y = 3} (omega arith))
+sets-less (suc k) (suc l) h = subst₂ _≺_ (sym (set-key k)) (sym (set-key l)) (equal refl (less h))
 
-slot-is : (k : ℕ) → suc k ≡ slotOf (suc k)
-slot-is k = slot-later (suc k) (λ z. omega arith)
-
-slots-less : (k l : ℕ) → k < l → l < typeSets → setNode (slotOf k) ◃ setNode (slotOf l)
-slots-less k zero h b = absurd (let z : ⊥ = omega arith in z)
-slots-less zero (suc l) h b =
-    subst₂ (λ x y. setNode x ◃ setNode y) (slot-first 0 refl) (slot-is l)
-    (by-keys (setNode typeSets) (setNode (suc l)) literal-key (set-key (suc l) b) (less {x = 2} {y = 3} (omega arith)))
-slots-less (suc k) (suc l) h b =
-    subst₂ (λ x y. setNode x ◃ setNode y) (slot-is k) (slot-is l)
-    (by-keys (setNode (suc k)) (setNode (suc l)) (set-key (suc k) (omega arith)) (set-key (suc l) b) (equal refl (less h)))
-
-sets-ascend : (flags : List ℕ) (k n : ℕ) → k + n ≤ typeSets → InOrder _◃_ (map setNode (setsFrom flags k n))
-unfolding setsFrom
-sets-ascend flags k zero h = empty
-sets-ascend flags k (suc n) h = go (eqb (getD flags (slotOf k) 0) 1) (sets-ascend flags (suc k) n (omega arith))
+sets-ascend : (sets : List ℕ) → InOrder _<_ sets → InOrder _◃_ (map setNode sets)
+sets-ascend [] a = empty
+sets-ascend (k ∷ sets) (before f a) = before above (sets-ascend sets a)
   where
-    above : (b : BuiltNode) → b ∈ map setNode (setsFrom flags (suc k) n) → setNode (slotOf k) ◃ b
-    above b m =
-        let r = ∈-map⁻¹ setNode (setsFrom flags (suc k) n) m in
-        let s = slot-in flags (suc k) n (r .0) (r .1) in
-        let f = s .from in let g = s .below in
-        subst (λ x. setNode (slotOf k) ◃ x) (sym (r .2 ∙ ap setNode (s .is))) (slots-less k (s .at) (omega arith) (omega arith))
-
-    go : (c : Bool) → InOrder _◃_ (map setNode (setsFrom flags (suc k) n)) → InOrder _◃_ (map setNode (cond c (slotOf k ∷ setsFrom flags (suc k) n) (setsFrom flags (suc k) n)))
-    go true a = before above a
-    go false a = a
+    above : (b : BuiltNode) → b ∈ map setNode sets → setNode k ◃ b
+    above b m = let r = ∈-map⁻¹ setNode sets m in subst (λ x. setNode k ◃ x) (sym (r .2)) (sets-less k (r .0) (f (r .0) (r .1)))
 
 -- a set's record
-literal-record : (P : Pack) → NodeRecord P (setNode typeSets) (setNumbers typeSets)
-unfolding kind number arguments setNumbers setAt
-literal-record P = record { types = 0; weigh = λ t. (λ e. e, λ e. e); are = refl }
+set-record : (P : Pack) (k : ℕ) → NodeRecord P (setNode k) (setNumbers k)
+unfolding kind number arguments setNumbers nodeSet
+set-record P zero = record { types = 0; weigh = λ t. (λ e. e, λ e. e); are = refl }
+set-record P (suc k) = record { types = suc k; weigh = λ t. (λ e. e, λ e. e); are = rw (some-type k) refl }
 
-types-record : (P : Pack) (j : ℕ) → j < typeSets → NodeRecord P (setNode j) (setNumbers j)
-unfolding kind number arguments setNumbers setAt
-types-record P j h =
-    record { types = j % typeSets; weigh = λ t. (λ e. e, λ e. e); are = rw (lt-leb typeSets j h, ne-eqb j typeSets (λ z. omega arith)) refl }
+-- its set, by the number
+slot-set : (k : ℕ) → k < typeSets → setAt (slotOf k) ≡ nodeSet k
+unfolding setAt slotOf nodeSet
+slot-set zero h = refl
+slot-set (suc k) h = rw (some-type k) (let e = lt-leb typeSets (suc k) h in let m : suc k % typeSets ≡ suc k = omega arith in λ i. record { literal = e i; mask = m i })
 
-set-record : (P : Pack) (k : ℕ) → k < typeSets → NodeRecord P (setNode (slotOf k)) (setNumbers (slotOf k))
-set-record P zero h = subst (λ x. NodeRecord P (setNode x) (setNumbers x)) (slot-first 0 refl) (literal-record P)
-set-record P (suc k) h = subst (λ x. NodeRecord P (setNode x) (setNumbers x)) (slot-is k) (types-record P (suc k) h)
+-- a set of types, or {Literal}, by its mask
+node-set : (X : TypeSet) → (T (X .literal) → X .mask ≡ 0) → (¬ T (X .literal) → 0 < X .mask) → nodeSet (X .mask) ≡ X
+unfolding nodeSet
+node-set X a b = go (X .literal) (X .mask) a b
+  where
+    go : (f : Bool) (m : ℕ) → (T f → m ≡ 0) → (¬ T f → 0 < m) → _≡_ {A = TypeSet} (record { literal = eqb m 0; mask = m }) (record { literal = f; mask = m })
+    go true m a b = let e = eq-eqb m 0 (a tt) in λ i. record { literal = e i; mask = m }
+    go false m a b = let h = b (λ z. z) in let e = ne-eqb m 0 (λ z. omega arith) in λ i. record { literal = e i; mask = m }
 
 -- ---- the core's nodes
 
@@ -199,74 +149,78 @@ module _ {P : Pack} {table : List (List ℕ)} {nodes triples masks : List ℕ} (
 
   -- ---- all nodes
 
-  module _ {flags : List ℕ} (sets : InventedSets P flags) (clean : ¬ MixedKinds P) where
+  pub set-of : {X : TypeSet} → ¬ MixedKinds P → IsBuilt P (invented X) → nodeSet (X .mask) ≡ X
+  set-of {X} clean i = node-set X (literal-alone P clean i) (types-some P clean i)
+
+  -- the marked sets are those of the invented nodes
+  pub marked-nodes : {flags sets : List ℕ} {r : ℕ} → InventedSets P flags → NodeSets flags sets r → InventedNodes P (take r sets)
+  unfolding nodeSet
+  marked-nodes {flags} f l = list-as (λ k. (λ (m, h). subst (λ X. IsBuilt P (invented X)) (slot-set k h) (f .sets (slotOf k) .0 m .1), back k)) (l .list)
+    where
+      back : (k : ℕ) → IsBuilt P (setNode k) → Marked flags (slotOf k) × (k < typeSets)
+      back k i = let h = small-set I i in (f .sets (slotOf k) .1 (slot-lt k h, subst (λ X. IsBuilt P (invented X)) (sym (slot-set k h)) i), h)
+
+  module _ {sets : List ℕ} (listed : InventedNodes P sets) (clean : ¬ MixedKinds P) where
     unfoldable pub inOrder : List BuiltNode
-    inOrder = map core (all-nodes .list) ++ map setNode (setList flags)
+    inOrder = map core (all-nodes .list) ++ map setNode sets
 
-    pub set-slot : {X : TypeSet} → IsBuilt P (invented X) → (l : ℕ) × (l < typeSets) × (setNumber X ≡ slotOf l)
-    unfolding setNumber lifted
-    set-slot {X} i = go (X .literal) (X .mask) (small-set I i) (literal-alone P clean i) (types-some P clean i)
-      where
-        go : (f : Bool) (m : ℕ) → m < typeSets → (T f → m ≡ 0) → (¬ T f → 0 < m) → (l : ℕ) × (l < typeSets) × (lifted f m ≡ slotOf l)
-        go true m h a b = let z = a tt in (0, omega arith, (let e : typeSets + m ≡ typeSets = omega arith in e) ∙ slot-first 0 refl)
-        go false m h a b = let p = b (λ z. z) in (m, h, slot-later m (λ z. omega arith))
-
-    node-built : (b : BuiltNode) → (b ∈ map core (all-nodes .list)) ⊎ (b ∈ map setNode (setList flags)) → IsBuilt P b
-    unfolding setList
+    node-built : (b : BuiltNode) → (b ∈ map core (all-nodes .list)) ⊎ (b ∈ map setNode sets) → IsBuilt P b
     node-built b (inl m) = let r = ∈-map⁻¹ core (all-nodes .list) m in subst (IsBuilt P) (sym (r .2)) (inCore (all-nodes .inCore (r .0) (r .1)))
-    node-built b (inr m) =
-        let r = ∈-map⁻¹ setNode (setList flags) m in
-        let s = slot-in flags 0 typeSets (r .0) (r .1) in
-        subst (IsBuilt P) (sym (r .2 ∙ ap setNode (s .is))) (sets .sets (slotOf (s .at)) .0 (s .set) .1)
+    node-built b (inr m) = let r = ∈-map⁻¹ setNode sets m in subst (IsBuilt P) (sym (r .2)) (listed .members (r .0) .0 (r .1))
 
     built-node : (b : BuiltNode) → IsBuilt P b → b ∈ inOrder
-    unfolding inOrder setList
+    unfolding inOrder
     built-node (core n) (inCore c) =
         let k = I .held .node-keys .members (keyOf n) .1 (record { node = n; inCore = c; is = refl }) in
         let r = ∈-map⁻¹ keyOf (all-nodes .list) (subst (λ l. keyOf n ∈ l) (sym (all-nodes .keys)) k) in
         let e = key-one P (I .bounded) n (r .0) (proper P (well I) c) (proper P (well I) (all-nodes .inCore (r .0) (r .1))) (r .2) in
-        ∈-append (map core (all-nodes .list)) (map setNode (setList flags)) (inl (subst (λ m. core m ∈ map core (all-nodes .list)) (sym e) (∈-map core (r .1))))
+        ∈-append (map core (all-nodes .list)) (map setNode sets) (inl (subst (λ m. core m ∈ map core (all-nodes .list)) (sym e) (∈-map core (r .1))))
     built-node (invented X) i =
-        let n = number-back X (small-set I i) in
-        let s = set-slot i in
-        let e : setAt (slotOf (s .0)) ≡ X = ap setAt (sym (s .2)) ∙ n .1 in
-        let f = sets .sets (setNumber X) .1 (n .0, subst (λ Y. IsBuilt P (invented Y)) (sym (n .1)) i) in
-        let m = in-slot flags 0 typeSets (s .0) (omega arith) (let h = s .1 in omega arith) (subst (λ x. getD flags x 0 ≡ 1) (s .2) f) in
-        ∈-append (map core (all-nodes .list)) (map setNode (setList flags))
-        (inr (subst (λ Y. invented Y ∈ map setNode (setList flags)) e (∈-map setNode m)))
+        let e = set-of clean i in
+        let m = listed .members (X .mask) .1 (subst (λ Y. IsBuilt P (invented Y)) (sym e) i) in
+        ∈-append (map core (all-nodes .list)) (map setNode sets) (inr (subst (λ Y. invented Y ∈ map setNode sets) e (∈-map setNode m)))
 
     pub nodes-in-order : NodesInOrder P inOrder
-    unfolding inOrder setList
+    unfolding inOrder
     nodes-in-order = record {
-      ascending = joined-order (map core (all-nodes .list)) (map setNode (setList flags))
+      ascending = joined-order (map core (all-nodes .list)) (map setNode sets)
           (core-ascend (all-nodes .list) (subst (InOrder _<_) (sym (all-nodes .keys)) (I .held .node-keys .ascending)) (all-nodes .inCore))
-          (sets-ascend flags 0 typeSets (omega arith)) across;
+          (sets-ascend sets (listed .ascending)) across;
       members = λ b. (λ m. node-built b (List·Memᴰ·append-cases (map core (all-nodes .list)) m), built-node b);
     }
       where
-        across : (x y : BuiltNode) → x ∈ map core (all-nodes .list) → y ∈ map setNode (setList flags) → x ◃ y
+        across : (x y : BuiltNode) → x ∈ map core (all-nodes .list) → y ∈ map setNode sets → x ◃ y
         across x y m n =
             let r = ∈-map⁻¹ core (all-nodes .list) m in
-            let s = ∈-map⁻¹ setNode (setList flags) n in
-            subst (λ z. x ◃ z) (sym (s .2)) (subst (λ z. z ◃ setNode (s .0)) (sym (r .2)) (core-first (r .0) (setAt (s .0))))
+            let s = ∈-map⁻¹ setNode sets n in
+            subst (λ z. x ◃ z) (sym (s .2)) (subst (λ z. z ◃ setNode (s .0)) (sym (r .2)) (core-first (r .0) (nodeSet (s .0))))
 
-    pub nodes-recorded : (arities : List ℕ) → Arities P arities → Forall₂ (NodeRecord P) inOrder (coreRecords arities nodes masks ++ map setNumbers (setList flags))
-    unfolding inOrder setList
+    pub nodes-recorded : (arities : List ℕ) → Arities P arities → Forall₂ (NodeRecord P) inOrder (coreRecords arities nodes masks ++ map setNumbers sets)
+    unfolding inOrder
     nodes-recorded arities ar =
         join (map core (all-nodes .list)) (coreRecords arities nodes masks)
         (subst (λ ks. Forall₂ (NodeRecord P) (map core (all-nodes .list)) (coreRecords arities ks masks)) (all-nodes .keys)
         (core-records arities ar (all-nodes .list) masks (all-nodes .inCore)
         (λ i n e. masked I n i (all-nodes .inCore n (element (all-nodes .list) i n e)) (key-at (all-nodes .list) nodes (all-nodes .keys) i n e))
         (let h = I .held .long in let q = length-map (all-nodes .list) keyOf in let k = ap length (all-nodes .keys) in omega arith)))
-        (each (setsFrom flags 0 typeSets) (λ j m. slot-in flags 0 typeSets j m))
+        (each sets)
       where
         join : (bs : List BuiltNode) (rs : List (List ℕ)) {cs : List BuiltNode} {ss : List (List ℕ)} → Forall₂ (NodeRecord P) bs rs
             → Forall₂ (NodeRecord P) cs ss → Forall₂ (NodeRecord P) (bs ++ cs) (rs ++ ss)
         join [] [] Forall₂·nil y = y
         join (b ∷ bs) (r ∷ rs) (Forall₂·cons x xs) y = Forall₂·cons x (join bs rs xs y)
 
-        each : (js : List ℕ) → ((j : ℕ) → j ∈ js → Slot flags 0 typeSets j) → Forall₂ (NodeRecord P) (map setNode js) (map setNumbers js)
-        each [] f = Forall₂·nil
-        each (j ∷ js) f =
-            let s = f j (here refl) in
-            Forall₂·cons (subst (λ x. NodeRecord P (setNode x) (setNumbers x)) (sym (s .is)) (set-record P (s .at) (let b = s .below in omega arith))) (each js (λ i m. f i (there m)))
+        each : (js : List ℕ) → Forall₂ (NodeRecord P) (map setNode js) (map setNumbers js)
+        each [] = Forall₂·nil
+        each (j ∷ js) = Forall₂·cons (set-record P j) (each js)
+
+    -- ---- the places of invented nodes
+
+    pub core-count : length (map core (all-nodes .list)) ≡ length nodes
+    core-count = length-map (all-nodes .list) core ∙ sym (length-map (all-nodes .list) keyOf) ∙ ap length (all-nodes .keys)
+
+    pub set-at : (i : ℕ) → i < length sets → getElem? inOrder (length nodes + i) ≡ some (setNode (getD sets i 0))
+    unfolding inOrder
+    set-at i h =
+        subst (λ n. getElem? (map core (all-nodes .list) ++ map setNode sets) (n + i) ≡ some (setNode (getD sets i 0))) core-count
+        (at-later (map core (all-nodes .list)) (map setNode sets) i ∙ entry-map setNode sets i (getD sets i 0) (entry-at sets i h))

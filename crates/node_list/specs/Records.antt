@@ -1,13 +1,18 @@
 -- Node records as code writes them, and lists of records in a lent slice. Assumes nothing.
+use lib.Count.{ones}
 use lib.Dec.{eqb, ltb}
-use lib.ListN.{getD, getElem?, length, set}
+use lib.ListN.{getD, getElem?, length, take}
 use mathlib.Core.Bool.{Bool, cond}
-use mathlib.Core.List.{List, [], _∷_, flatten, map}
+use mathlib.Core.List.{List, [], _∷_, _++_}
 use mathlib.Core.Option.{some}
 use mathlib.Core.Path.{_≡_}
-use Prim.Native.Nat.{ℕ, zero, suc, _+_, _*_, _-_, _/_, _%_, _^_, _<_}
-use Rattle.meaning.specs.Limits.{firstLiteral, literalWeight, maxValues, nodeWidth, termRoom, typeSets, unused}
+use Prim.Native.Nat.{ℕ, _+_, _*_, _-_, _/_, _%_, _^_, _<_, _≤_}
+use Rattle.meaning.specs.Limits.{firstLiteral, literalWeight, maxValues, termRoom, typeSets, unused, wordBits}
+use Rattle.meaning.specs.Member.{_∈_}
+use Rattle.meaning.specs.Ordered.{InOrder, ListOf}
 use Rattle.meaning.specs.Pack.{Constructor, Pack}
+use Rattle.meaning.specs.TypeSet.{TypeSet, bit}
+use Rattle.worklist.specs.Table.{InWord, Marked, mark}
 pub use Rattle.meaning.specs.Overwritten.{overwritten}
 
 -- an argument, or 65,535 where the constructor has none
@@ -42,34 +47,38 @@ coreRecords arities (k ∷ ks) (m ∷ masks) = coreNumbers arities k m ∷ coreR
 
 -- ---- the invented nodes: "kind 2, kind 3 by type set"
 
--- the set that comes k-th in node order: {Literal}, then the sets of types
+-- An invented node by the mask of its types: 0 is the invented literal, as no set is empty.
+unfoldable pub nodeSet : ℕ → TypeSet
+nodeSet k = record { literal = eqb k 0; mask = k }
+
+-- its set's number
 unfoldable pub slotOf : ℕ → ℕ
 slotOf k = cond (eqb k 0) typeSets k
 
--- of the n sets from the k-th on, those that are marked
-unfoldable pub setsFrom : List ℕ → ℕ → ℕ → List ℕ
-unfolding slotOf
-setsFrom flags k zero = []
-setsFrom flags k (suc n) = cond (eqb (getD flags (slotOf k) 0) 1) (slotOf k ∷ setsFrom flags (suc k) n) (setsFrom flags (suc k) n)
-
-unfoldable pub setList : List ℕ → List ℕ
-unfolding setsFrom
-setList flags = setsFrom flags 0 typeSets
-
 unfoldable pub setNumbers : ℕ → List ℕ
-setNumbers j = cond (eqb j typeSets) 2 3 ∷ 0 ∷ (j % typeSets) ∷ unused ∷ unused ∷ unused ∷ unused ∷ []
+setNumbers k = cond (eqb k 0) 2 3 ∷ 0 ∷ k ∷ unused ∷ unused ∷ unused ∷ unused ∷ []
 
--- A set gets a node's number and record if it is marked; otherwise nothing changes.
-pub record SetListed (flags : List ℕ) (j node : ℕ) (places places′ out out′ : List ℕ) (r : ℕ) : Type 0 where
-  pub yes : getD flags j 0 ≡ 1 → (r ≡ node + 1) × (places′ ≡ set places j node) × (out′ ≡ overwritten (node * nodeWidth) (setNumbers j) out)
-  pub no : ¬ (getD flags j 0 ≡ 1) → (r ≡ node) × (places′ ≡ places) × (out′ ≡ out)
+-- Bits of a word are the sets from w * 64 on that are marked.
+abbrev pub NodeWord : List ℕ → ℕ → ℕ → Type 0
+NodeWord flags w bits = (t : ℕ) → t < wordBits → bit t bits ≡ mark flags (slotOf (w * wordBits + t))
 
--- A marked set's node comes after the first as many as there are marked sets before it.
-pub record SetPlaces (flags : List ℕ) (first : ℕ) (places : List ℕ) : Type 0 where
-  pub are : (k : ℕ) → k < typeSets → getD flags (slotOf k) 0 ≡ 1 → getD places (slotOf k) 0 ≡ first + length (setsFrom flags 0 k)
+-- The numbers of the word w that the bits say stand, ascending, after the first `at`; there are r now.
+pub record WordListed (w bits at : ℕ) (sets sets′ : List ℕ) (r : ℕ) : Type 0 where
+  pub new : List ℕ
+  pub list : ListOf _<_ (InWord w bits) new
+  pub front : take r sets′ ≡ take at sets ++ new
+  pub count : r ≡ at + ones bits
 
--- The records of the marked sets stand from node `first` on, and each set has its node's number.
-pub record SetsListed (flags : List ℕ) (first : ℕ) (places′ out out′ : List ℕ) (r : ℕ) : Type 0 where
-  pub count : r ≡ first + length (setList flags)
-  pub nodes : out′ ≡ overwritten (first * nodeWidth) (flatten (map setNumbers (setList flags))) out
-  pub places : SetPlaces flags first places′
+-- The first r numbers are the marked sets in node order, by their masks.
+pub record NodeSets (flags sets : List ℕ) (r : ℕ) : Type 0 where
+  pub few : r ≤ typeSets
+  pub list : ListOf _<_ (λ k. Marked flags (slotOf k) × (k < typeSets)) (take r sets)
+
+-- Masks of types, ascending.
+pub record SetsFit (sets : List ℕ) : Type 0 where
+  pub ascend : InOrder _<_ sets
+  pub below : (k : ℕ) → k ∈ sets → k < typeSets
+
+-- The i-th set's node comes i-th after the first.
+pub record SetPlaces (sets : List ℕ) (first : ℕ) (places : List ℕ) : Type 0 where
+  pub are : (i : ℕ) → i < length sets → getD places (getD sets i 0) 0 ≡ first + i

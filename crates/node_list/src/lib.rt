@@ -1,20 +1,22 @@
 // Node records, written into a lent slice.
+ghost use lib.Count.{ones};
 ghost use lib.ListN.{length};
-ghost use mathlib.Core.List.{[], _∷_, flatten};
+ghost use mathlib.Core.List.{[], _∷_, flatten, map};
 ghost use mathlib.Core.Path.{_≡_};
 ghost use Prim.Native.Nat.{_+_, _*_, _<_, _≤_};
 ghost use Rattle.core_lists.specs.Input.{KeysSmall};
 ghost use Rattle.node_list.specs.NodeList.{NodesShown};
-ghost use Rattle.node_list.specs.Records.{overwritten, argumentAt, coreNumbers, coreRecords, slotOf, setNumbers, SetListed, SetPlaces, SetsListed};
-ghost use Rattle.meaning.specs.Limits.{firstLiteral, maxCoreNodes, maxNodes, maxValues, memberSets, nodeListLength, nodeWidth};
+ghost use Rattle.node_list.specs.Records.{argumentAt, coreNumbers, coreRecords, NodeSets, NodeWord, overwritten, setNumbers, SetPlaces, SetsFit, WordListed};
+ghost use Rattle.meaning.specs.Limits.{firstLiteral, maxCoreNodes, maxNodes, maxValues, nodeListLength, nodeWidth, setWords, typeSets};
 use meaning::Arities;
 use meaning::FIRST_LITERAL;
 use meaning::LITERAL_WEIGHT;
 use meaning::NODE_WIDTH;
+use meaning::SET_WORDS;
 use meaning::TERM_ROOM;
-use meaning::TYPE_SETS;
 use meaning::UNUSED;
 use meaning::VALUE_ROOM;
+use meaning::WORD_BITS;
 
 // How many lists of two and of three values there are.
 const TWO_VALUES: u64 = VALUE_ROOM * VALUE_ROOM;
@@ -94,69 +96,89 @@ fn list_core(arities: Arities, nodes: &[u64], masks: &[u16], out: &mut [u16])
     }
 }
 
-// The set that comes k-th in node order: {Literal}, then the sets of types.
-fn slot(k: usize) -> usize
-    ensures { λ r. ⌜ r ≡ slotOf k ⌝ }
+// The words of sets of types; {Literal} is the first set of the word after them.
+const TYPE_WORDS: usize = SET_WORDS / 2;
+
+// A word of the sets in node order: that of {Literal} has the place of the empty set, which has no node.
+fn node_word(flags: &[u64], w: usize) -> u64
+    requires { ⌜ (w < setWords) × (setWords ≤ length (now flags)) ⌝ }
+    ensures { λ r. ⌜ NodeWord (now (flags .entry)) w r ⌝ }
 {
-    if k == 0 {
-        return TYPE_SETS;
+    let bits = flags[w];
+    if w != 0 {
+        return bits;
     }
-    k
+    bits - bits % 2 + flags[TYPE_WORDS] % 2
+}
+
+// Writes the numbers of the word w that the bits say after the first `at`; returns how many there are then.
+fn list_word(w: usize, bits: u64, at: usize, sets: &mut [u16]) -> usize
+    requires { ⌜ (w < setWords) × (at + ones bits ≤ typeSets) × (typeSets ≤ length (now sets)) ⌝ }
+    ensures { λ r. ⌜ WordListed w bits at (now (sets .entry)) (now (sets .exit)) r ⌝ }
+{
+    let mut end = at;
+    let mut left = bits;
+    while left != 0 {
+        sets[end] = (w * WORD_BITS + u64::trailing_zeros(left) as usize) as u16;
+        left &= left - 1;
+        end += 1;
+    }
+    end
+}
+
+// Writes the marked sets in node order, each as the mask of its types: 0 is {Literal}. Returns how many there are.
+pub fn node_sets(flags: &[u64], sets: &mut [u16]) -> usize
+    requires { ⌜ (setWords ≤ length (now flags)) × (typeSets ≤ length (now sets)) ⌝ }
+    ensures { λ r. ⌜ NodeSets (now (flags .entry)) (now (sets .exit)) r ⌝ }
+{
+    let mut count = 0;
+    for w in 0..TYPE_WORDS {
+        count = list_word(w, node_word(flags, w), count, sets);
+    }
+    count
 }
 
 // Writes the record of an invented node.
-fn write_set(set: usize, node: usize, out: &mut [u16])
-    requires { ⌜ (set < memberSets) × (node < maxNodes) × (node * nodeWidth + nodeWidth ≤ length (now out)) ⌝ }
-    ensures { λ _. ⌜ now (out .exit) ≡ overwritten (node * nodeWidth) (setNumbers set) (now (out .entry)) ⌝ }
+fn write_set(types: u16, node: usize, out: &mut [u16])
+    requires { ⌜ (node < maxNodes) × (node * nodeWidth + nodeWidth ≤ length (now out)) ⌝ }
+    ensures { λ _. ⌜ now (out .exit) ≡ overwritten (node * nodeWidth) (setNumbers types) (now (out .entry)) ⌝ }
 {
     let at = node * NODE_WIDTH;
-    let types = (set % TYPE_SETS) as u16;
-    if set == TYPE_SETS {
+    if types == 0 {
         write_node(out, at, 2, 0, types, UNUSED, UNUSED, UNUSED, UNUSED);
         return;
     }
     write_node(out, at, 3, 0, types, UNUSED, UNUSED, UNUSED, UNUSED);
 }
 
-// Writes the record and the number of a set, if it is marked; returns the next number.
-fn list_set(flags: &[u16], set: usize, node: usize, places: &mut [u16], out: &mut [u16]) -> usize
-    requires { ⌜ (set < memberSets) × (memberSets ≤ length (now flags)) × (memberSets ≤ length (now places)) × (node < maxNodes) × (nodeListLength ≤ length (now out)) ⌝ }
-    ensures { λ r. ⌜ SetListed (now (flags .entry)) set node (now (places .entry)) (now (places .exit)) (now (out .entry)) (now (out .exit)) r ⌝ }
+// Writes the records of the invented nodes from a node number on, and the number of each.
+fn list_sets(sets: &[u16], first: usize, places: &mut [u16], out: &mut [u16])
+    requires { ⌜ SetsFit (now sets) × (typeSets ≤ length (now places)) × (first ≤ maxCoreNodes) × (nodeListLength ≤ length (now out)) ⌝ }
+    ensures { λ _. ⌜ (now (out .exit) ≡ overwritten (first * nodeWidth) (flatten (map setNumbers (now (sets .entry)))) (now (out .entry)))
+        × SetPlaces (now (sets .entry)) first (now (places .exit)) ⌝ }
 {
-    if flags[set] != 1 {
-        return node;
+    for i in 0..sets.len() {
+        let types = sets[i];
+        write_set(types, first + i, out);
+        places[types as usize] = (first + i) as u16;
     }
-    write_set(set, node, out);
-    places[set] = node as u16;
-    node + 1
 }
 
-// Writes the records of the invented nodes from a node number on, and the number of each set; returns the next number.
-fn list_sets(flags: &[u16], first: usize, places: &mut [u16], out: &mut [u16]) -> usize
-    requires { ⌜ (memberSets ≤ length (now flags)) × (memberSets ≤ length (now places)) × (first ≤ maxCoreNodes) × (nodeListLength ≤ length (now out)) ⌝ }
-    ensures { λ r. ⌜ SetsListed (now (flags .entry)) first (now (places .exit)) (now (out .entry)) (now (out .exit)) r ⌝ }
-{
-    let mut node = first;
-    for k in 0..TYPE_SETS {
-        node = list_set(flags, slot(k), node, places, out);
-    }
-    node
-}
-
-// Writes the records of all nodes in node order, and the number of each invented set; returns how many nodes there are.
+// Writes the records of all nodes in node order, and the number of each invented one; returns how many nodes there are.
 pub fn list_nodes(
     arities: Arities,
     nodes: &[u64],
     masks: &[u16],
-    flags: &[u16],
+    sets: &[u16],
     places: &mut [u16],
     out: &mut [u16],
 ) -> usize
     requires { ⌜ KeysSmall (now nodes) × (length (now nodes) ≤ maxCoreNodes) × (length (now nodes) ≤ length (now masks))
-        × (memberSets ≤ length (now flags)) × (memberSets ≤ length (now places)) × (nodeListLength ≤ length (now out)) ⌝ }
-    ensures { λ r. ⌜ NodesShown arities (now (nodes .entry)) (now (masks .entry)) (now (flags .entry)) (now (places .exit)) (now (out .entry))
-        (now (out .exit)) r × SetPlaces (now (flags .entry)) (length (now (nodes .entry))) (now (places .exit)) ⌝ }
+        × SetsFit (now sets) × (typeSets ≤ length (now places)) × (nodeListLength ≤ length (now out)) ⌝ }
+    ensures { λ r. ⌜ NodesShown arities (now (nodes .entry)) (now (masks .entry)) (now (sets .entry)) (now (out .entry)) (now (out .exit)) r
+        × SetPlaces (now (sets .entry)) (length (now (nodes .entry))) (now (places .exit)) ⌝ }
 {
     list_core(arities, nodes, masks, out);
-    list_sets(flags, nodes.len(), places, out)
+    list_sets(sets, nodes.len(), places, out);
+    nodes.len() + sets.len()
 }

@@ -5,20 +5,22 @@ use lib.ListN.{getD, length, length-map}
 use mathlib.Core.Bool.{Bool, true, false, cond}
 use mathlib.Core.List.{List, [], _∷_, map, Memᴰ·map as ∈-map, flatten}
 use mathlib.Core.Path.{_≡_, refl, sym, ap, subst, subst₂, _∙_}
+use native.Mathlib.Numerals.{add-one}
 use native.Mathlib.Omega.{arith}
-use Prim.Native.Nat.{ℕ, _+_, _*_, _-_, _^_, _<_, _≤_}
+use Prim.Native.Nat.{ℕ, min, suc, zero, _+_, _*_, _-_, _%_, _^_, _<_, _≤_}
 use Rattle.core.specs.Keys.{objectOf, originAt, originOf}
 use Rattle.invent.specs.Invent.{Upto, numberOf}
-use Rattle.node_list.specs.Records.{overwritten}
-use Rattle.triple_list.specs.Triples.{EdgeFrom, EdgesListed, RecordsListed, SetEdge, SetsPlaced, SubjectEdge, edgeRecord, edgeRecords, gotten, present}
+use Rattle.node_list.specs.Records.{SetsFit, overwritten}
+use Rattle.triple_list.specs.Triples.{EdgeFrom, EdgesListed, NodeEdge, RecordsListed, SubjectEdge, SubjectsBelow, edgeRecord, edgeRecords, gotten, present}
 use Rattle.triple_list.proofs.ListedLaws.{listed-iff, listed-none}
-use Rattle.invent.proofs.Marks.{only, targets-set}
+use Rattle.invent.proofs.Marks.{leads-there, only}
 use Rattle.core_lists.proofs.Origin.{group-in, group-only, keys-all, keys-le, keys-mono, keys-next, origin-none, origin-some}
-use Rattle.invent.proofs.SetNumbers.{number-lt}
 use Rattle.core_lists.proofs.Shaped.{requires-shape}
 use Rattle.core_lists.specs.Origin.{group, HasOrigin, keysBefore}
 use Rattle.meaning.proofs.Lists.Members.{∈-map⁻¹}
+use Rattle.meaning.proofs.Lists.OrderedPlaces.{greater-later}
 use Rattle.meaning.proofs.Lists.Overwriting.{nothing-written}
+use Rattle.meaning.proofs.Lists.Places.{∈-at}
 use Rattle.meaning.specs.Limits.{maxCoreTriples, maxIris, maxPredicates, maxTriples, typeSets}
 use Rattle.meaning.specs.Member.{_∈_, here, there}
 use Rattle.meaning.specs.Ordered.{InOrder, _≺_, before, empty, equal, less}
@@ -43,16 +45,43 @@ module _ (ks : List ℕ) (few : length ks ≤ maxCoreTriples) (s triple at : ℕ
   iri-end h e = let k = keys-le (originAt s 0) ks in omega arith
 
 -- an invented subject has none of the core's
-module _ {triples flags places : List ℕ} (pl : SetsPlaced triples flags places) (j : ℕ) (p : 0 < j) (h : j < typeSets) (m : getD flags j 0 ≡ 1) where
-  pub set-at : length triples ≡ keysBefore (originAt (getD places j 0) 0) triples
-  set-at = sym (keys-all (originAt (getD places j 0) 0) triples (λ k i. let s = pl .above j k p h m i in omega arith))
+pub none-of : (triples : List ℕ) (node : ℕ) → SubjectsBelow triples node → length triples ≡ keysBefore (originAt node 0) triples
+none-of triples node h = sym (keys-all (originAt node 0) triples (λ k i. let s = h k i in omega arith))
+
+-- The number of the set before place i, or 0: nodes that have edges come after it.
+unfoldable pub lastBefore : List ℕ → ℕ → ℕ
+lastBefore sets zero = 0
+lastBefore sets (suc i) = getD sets i 0
+
+module _ {sets : List ℕ} (f : SetsFit sets) where
+  last-next : (i : ℕ) → i < length sets → lastBefore sets i + min 1 (getD sets i 0) ≤ getD sets i 0
+  unfolding lastBefore
+  last-next zero h = omega arith
+  last-next (suc i) h = let a = greater-later sets (f .ascend) i (suc i) (omega arith) h in omega arith
+
+  last-below : (i : ℕ) → i ≤ length sets → lastBefore sets i < typeSets
+  unfolding lastBefore
+  last-below zero h = omega arith
+  last-below (suc i) h = f .below (getD sets i 0) (∈-at sets i h)
+
+  -- each has at most one edge for a predicate
+  pub set-room : (i next first : ℕ) → i < length sets → next ≤ first + lastBefore sets i * maxPredicates → next + maxPredicates ≤ first + (typeSets - 1) * maxPredicates
+  set-room i next first h l = let a = last-next i h in let b = f .below (getD sets i 0) (∈-at sets i h) in omega arith
+
+  pub set-after : (i next r first : ℕ) → i < length sets → next ≤ first + lastBefore sets i * maxPredicates → r ≤ next + min 1 (getD sets i 0) * maxPredicates
+      → r ≤ first + lastBefore sets (i + 1) * maxPredicates
+  unfolding lastBefore
+  set-after i next r first h l m = let a = last-next i h in let e : lastBefore sets (i + 1) ≡ getD sets i 0 = ap (lastBefore sets) (add-one i) in omega arith
+
+  pub sets-end : (i next first : ℕ) → i ≤ length sets → next ≤ first + lastBefore sets i * maxPredicates → next ≤ first + (typeSets - 1) * maxPredicates
+  sets-end i next first h l = let b = last-below i h in omega arith
 
 -- ---- order
 
 module _ {P : Pack} {triples places : List ℕ} where
   edge-form : {s mask p : ℕ} {x : List ℕ} → EdgeFrom P triples places s mask p x → (o : ℕ) × (x ≡ s ∷ p ∷ o ∷ [])
   edge-form (present k m e q) = (objectOf k, q)
-  edge-form (gotten j l q) = (getD places j 0, q)
+  edge-form (gotten j l q) = (getD places (j % typeSets) 0, q)
 
   pub by-predicate : {s mask p r : ℕ} → p < r → (x y : List ℕ) → EdgeFrom P triples places s mask p x → EdgeFrom P triples places s mask r y → x ≺ y
   by-predicate h x y e f = let a = edge-form e in let b = edge-form f in subst₂ _≺_ (sym (a .1)) (sym (b .1)) (equal refl (less h))
@@ -140,14 +169,14 @@ module _ (table : List (List ℕ)) (triples places : List ℕ) (a : InOrder _<_ 
         none P h x (present k m o q) = no-origin (record { key = k; listed = m; is = o })
         none P h x (gotten j l q) = subst T f (shown (P .setting) h .1 (requires-shape P mask p .1 (l .leads .needs)))
 
-    pub origin-gets : (r : Bool) → r ≡ true → SomePasses requires table mask p r → (m : ℕ) → m < 2 ^ 16 → TargetsOf table mask p m → (set : ℕ) → set ≡ numberOf m
-        → (out₂ : List ℕ) → out₂ ≡ overwritten (first * 3) (s ∷ p ∷ getD places set 0 ∷ []) out₁
+    pub origin-gets : (r : Bool) → r ≡ true → SomePasses requires table mask p r → (m : ℕ) → m < 2 ^ 16 → TargetsOf table mask p m
+        → (out₂ : List ℕ) → out₂ ≡ overwritten (first * 3) (s ∷ p ∷ getD places (m % typeSets) 0 ∷ []) out₁
         → RecordsListed table Edge first out out₂ (first + 1) × (first + 1 + from ≤ first + 1 + at) × (at ≡ keysBefore (originAt s p + 1) triples)
     unfolding flatten
-    origin-gets r t shown m small ts set is out₂ w = (
+    origin-gets r t shown m small ts out₂ w = (
       record {
-        records = (s ∷ p ∷ getD places set 0 ∷ []) ∷ [];
-        are = λ P h. record { ascending = before {x = s ∷ p ∷ getD places set 0 ∷ []} {xs = []} (λ y i. elim i [ ]) empty; members = λ x. (forth P h x, λ q. here (back P h x q)) };
+        records = (s ∷ p ∷ getD places (m % typeSets) 0 ∷ []) ∷ [];
+        are = λ P h. record { ascending = before {x = s ∷ p ∷ getD places (m % typeSets) 0 ∷ []} {xs = []} (λ y i. elim i [ ]) empty; members = λ x. (forth P h x, λ q. here (back P h x q)) };
         long = refl;
         count = refl;
         written = w ∙ rw out-same refl;
@@ -156,38 +185,27 @@ module _ (table : List (List ℕ)) (triples places : List ℕ) (a : InOrder _<_ 
       passed,
     )
       where
-        forth : (P : Pack) → Tabled (P .setting) table → (x : List ℕ) → x ∈ ((s ∷ p ∷ getD places set 0 ∷ []) ∷ []) → Edge P x
+        same-mask : numberOf m % typeSets ≡ m % typeSets
+        same-mask = omega arith
+
+        forth : (P : Pack) → Tabled (P .setting) table → (x : List ℕ) → x ∈ ((s ∷ p ∷ getD places (m % typeSets) 0 ∷ []) ∷ []) → Edge P x
         forth P h x (here q) =
-            gotten (numberOf m) (record {
-              none = no-origin;
-              leads = record {
-                small = number-lt m small;
-                needs = requires-shape P mask p .0 (shown (P .setting) h .0 (subst T (sym t) tt));
-                targets = targets-set table mask p [] r t shown m small ts P h;
-              };
-            })
-            (q ∙ ap (λ (j : ℕ). s ∷ p ∷ getD places j 0 ∷ []) is)
+            gotten (numberOf m) (record { none = no-origin; leads = leads-there small ts P h r t shown }) (q ∙ ap (λ (j : ℕ). s ∷ p ∷ getD places j 0 ∷ []) (sym same-mask))
         forth P h x (there i) = elim i [ ]
 
-        back : (P : Pack) → Tabled (P .setting) table → (x : List ℕ) → Edge P x → x ≡ s ∷ p ∷ getD places set 0 ∷ []
+        back : (P : Pack) → Tabled (P .setting) table → (x : List ℕ) → Edge P x → x ≡ s ∷ p ∷ getD places (m % typeSets) 0 ∷ []
         back P h x (present k i o q) = absurd (no-origin (record { key = k; listed = i; is = o }))
-        back P h x (gotten j l q) =
-            let n = only table mask p [] r t shown m small ts P h j (l .leads) in
-            q ∙ ap (λ (i : ℕ). s ∷ p ∷ getD places i 0 ∷ []) (n ∙ sym is)
+        back P h x (gotten j l q) = q ∙ ap (λ (i : ℕ). s ∷ p ∷ getD places i 0 ∷ []) (ap (λ i. i % typeSets) (only small ts P h j (l .leads)) ∙ same-mask)
 
--- ---- the edges of a set
+-- ---- the edges of an invented node
 
-module _ (table : List (List ℕ)) (triples flags places : List ℕ) (j first : ℕ) where
-  pub set-unmarked : (out : List ℕ) → (getD flags j 0 ≡ 1 → ⊥) → RecordsListed table (λ P. SetEdge triples flags places P j) first out out first × (first ≤ first + maxPredicates)
-  set-unmarked out n = (listed-none first out (λ P h x e. n (e .marked)), omega arith)
+module _ {table : List (List ℕ)} {triples places : List ℕ} {node types first : ℕ} where
+  pub node-none : (out : List ℕ) → types ≡ 0 → RecordsListed table (NodeEdge triples places node types) first out out first × (first ≤ first + min 1 types * maxPredicates)
+  node-none out n = (listed-none first out (λ P h x e. let s = e .some-type in omega arith), omega arith)
 
-  pub set-marked : {out out′ : List ℕ} {r : ℕ} → 0 < j → getD flags j 0 ≡ 1 → RecordsListed table (λ P. SubjectEdge P triples places (getD places j 0) j) first out out′ r
-      → RecordsListed table (λ P. SetEdge triples flags places P j) first out out′ r
-  set-marked p m l = listed-iff (λ P x. (λ e. record { some-type = p; marked = m; edge = e }, λ (e : SetEdge triples flags places P j x). e .edge)) l
+  pub node-some : {out out′ : List ℕ} {r : ℕ} → 0 < types → RecordsListed table (λ P. SubjectEdge P triples places node types) first out out′ r
+      → RecordsListed table (NodeEdge triples places node types) first out out′ r
+  node-some s l = listed-iff (λ P x. (λ e. record { some-type = s; edge = e }, λ (e : NodeEdge triples places node types P x). e .edge)) l
 
-  pub sets-start : (out : List ℕ) → RecordsListed table (λ P. Upto (SetEdge triples flags places P) 1) first out out first
-  sets-start out = listed-none first out (λ P h x u. let b = u .below in let s = u .holds .some-type in omega arith)
-
-pub by-set : {triples flags places : List ℕ} → SetsPlaced triples flags places → (P : Pack) (j : ℕ) → j < typeSets → (i : ℕ) → i < j → (x y : List ℕ)
-    → SetEdge triples flags places P i x → SetEdge triples flags places P j y → x ≺ y
-by-set pl P j h i l x y e f = by-subject (pl .ascend i j (e .some-type) l h (e .marked) (f .marked)) x y (e .edge) (f .edge)
+pub by-set : {triples places : List ℕ} {m n s t : ℕ} {P : Pack} → m < n → (x y : List ℕ) → NodeEdge triples places m s P x → NodeEdge triples places n t P y → x ≺ y
+by-set h x y e f = by-subject h x y (e .edge) (f .edge)

@@ -1,5 +1,4 @@
 pub mod GroupLaws
 pub mod ListedLaws
 pub mod EdgeLaws
-pub mod SetOrder
 pub mod TripleLaws

@@ -3,20 +3,20 @@
 use lib.ListN.{drop, getD, length}
 use mathlib.Core.List.{List, [], _∷_, _++_, map, flatten}
 use mathlib.Core.Path.{_≡_}
-use Prim.Native.Nat.{ℕ, _+_, _*_, _≤_, _<_}
+use Prim.Native.Nat.{ℕ, _+_, _*_, _%_, _≤_, _<_}
 use Rattle.core.specs.Keys.{objectOf, originAt, originOf, subjectOf}
 use Rattle.core_lists.specs.Input.{Input}
 use Rattle.core_lists.specs.Origin.{group}
-use Rattle.invent.specs.Invent.{InventedSets, Lacks, Upto}
+use Rattle.invent.specs.Invent.{Lacks, Upto}
 use Rattle.node_list.specs.Records.{overwritten}
 use Rattle.meaning.specs.Built.{BuiltNode}
-use Rattle.meaning.specs.Limits.{firstLiteral, maxNodes, maxPredicates, maxTriples, tripleWidth, typeSets}
+use Rattle.meaning.specs.Limits.{firstLiteral, maxPredicates, maxTriples, tripleWidth, typeSets}
 use Rattle.meaning.specs.Listing.{NodesInOrder, TripleRecord}
 use Rattle.meaning.specs.Member.{_∈_}
 use Rattle.meaning.specs.NoGraph.{MixedKinds}
 use Rattle.meaning.specs.Ordered.{ListOf, _≺_}
 use Rattle.meaning.specs.Pack.{Pack}
-use Rattle.node_list.specs.NodeList.{SetsNumbered}
+use Rattle.node_list.specs.NodeList.{InventedNodes}
 use Rattle.sets.specs.Ordered.{rankOf}
 use Rattle.shapes.specs.Shapes.{Tabled}
 
@@ -37,10 +37,10 @@ pub record EdgesListed (triples : List ℕ) (s p from first : ℕ) (out out′ :
 -- ---- all edges
 
 -- The record of a p-edge of node s, whose types the mask holds: of one of the core's triples, or of the edge that the node
--- gets to the invented node of its p-targets.
+-- gets to the invented node of its p-targets, whose number is found by its mask.
 pub data EdgeFrom (P : Pack) (triples places : List ℕ) (s mask p : ℕ) (x : List ℕ) : Type 0 where
   present : (k : ℕ) → k ∈ triples → originOf k ≡ originAt s p → x ≡ edgeRecord s p k → EdgeFrom P triples places s mask p x
-  gotten : (j : ℕ) → Lacks P triples s mask p j → x ≡ s ∷ p ∷ getD places j 0 ∷ [] → EdgeFrom P triples places s mask p x
+  gotten : (j : ℕ) → Lacks P triples s mask p j → x ≡ s ∷ p ∷ getD places (j % typeSets) 0 ∷ [] → EdgeFrom P triples places s mask p x
 
 -- for some predicate
 abbrev pub SubjectEdge : Pack → List ℕ → List ℕ → ℕ → ℕ → List ℕ → Type 0
@@ -50,17 +50,18 @@ SubjectEdge P triples places s mask = Upto (EdgeFrom P triples places s mask) ma
 abbrev pub IriEdge : List ℕ → List ℕ → List ℕ → List ℕ → Pack → List ℕ → Type 0
 IriEdge nodes triples masks places P = Upto (λ s. SubjectEdge P triples places s (getD masks s 0)) (rankOf firstLiteral nodes)
 
--- of a marked set of types
-pub record SetEdge (triples flags places : List ℕ) (P : Pack) (j : ℕ) (x : List ℕ) : Type 0 where
-  pub some-type : 0 < j
-  pub marked : getD flags j 0 ≡ 1
-  pub edge : SubjectEdge P triples places (getD places j 0) j x
+-- of an invented node by its mask; the invented literal, which is 0, has none
+pub record NodeEdge (triples places : List ℕ) (node types : ℕ) (P : Pack) (x : List ℕ) : Type 0 where
+  pub some-type : 0 < types
+  pub edge : SubjectEdge P triples places node types x
 
--- The marked sets' numbers come after those of the core's subjects, and ascend.
-pub record SetsPlaced (triples flags places : List ℕ) : Type 0 where
-  pub above : (j k : ℕ) → 0 < j → j < typeSets → getD flags j 0 ≡ 1 → k ∈ triples → subjectOf k < getD places j 0
-  pub below : (j : ℕ) → 0 < j → j < typeSets → getD flags j 0 ≡ 1 → getD places j 0 < maxNodes
-  pub ascend : (i j : ℕ) → 0 < i → i < j → j < typeSets → getD flags i 0 ≡ 1 → getD flags j 0 ≡ 1 → getD places i 0 < getD places j 0
+-- of the i-th, whose number comes i-th after the first
+abbrev pub SetEdge : List ℕ → List ℕ → List ℕ → ℕ → Pack → ℕ → List ℕ → Type 0
+SetEdge triples sets places first P i = NodeEdge triples places (first + i) (getD sets i 0) P
+
+-- The core's subjects come before this number.
+abbrev pub SubjectsBelow : List ℕ → ℕ → Type 0
+SubjectsBelow triples node = (k : ℕ) → k ∈ triples → subjectOf k < node
 
 -- The records of Q, in order, stand from triple `first` on; the next number is r.
 pub record RecordsListed (table : List (List ℕ)) (Q : Pack → List ℕ → Type 0) (first : ℕ) (out out′ : List ℕ) (r : ℕ) : Type 0 where
@@ -80,7 +81,7 @@ pub record TriplesListed (P : Pack) (inOrder : List BuiltNode) (out out′ : Lis
   pub few : count ≤ maxTriples
   pub written : out′ ≡ flatten records ++ drop (count * tripleWidth) out
 
-abbrev pub TriplesShown : List (List ℕ) → List ℕ → List ℕ → List ℕ → List ℕ → List ℕ → List ℕ → List ℕ → ℕ → Type 0
-TriplesShown table nodes triples masks flags places out out′ count =
-    (P : Pack) → Input P table nodes triples masks → InventedSets P flags → ¬ MixedKinds P
-    → (inOrder : List BuiltNode) → NodesInOrder P inOrder → SetsNumbered inOrder places → TriplesListed P inOrder out out′ count
+abbrev pub TriplesShown : List (List ℕ) → List ℕ → List ℕ → List ℕ → List ℕ → List ℕ → List ℕ → ℕ → Type 0
+TriplesShown table nodes triples masks sets out out′ count =
+    (P : Pack) → Input P table nodes triples masks → InventedNodes P sets → ¬ MixedKinds P → (inOrder : List BuiltNode) → NodesInOrder P inOrder
+    → TriplesListed P inOrder out out′ count

@@ -2,18 +2,17 @@
 ghost use lib.ListN.{length};
 ghost use mathlib.Core.List.{[], _∷_};
 ghost use mathlib.Core.Path.{_≡_};
-ghost use Prim.Native.Nat.{_+_, _*_, _<_, _≤_};
+ghost use Prim.Native.Nat.{min, _+_, _*_, _<_, _≤_};
 ghost use Rattle.core.specs.Keys.{originAt};
 ghost use Rattle.core_lists.specs.Input.{CoreFits};
 ghost use Rattle.core_lists.specs.Origin.{keysBefore};
 ghost use Rattle.invent.specs.Invent.{Upto};
-ghost use Rattle.node_list.specs.Records.{SetPlaces, overwritten};
-ghost use Rattle.triple_list.specs.Triples.{EdgeFrom, EdgesListed, IriEdge, RecordsListed, SetEdge, SetsPlaced, SubjectEdge, TriplesShown};
-ghost use Rattle.meaning.specs.Limits.{maxCoreTriples, maxIris, maxNodes, maxPredicates, maxTriples, memberSets, tripleListLength, tripleWidth, typeSets};
+ghost use Rattle.node_list.specs.Records.{SetPlaces, SetsFit, overwritten};
+ghost use Rattle.triple_list.specs.Triples.{EdgeFrom, EdgesListed, IriEdge, NodeEdge, RecordsListed, SetEdge, SubjectEdge, SubjectsBelow, TriplesShown};
+ghost use Rattle.meaning.specs.Limits.{maxCoreNodes, maxCoreTriples, maxIris, maxNodes, maxPredicates, maxTriples, tripleListLength, tripleWidth, typeSets};
 ghost use Rattle.meaning.specs.Ordered.{InOrder};
 ghost use Rattle.shapes.specs.Shapes.{CodesFit};
 use core_lists::PREDICATES;
-use invent::set_number;
 use meaning::FIRST_LITERAL;
 use meaning::MAX_PREDICATES;
 use meaning::PLACE_ROOM;
@@ -23,6 +22,9 @@ use meaning::TYPE_SETS;
 use sets::ordered::rank;
 use shapes::required;
 use shapes::targets;
+
+// How many sets of types there are, as masks have them.
+const SETS: u16 = TYPE_SETS as u16;
 
 // Writes a triple's three numbers at its place.
 fn write_triple(out: &mut [u16], triple: usize, subject: u16, predicate: u16, object: u16)
@@ -85,7 +87,7 @@ fn list_origin(
     next: Next,
     out: &mut [u16],
 ) -> Next
-    requires { ⌜ InOrder _<_ (now triples) × (memberSets ≤ length (now places)) × (subject < maxNodes) × (p < maxPredicates)
+    requires { ⌜ InOrder _<_ (now triples) × (typeSets ≤ length (now places)) × (subject < maxNodes) × (p < maxPredicates)
         × (next .at ≡ keysBefore (originAt subject p) (now triples))
         × (next .triple + keysBefore (originAt subject p + 1) (now triples) + 1 ≤ maxTriples + next .at) × (tripleListLength ≤ length (now out))
         × CodesFit (now shapes) ⌝ }
@@ -105,8 +107,8 @@ fn list_origin(
     if !required(shapes, mask, p) {
         return next;
     }
-    let set = set_number(targets(shapes, mask, p));
-    write_triple(out, first, subject as u16, p as u16, places[set]);
+    let types = (targets(shapes, mask, p) % SETS) as usize;
+    write_triple(out, first, subject as u16, p as u16, places[types]);
     Next {
         triple: first + 1,
         at,
@@ -123,7 +125,7 @@ fn list_subject(
     first: Next,
     out: &mut [u16],
 ) -> Next
-    requires { ⌜ InOrder _<_ (now triples) × (memberSets ≤ length (now places)) × (subject < maxNodes)
+    requires { ⌜ InOrder _<_ (now triples) × (typeSets ≤ length (now places)) × (subject < maxNodes)
         × (first .at ≡ keysBefore (originAt subject 0) (now triples))
         × (first .triple + maxPredicates + keysBefore (originAt subject maxPredicates) (now triples) ≤ maxTriples + first .at)
         × (tripleListLength ≤ length (now out)) × CodesFit (now shapes) ⌝ }
@@ -148,7 +150,7 @@ fn list_iris(
     places: &[u16],
     out: &mut [u16],
 ) -> usize
-    requires { ⌜ CoreFits (now nodes) (now triples) (now masks) × (memberSets ≤ length (now places)) × (tripleListLength ≤ length (now out)) × CodesFit (now shapes) ⌝ }
+    requires { ⌜ CoreFits (now nodes) (now triples) (now masks) × (typeSets ≤ length (now places)) × (tripleListLength ≤ length (now out)) × CodesFit (now shapes) ⌝ }
     ensures { λ r. ⌜ RecordsListed (now (shapes .entry))
         (IriEdge (now (nodes .entry)) (now (triples .entry)) (now (masks .entry)) (now (places .entry))) 0 (now (out .entry)) (now (out .exit)) r
         × (r ≤ maxCoreTriples + maxIris * maxPredicates) ⌝ }
@@ -162,53 +164,51 @@ fn list_iris(
     next.triple
 }
 
-// Those of a set of types, if it is marked: its node comes after all subjects of the core.
+// Those of an invented node, which comes after all subjects of the core: the invented literal has no edges.
 fn list_set_edges(
     shapes: &ShapeTable,
     triples: &[u64],
-    flags: &[u16],
     places: &[u16],
-    set: usize,
+    node: usize,
+    types: u16,
     first: usize,
     out: &mut [u16],
 ) -> usize
-    requires { ⌜ SetsPlaced (now triples) (now flags) (now places) × InOrder _<_ (now triples) × (memberSets ≤ length (now flags))
-        × (memberSets ≤ length (now places)) × (0 < set) × (set < typeSets) × (first + maxPredicates ≤ maxTriples) × (tripleListLength ≤ length (now out))
-        × CodesFit (now shapes) ⌝ }
-    ensures { λ r. ⌜ RecordsListed (now (shapes .entry)) (λ P. SetEdge (now (triples .entry)) (now (flags .entry)) (now (places .entry)) P set) first
-        (now (out .entry)) (now (out .exit)) r × (r ≤ first + maxPredicates) ⌝ }
+    requires { ⌜ InOrder _<_ (now triples) × SubjectsBelow (now triples) node × (typeSets ≤ length (now places)) × (node < maxNodes)
+        × (first + maxPredicates ≤ maxTriples) × (tripleListLength ≤ length (now out)) × CodesFit (now shapes) ⌝ }
+    ensures { λ r. ⌜ RecordsListed (now (shapes .entry)) (NodeEdge (now (triples .entry)) (now (places .entry)) node types) first
+        (now (out .entry)) (now (out .exit)) r × (r ≤ first + min 1 types * maxPredicates) ⌝ }
 {
-    if flags[set] != 1 {
+    if types == 0 {
         return first;
     }
-    let subject = places[set] as usize;
     let from = Next {
         triple: first,
         at: triples.len(),
     };
-    let next = list_subject(shapes, triples, places, subject, set as u16, from, out);
+    let next = list_subject(shapes, triples, places, node, types, from, out);
     next.triple
 }
 
-// Those of every marked set of types: the invented literal has no edges.
+// Those of every invented node, from a node number on.
 fn list_sets_edges(
     shapes: &ShapeTable,
     triples: &[u64],
-    flags: &[u16],
+    sets: &[u16],
     places: &[u16],
+    node: usize,
     first: usize,
     out: &mut [u16],
 ) -> usize
-    requires { ⌜ SetsPlaced (now triples) (now flags) (now places) × InOrder _<_ (now triples) × (memberSets ≤ length (now flags))
-        × (memberSets ≤ length (now places)) × (first ≤ maxCoreTriples + maxIris * maxPredicates) × (tripleListLength ≤ length (now out))
-        × CodesFit (now shapes) ⌝ }
+    requires { ⌜ InOrder _<_ (now triples) × SubjectsBelow (now triples) node × SetsFit (now sets) × (typeSets ≤ length (now places))
+        × (node ≤ maxCoreNodes) × (first ≤ maxCoreTriples + maxIris * maxPredicates) × (tripleListLength ≤ length (now out)) × CodesFit (now shapes) ⌝ }
     ensures { λ r. ⌜ RecordsListed (now (shapes .entry))
-        (λ P. Upto (SetEdge (now (triples .entry)) (now (flags .entry)) (now (places .entry)) P) typeSets) first (now (out .entry)) (now (out .exit)) r
-        × (r ≤ maxTriples) ⌝ }
+        (λ P. Upto (SetEdge (now (triples .entry)) (now (sets .entry)) (now (places .entry)) node P) (length (now (sets .entry)))) first
+        (now (out .entry)) (now (out .exit)) r × (r ≤ maxTriples) ⌝ }
 {
     let mut next = first;
-    for j in 1..TYPE_SETS {
-        next = list_set_edges(shapes, triples, flags, places, j, next, out);
+    for i in 0..sets.len() {
+        next = list_set_edges(shapes, triples, places, node + i, sets[i], next, out);
     }
     next
 }
@@ -219,15 +219,15 @@ pub fn list_triples(
     nodes: &[u64],
     triples: &[u64],
     masks: &[u16],
-    flags: &[u16],
+    sets: &[u16],
     places: &[u16],
     out: &mut [u16],
 ) -> usize
-    requires { ⌜ CoreFits (now nodes) (now triples) (now masks) × SetPlaces (now flags) (length (now nodes)) (now places)
-        × (memberSets ≤ length (now flags)) × (memberSets ≤ length (now places)) × (tripleListLength ≤ length (now out)) × CodesFit (now shapes) ⌝ }
-    ensures { λ r. ⌜ TriplesShown (now (shapes .entry)) (now (nodes .entry)) (now (triples .entry)) (now (masks .entry)) (now (flags .entry))
-        (now (places .entry)) (now (out .entry)) (now (out .exit)) r ⌝ }
+    requires { ⌜ CoreFits (now nodes) (now triples) (now masks) × SetsFit (now sets) × SetPlaces (now sets) (length (now nodes)) (now places)
+        × (typeSets ≤ length (now places)) × (tripleListLength ≤ length (now out)) × CodesFit (now shapes) ⌝ }
+    ensures { λ r. ⌜ TriplesShown (now (shapes .entry)) (now (nodes .entry)) (now (triples .entry)) (now (masks .entry)) (now (sets .entry))
+        (now (out .entry)) (now (out .exit)) r ⌝ }
 {
     let next = list_iris(shapes, nodes, triples, masks, places, out);
-    list_sets_edges(shapes, triples, flags, places, next, out)
+    list_sets_edges(shapes, triples, sets, places, nodes.len(), next, out)
 }

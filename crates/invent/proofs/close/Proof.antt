@@ -1,21 +1,24 @@
--- `invent::close` meets its contract: what is marked follows from the start, and at the end a round adds nothing.
--- Assumes nothing.
+-- `invent::close` meets its contract: what follows from the sets that have been looked at is marked. Assumes nothing.
 use borrow.Author.Needs.{needs}
-use borrow.Author.Tests.{not-true, not-false}
 use lib.ListN.{length}
-use mathlib.Core.Path.{_≡_}
-use Rattle.invent.specs.Invent.{unset}
-use Rattle.invent.proofs.Rounds.{Reached, closed, reached-again, reached-start}
+use mathlib.Core.Path.{_≡_, refl}
+use native.Mathlib.Omega.{arith}
+use Rattle.invent.proofs.Closing.{Closing, closing-again, closing-done, closing-start, following}
 use Rattle.invent.proofs.close.Statement.{statement}
 use Rattle.invent.proofs.close.Tie as tie
+use Rattle.meaning.specs.Limits.{setWords}
 use Rattle.meaning.specs.Pack.{Pack}
 use Rattle.shapes.specs.Shapes.{Tabled}
+use Rattle.worklist.proofs.Growth.{turn-left, turn-table}
+use Rattle.worklist.specs.Table.{Table, board, left}
 
 abbrev Inv-loop : tie.InvT-loop
-Inv-loop shapes flags₀ flags = (length flags ≡ length flags₀) × ((P : Pack) → Tabled (P .setting) shapes → Reached P flags₀ flags)
+Inv-loop shapes flags₀ waiting₀ stack₀ top end₀ flags waiting stack end =
+    (length flags ≡ length flags₀) × (length waiting ≡ length waiting₀) × (length stack ≡ length stack₀) × Table setWords (board flags waiting stack end)
+    × ((P : Pack) → Tabled (P .setting) shapes → Closing P flags₀ (board flags waiting stack end))
 
 abbrev μ-loop : tie.MeasureT-loop
-μ-loop shapes flags₀ flags = unset flags
+μ-loop shapes flags₀ waiting₀ stack₀ top end₀ flags waiting stack end = left setWords (board flags waiting stack end)
 
 pub close-spec : {M : Type 1} → statement M
 close-spec =
@@ -23,13 +26,17 @@ close-spec =
     (tie.spec
     Inv-loop
     μ-loop
-    (λ c. (search needs, λ P h. reached-start P _))  -- loop-holds
-    (λ c κs. search needs)  -- round-requires
-    (λ c. search needs)  -- same-length
-    (λ c. let r = c .before .before .before .round in λ P h.  -- returns
-    closed (c .before .before .before .before .before .loop .inv .1 P h) (r .ensures .1 P h) (rw (not-true (r .result) (c .if1 .taken)) at (r .ensures .0)))
-    (λ c. let r = c .before .before .before .round in rw (not-false (r .result) (c .if1 .left)) at (r .ensures .0))  -- loop-less
+    (λ c. (search needs, search needs, search needs, c .before .before .before .pre .0, λ P h. closing-start (c .before .before .before .pre .1)))  -- loop-holds
+    (λ c κs. (c .before .before .loop-test .taken, (setWords, c .before .before .before .loop .inv .3 .stacked)))  -- take-requires
+    (λ c κs. c .before .before .take .ensures setWords (c .before .before .before .before .before .before .loop .inv .3 .stacked) .inside _ refl)  -- set-mask-requires
+    (λ c κs. let t = c .before .before .before .before .before .before .before .before .before .before .loop .inv .3 in (turn-table t (c .before .before .before .before .before .before .take .ensures setWords (t .stacked)), c .before .before .before .before .before .before .before .before .before .before .before .before .before .before .pre .2))  -- mark-all-requires
+    (λ c. let t = c .before .before .before .before .before .before .before .before .before .before .before .before .before .before .before .before .before .loop .inv .3 in turn-left t (c .before .before .before .before .before .before .before .before .before .before .before .before .before .take .ensures setWords (t .stacked)) (c .before .before .before .before .before .before .mark-all .ensures .grows))  -- loop-less
     (λ c.
-    let loop = c .before .before .before .before .before .loop in
-    let r = c .before .before .before .round in
-    (search needs, λ P h. reached-again (loop .inv .1 P h) (r .ensures .1 P h))))  -- loop-again
+    let t = c .before .before .before .before .before .before .before .before .before .before .before .before .before .before .before .before .before .loop .inv .3 in
+    let k = c .before .before .before .before .before .before .before .before .before .before .before .before .before .take .ensures setWords (t .stacked) in
+    let m = following (k .inside _ refl) (c .before .before .before .before .before .before .before .before .before .before .set-mask .ensures) (c .before .before .before .before .before .before .mark-all .ensures) in
+    (search needs, search needs, search needs, m .grows .after, λ P h. closing-again t k (c .before .before .before .before .before .before .before .before .before .before .before .before .before .before .before .before .before .loop .inv .4 P h) (m .adds P h)))  -- loop-again
+    (λ c. search needs)  -- same-length
+    (λ c. search needs)  -- same-length-2
+    (λ c. search needs)  -- same-length-3
+    (λ c. let l = c .before .loop in λ P h. closing-done (l .inv .3) (omega arith) (l .inv .4 P h)))  -- returns

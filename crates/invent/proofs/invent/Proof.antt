@@ -1,8 +1,8 @@
 -- `invent::invent` meets its contract. Assumes nothing.
 use borrow.Author.Needs.{needs}
-use lib.ListN.{length}
+use mathlib.Core.Path.{refl}
+use Rattle.invent.proofs.Closing.{all-wait, marked-from, none-marked, none-there}
 use Rattle.invent.proofs.Invented.{invented-sets}
-use Rattle.invent.proofs.Marks.{none-set}
 use Rattle.core_lists.proofs.Places.{shaped}
 use Rattle.invent.proofs.invent.Statement.{statement}
 use Rattle.invent.proofs.invent.Tie as tie
@@ -11,13 +11,11 @@ pub invent-spec : {M : Type 1} → statement M
 invent-spec =
     tie.close
     (tie.spec
-    (λ c κs. search needs)  -- clear-u16-requires
-    (λ c κs. search needs)  -- seed-requires
-    (λ c κs. search needs)  -- close-requires
+    (λ c. search needs)  -- slice-aggregate-seed
+    (λ c. search needs)  -- slice-aggregate-seed-2
+    (λ c κs. let p = c .before .before .before .before .before .before .before .pre in (p .0, none-marked (p .1) refl refl, p .2))  -- seed-requires
+    (λ c. search needs)  -- slice-aggregate-close
+    (λ c. search needs)  -- slice-aggregate-close-2
+    (λ c κs. let p = c .before .before .before .before .before .before .before .before .before .before .before .before .before .before .before .pre in let m = c .before .before .before .before .before .before .before .seed .ensures in (m .grows .after, all-wait (none-there (p .1)) (m .grows), p .2))  -- close-requires
     (λ c. search needs)  -- same-length
-    (λ c.
-    let at-seed = c .before .before .before .before .before .before in
-    let at-clear-u16 = at-seed .before .before .before .before in
-    let entry = at-clear-u16 .before .before .before .before .before .before in
-    λ P I. invented-sets I (none-set (length (entry .args .flags .now)) _ (at-clear-u16 .clear-u16 .ensures)) (at-seed .seed .ensures P (shaped I)) _
-    (c .before .before .close .ensures P (shaped I))))  -- returns
+    (λ c. λ P I. invented-sets I (marked-from (none-there (c .before .before .before .before .before .before .before .before .before .before .before .before .before .before .before .before .before .before .before .before .pre .1)) (c .before .before .before .before .before .before .before .before .before .before .before .before .seed .ensures .adds P (shaped I))) _ (c .before .before .before .before .close .ensures P (shaped I))))  -- returns

@@ -1,9 +1,11 @@
 -- `invent::mark_targets` meets its contract. Assumes nothing.
 use borrow.Author.Needs.{needs}
 use borrow.Author.Tests.{not-true, not-false}
-use mathlib.Core.Path.{refl}
-use Rattle.invent.proofs.Marks.{not-required}
+use native.Mathlib.Omega.{arith}
+use Rattle.invent.proofs.Marks.{marks-targets, not-required}
+use Rattle.invent.proofs.SetNumbers.{number-lt}
 use Rattle.invent.proofs.mark_targets.Statement.{statement}
+use Rattle.meaning.specs.Limits.{setWords}
 use Rattle.invent.proofs.mark_targets.Tie as tie
 
 pub mark-targets-spec : {M : Type 1} → statement M
@@ -11,15 +13,17 @@ mark-targets-spec =
     tie.close
     (tie.spec
     (λ c κs. search needs)  -- required-requires
-    (λ c.
-    let s = c .before .before .before in (
-      refl,
-      not-required (s .args .shapes .now) (s .args .mask) (s .args .p) (s .args .flags .now) (c .before .required .result)
-          (not-true (c .before .required .result) (c .if1 .taken)) (c .before .required .ensures),
-    ))  -- returns
-    (λ c κs.
-    let s = c .before .before .before .before in
-    let q = c .before .before .required in
-    (s .pre .0, s .pre .1, rw (not-false (q .result) (c .before .if1 .left)) at (q .ensures), s .pre .2))  -- mark-set-requires
+    (λ c. let r = c .before .required in not-required (c .before .before .before .before .before .pre .1) (r .result) (not-true (r .result) (c .if1 .taken)) (r .ensures))  -- returns
+    (λ c κs. search needs)  -- targets-requires
+    (λ c κs. search needs)  -- set-number-requires
+    (λ c κs. (setWords, omega (arith, c .before .before .before .set-number .ensures, number-lt (c .before .before .before .before .targets .result) (omega arith)), c .before .before .before .before .before .before .before .before .before .before .pre .1))  -- mark-requires
     (λ c. search needs)  -- same-length
-    (λ c. search needs))  -- returns-2
+    (λ c. search needs)  -- same-length-2
+    (λ c. search needs)  -- same-length-3
+    (λ c.
+    let n = c .before .before .before .before .before .before .before .before .before .before .set-number in
+    let t = c .before .before .before .before .before .before .before .before .before .before .before .targets in
+    let r = c .before .before .before .before .before .before .before .before .before .before .before .before .before .required in
+    let small = number-lt (t .result) (omega arith) in
+    marks-targets (omega arith) (t .ensures) (r .result) (not-false (r .result) (c .before .before .before .before .before .before .before .before .before .before .before .before .if1 .left)) (r .ensures) (n .ensures)
+    (c .before .before .before .before .before .before .mark .ensures setWords (omega (arith, n .ensures, small)) (c .before .before .before .before .before .before .before .before .before .before .before .before .before .before .before .before .before .pre .1))))  -- returns-2

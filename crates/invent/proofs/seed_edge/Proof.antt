@@ -2,7 +2,7 @@
 use borrow.Author.Needs.{needs}
 use Rattle.core.specs.Keys.{originAt}
 use Rattle.core_lists.proofs.Origin.{origin-none, origin-some}
-use Rattle.invent.proofs.Rounds.{edge-missing, edge-there}
+use Rattle.invent.proofs.Marks.{edge-missing, edge-there}
 use Rattle.invent.proofs.seed_edge.Statement.{statement}
 use Rattle.invent.proofs.seed_edge.Tie as tie
 
@@ -14,22 +14,18 @@ seed-edge-spec =
     (λ c. search needs)  -- add-after
     (λ c κs. search needs)  -- after-requires
     (λ c.
-    let s = c .before .before .before .before in
+    let s = c .before .before .before .before .before .before in
     let m = c .before .after in
-    let a = s .args in (
-      edge-there (a .shapes .now) (a .triples .now) (a .subject) (a .mask) (a .p)
-          (origin-some (a .triples .now) (originAt (a .subject) (a .p)) (a .from) (m .result) (s .pre .3) (m .ensures) (c .if1 .taken)) (a .flags .now),
-      m .ensures,
-    ))  -- returns
+    let a = s .args in
+    (edge-there (s .pre .4) (origin-some (a .triples .now) (originAt (a .subject) (a .p)) (a .from .at) (m .result) (s .pre .3) (m .ensures) (c .if1 .taken)), m .ensures))  -- returns
     (λ c κs. search needs)  -- mark-targets-requires
     (λ c. search needs)  -- same-length
+    (λ c. search needs)  -- same-length-2
+    (λ c. search needs)  -- same-length-3
     (λ c.
-    let at-if1 = c .before .before .before .before in
-    let s = at-if1 .before .before .before .before in
-    let m = c .before .before .before .before .before .after in
+    let s = c .before .before .before .before .before .before .before .before .before .before .before .before .before .before .before .before in
+    let m = c .before .before .before .before .before .before .before .before .before .before .before .after in
     let a = s .args in (
-      edge-missing (a .shapes .now) (a .triples .now) (a .subject) (a .mask) (a .p)
-          (origin-none (a .triples .now) (originAt (a .subject) (a .p)) (a .from) (m .result) (s .pre .3) (m .ensures) (at-if1 .if1 .left)) (a .flags .now) _
-          (c .before .before .mark-targets .ensures .1),
+      edge-missing (origin-none (a .triples .now) (originAt (a .subject) (a .p)) (a .from .at) (m .result) (s .pre .3) (m .ensures) (c .before .before .before .before .before .before .before .before .before .before .if1 .left)) (c .before .before .before .before .before .before .mark-targets .ensures),
       m .ensures,
     )))  -- returns-2

@@ -10,13 +10,10 @@ list-nodes-spec =
     (tie.spec
     (λ c κs. search needs)  -- list-core-requires
     (λ c κs. search needs)  -- list-sets-requires
+    (λ c. search needs)  -- add-result
     (λ c. search needs)  -- same-length
     (λ c. search needs)  -- same-length-2
     (λ c.
-    let at-list-core = c .before .before .before .before .before .before .before .before .before in
-    let l = c .before .before .before .before .list-sets in
-    let s = at-list-core .before .before .before .before .before .before .before in (
-      λ P table triples I ar f clean. nodes-listed I f clean (s .args .arities) ar _ (s .args .out .now) _ _ _ (s .pre .1) (s .pre .5) (at-list-core .list-core .ensures)
-          (l .ensures),
-      l .ensures .places,
-    )))  -- returns
+    let s = c .before .before .before .before .before .before .before .before .before .before .before .before .before .before .before .before in
+    let l = c .before .before .before .before .list-sets .ensures in
+    (λ P table triples I ar f clean. nodes-listed I f clean (s .args .arities) ar (s .pre .3) (s .args .out .now) (s .pre .1) (s .pre .5) (c .before .before .before .before .before .before .before .before .before .list-core .ensures) (l .0), l .1)))  -- returns

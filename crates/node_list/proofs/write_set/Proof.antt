@@ -12,14 +12,9 @@ write-set-spec =
     tie.close
     (tie.spec
     (λ c. search needs)  -- mul-at
-    (λ c. search needs)  -- cast-types
     (λ c κs. search needs)  -- write-node-requires
     (λ c. search needs)  -- same-length
-    (λ c.
-    let if1 = c .before .before .before .before .if1 in
-    let s = c .before .before .before .before .before .before .args in
-    written-as (s .node * nodeWidth) (s .out .now) _ _ _ (c .before .before .write-node .ensures) (set-literal (s .set) (if1 .taken)))  -- returns
+    (λ c. let s = c .before .before .before .before .before .before .args in written-as (s .node * nodeWidth) (s .out .now) _ _ _ (c .before .before .write-node .ensures) (set-literal (s .types) (c .before .before .before .before .if1 .taken)))  -- returns
     (λ c κs. search needs)  -- write-node-requires-2
     (λ c. search needs)  -- same-length-2
-    (λ c. let s = c .before .before .before .before .before .before .args in  -- returns-2
-    written-as (s .node * nodeWidth) (s .out .now) _ _ _ (c .before .before .write-node2 .ensures) (set-other (s .set) (c .before .before .before .before .if1 .left))))
+    (λ c. let s = c .before .before .before .before .before .before .args in written-as (s .node * nodeWidth) (s .out .now) _ _ _ (c .before .before .write-node2 .ensures) (set-other (s .types) (c .before .before .before .before .if1 .left))))  -- returns-2

@@ -1,9 +1,7 @@
 -- `triple_list::list_triples` meets its contract: the IRIs' edges, and then those of the sets. Assumes nothing.
 use borrow.Author.Needs.{needs}
-use mathlib.Core.Path.{refl}
 use native.Mathlib.Omega.{arith}
 use Rattle.core_lists.proofs.Places.{shaped}
-use Rattle.triple_list.proofs.SetOrder.{sets-placed}
 use Rattle.triple_list.proofs.TripleLaws.{triples-listed}
 use Rattle.triple_list.proofs.list_triples.Statement.{statement}
 use Rattle.triple_list.proofs.list_triples.Tie as tie
@@ -14,12 +12,11 @@ list-triples-spec =
     (tie.spec
     (λ c κs. search needs)  -- list-iris-requires
     (λ c κs.
-    let s = c .before .before .before .before .before .before .before .before .before .before .before in
-    (sets-placed (s .pre .1) (s .pre .0) refl, s .pre .0 .triples-ascend, s .pre .2, s .pre .3, c .before .before .before .list-iris .ensures .1, search needs, s .pre .5))  -- list-sets-edges-requires
+    let p = c .before .before .before .before .before .before .before .before .before .before .before .pre in
+    (p .0 .triples-ascend, p .0 .subject, p .1, p .3, p .0 .few, c .before .before .before .list-iris .ensures .1, search needs, p .5))  -- list-sets-edges-requires
     (λ c. search needs)  -- same-length
     (λ c.
-    let at-list-sets-edges = c .before .before in
-    let s = at-list-sets-edges .before .before .before .before .before .before .before .before .before .before .before .before in
-    let m = c .before .before .before .before .before .before .list-iris in
-    λ P I f clean bs ordered numbered. triples-listed I f clean bs ordered (s .args .places .now) numbered (shaped I) (s .pre .1) (m .ensures .0)
-    (at-list-sets-edges .list-sets-edges .ensures .0) (omega (arith, m .ensures .1, s .pre .4)) (at-list-sets-edges .list-sets-edges .ensures .1)))  -- returns
+    let s = c .before .before .before .before .before .before .before .before .before .before .before .before .before .before in
+    let m = c .before .before .before .before .before .before .list-iris .ensures in
+    let n = c .before .before .list-sets-edges .ensures in
+    λ P I listed clean bs ordered. triples-listed I listed clean bs ordered (s .args .places .now) (s .pre .2) (shaped I) (m .0) (n .0) (omega (arith, m .1, s .pre .4)) (n .1)))  -- returns
