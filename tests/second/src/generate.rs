@@ -9,11 +9,15 @@ mod limits;
 mod queries;
 mod random;
 mod texts;
+mod type_sets;
 mod valid;
 mod zigzag;
 
 pub use limits::{full_pack, pairs_pack, product_pack};
 pub use random::Random;
+pub use type_sets::{
+    many_starts_pack, most_triples_pack, shapes_pack, stars_query, subsets_pack, types_pack,
+};
 pub use valid::sample;
 pub use zigzag::zigzag_pack;
 
@@ -74,12 +78,12 @@ fn random_pack(random: &mut Random) -> (&'static str, Pack, Vec<u8>) {
             let bytes = encode(&pack);
             ("sample", pack, bytes)
         }
-        57..=60 => {
+        57..=62 => {
             let pack = limits::near_limit(random);
             let bytes = encode(&pack);
             ("near a limit", pack, bytes)
         }
-        61..=84 => {
+        63..=84 => {
             let pack = valid::satisfiable(random);
             let refusal = random.between(3, 11) as u8;
             let bytes = broken::refused(random, &pack, &[refusal]);
@@ -103,8 +107,8 @@ fn random_pack(random: &mut Random) -> (&'static str, Pack, Vec<u8>) {
 #[cfg(test)]
 mod tests {
     use super::*;
-    use crate::graph::all_clashing;
-    use crate::pack::well_formed;
+    use crate::graph::{all_clashing, MAX_INVENTED};
+    use crate::pack::{well_formed, MAX_SHAPES, MAX_TYPES};
     use std::collections::BTreeSet;
 
     #[test]
@@ -125,6 +129,31 @@ mod tests {
             several += usize::from(clashing.len() > 1 && clashing[0].objects.len() > 2);
         }
         assert!(several > 60);
+    }
+
+    /// Types over 8, shapes over 96, type sets over 255 and graphs with
+    /// every type set, and one type and one shape too many.
+    #[test]
+    fn many_types_shapes_and_type_sets_occur() {
+        let mut found = [0; 6];
+        for seed in 0..3_000 {
+            let bytes = case(seed).pack;
+            let Ok(pack) = well_formed(&bytes) else {
+                found[0] += usize::from(bytes == encode(&types_pack(MAX_TYPES + 1)));
+                found[1] += usize::from(bytes == encode(&shapes_pack(MAX_SHAPES + 1)));
+                continue;
+            };
+            let Ok(graph) = crate::build(&bytes) else {
+                continue;
+            };
+            let invented = graph.nodes.iter().filter(|node| node[0] == 3).count();
+            found[2] += usize::from(pack.types.len() > 8);
+            found[3] += usize::from(pack.shapes.len() > 96);
+            found[4] += usize::from(graph.nodes.iter().any(|node| node[2] > 255));
+            found[5] += usize::from(invented == MAX_INVENTED);
+        }
+        assert!(found.iter().all(|count| *count > 0), "{found:?}");
+        assert!(found[2..5].iter().all(|count| *count > 15), "{found:?}");
     }
 
     #[test]

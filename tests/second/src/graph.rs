@@ -1,7 +1,9 @@
 //! The graph: the core (refusal 9), the refusals without a graph (10 and
 //! 11), the invented nodes, and the ordered lists of nodes and triples.
 
-use crate::pack::{Atom, Head, Pack, Row, Rule, Term, LITERAL};
+use crate::pack::{
+    Atom, Head, Pack, Row, Rule, Term, LITERAL, MAX_PREDICATES, MAX_TYPES, MAX_VALUES,
+};
 use crate::{Clash, Refusal};
 use std::collections::{BTreeMap, BTreeSet, HashMap, HashSet};
 
@@ -12,7 +14,18 @@ pub type TripleRecord = [u16; 3];
 pub const UNUSED: u16 = 65_535;
 
 pub const MAX_IRIS: usize = 512;
+/// The most triples of a core.
 pub const MAX_TRIPLES: usize = 1_024;
+
+/// The most invented nodes that are not literals: one for each set of types
+/// but the empty one.
+pub const MAX_INVENTED: usize = (1 << MAX_TYPES) - 1;
+/// The most nodes of a graph: IRIs, literals, the invented literal and the
+/// other invented nodes.
+pub const MAX_NODES: usize = MAX_IRIS + MAX_VALUES + 1 + MAX_INVENTED;
+/// No graph has more triples: those of the core, and one for each predicate
+/// from each IRI and each invented node.
+pub const MAX_GRAPH_TRIPLES: usize = MAX_TRIPLES + MAX_PREDICATES * (MAX_IRIS + MAX_INVENTED);
 
 /// The node list and the triple list, both in order.
 #[derive(Clone, Debug, Default, PartialEq, Eq)]
@@ -265,16 +278,32 @@ fn add_triple(core: &mut Core, subject: Node, predicate: u8, object: Node) {
 
 // ---------------------------------------------------------------- the types
 
-/// The target and the multiplicity of a type's shape for a predicate.
-fn shape(pack: &Pack, type_number: u8, predicate: u8) -> Option<(u8, u8)> {
-    pack.shapes
-        .iter()
-        .find(|shape| shape.type_number == type_number && shape.predicate == predicate)
-        .map(|shape| (shape.target, shape.multiplicity))
+/// The shapes of a well-formed pack by type and predicate: the target and
+/// the multiplicity, where there is one.
+pub struct Shapes {
+    cells: Vec<Vec<Option<(u8, u8)>>>,
+}
+
+impl Shapes {
+    pub fn new(pack: &Pack) -> Shapes {
+        let mut cells = vec![vec![None; pack.predicates.len()]; pack.types.len()];
+        for shape in &pack.shapes {
+            cells[usize::from(shape.type_number)][usize::from(shape.predicate)] =
+                Some((shape.target, shape.multiplicity));
+        }
+        Shapes { cells }
+    }
+
+    /// The target and the multiplicity of a type's shape for a predicate.
+    /// Literal has no shapes.
+    fn of(&self, type_number: u8, predicate: u8) -> Option<(u8, u8)> {
+        self.cells.get(usize::from(type_number))?[usize::from(predicate)]
+    }
 }
 
 /// Passes each type along the edges until nothing is new.
 fn spread_types(pack: &Pack, core: &mut Core) {
+    let shapes = Shapes::new(pack);
     let mut edges: BTreeMap<Node, Vec<(u8, Node)>> = BTreeMap::new();
     for (subject, predicate, object) in &core.triples {
         edges
@@ -289,7 +318,7 @@ fn spread_types(pack: &Pack, core: &mut Core) {
     }
     while let Some((node, type_number)) = pending.pop() {
         for (predicate, object) in edges.get(&node).into_iter().flatten() {
-            if let Some((target, _)) = shape(pack, type_number, *predicate) {
+            if let Some((target, _)) = shapes.of(type_number, *predicate) {
                 if core.types.get_mut(object).unwrap().insert(target) {
                     pending.push((object.clone(), target));
                 }
@@ -299,9 +328,9 @@ fn spread_types(pack: &Pack, core: &mut Core) {
 }
 
 /// The predicates that some type of the set requires.
-fn required(pack: &Pack, types: &Types) -> Vec<u8> {
+fn required(pack: &Pack, shapes: &Shapes, types: &Types) -> Vec<u8> {
     let requires = |type_number: &u8, predicate: u8| {
-        matches!(shape(pack, *type_number, predicate), Some((_, 1 | 4)))
+        matches!(shapes.of(*type_number, predicate), Some((_, 1 | 4)))
     };
     (0..pack.predicates.len() as u8)
         .filter(|predicate| {
@@ -313,10 +342,10 @@ fn required(pack: &Pack, types: &Types) -> Vec<u8> {
 }
 
 /// The targets of a predicate in the shapes of all types of the set.
-pub fn targets(pack: &Pack, types: &Types, predicate: u8) -> Types {
+pub fn targets(shapes: &Shapes, types: &Types, predicate: u8) -> Types {
     types
         .iter()
-        .filter_map(|type_number| shape(pack, *type_number, predicate))
+        .filter_map(|type_number| shapes.of(*type_number, predicate))
         .map(|(target, _)| target)
         .collect()
 }
@@ -364,6 +393,7 @@ pub fn all_clashing(pack: &Pack) -> Vec<Clashing> {
 /// predicate, the objects of each in node order: the triples stand in this
 /// order.
 fn clashing(pack: &Pack, core: &Core) -> Vec<Clashing> {
+    let shapes = Shapes::new(pack);
     let mut objects: BTreeMap<(&Node, u8), Vec<&Node>> = BTreeMap::new();
     for (subject, predicate, object) in &core.triples {
         objects
@@ -374,7 +404,7 @@ fn clashing(pack: &Pack, core: &Core) -> Vec<Clashing> {
     let record_of = |node: &Node| record(node, &core.types[node]);
     let mut clashing = Vec::new();
     for ((subject, predicate), objects) in objects {
-        if objects.len() > 1 && allows_one(pack, &core.types[subject], predicate) {
+        if objects.len() > 1 && allows_one(&shapes, &core.types[subject], predicate) {
             clashing.push(Clashing {
                 subject: record_of(subject),
                 predicate: u16::from(predicate),
@@ -386,10 +416,10 @@ fn clashing(pack: &Pack, core: &Core) -> Vec<Clashing> {
 }
 
 /// Whether some type of the set allows at most one object.
-fn allows_one(pack: &Pack, types: &Types, predicate: u8) -> bool {
+fn allows_one(shapes: &Shapes, types: &Types, predicate: u8) -> bool {
     types
         .iter()
-        .any(|type_number| matches!(shape(pack, *type_number, predicate), Some((_, 1 | 2))))
+        .any(|type_number| matches!(shapes.of(*type_number, predicate), Some((_, 1 | 2))))
 }
 
 /// Refusal 11 as far as core nodes go.
@@ -411,17 +441,21 @@ fn check_kinds(core: &Core) -> Result<(), Refusal> {
 /// All nodes with their types and all triples, the invented ones included.
 /// Refusal 11 as far as invented nodes go.
 fn invent(pack: &Pack, core: &Core) -> Result<(BTreeMap<Node, Types>, Triples), Refusal> {
+    let shapes = Shapes::new(pack);
     let mut nodes = core.types.clone();
     let mut triples = core.triples.clone();
+    // The nodes and predicates that have an edge; invented nodes have none
+    // but those added here.
+    let edges = core.triples.iter();
+    let edges: BTreeSet<(&Node, u8)> = edges.map(|(s, p, _)| (s, *p)).collect();
     // Nodes whose required edges are still to be added.
     let mut pending: Vec<(Node, Types)> = core.types.clone().into_iter().collect();
     while let Some((node, types)) = pending.pop() {
-        for predicate in required(pack, &types) {
-            let has_edge = |(s, p, _): &(Node, u8, Node)| *s == node && *p == predicate;
-            if core.triples.iter().any(has_edge) {
+        for predicate in required(pack, &shapes, &types) {
+            if edges.contains(&(&node, predicate)) {
                 continue;
             }
-            let set = targets(pack, &types, predicate);
+            let set = targets(&shapes, &types, predicate);
             if set.contains(&LITERAL) && set.len() > 1 {
                 return Err(Refusal::new(11));
             }
@@ -550,11 +584,13 @@ mod tests {
     /// The first clash: over every two objects, in order, of each node and
     /// predicate of which a type of the node allows at most one.
     fn first_clash_plainly(pack: &Pack, core: &Core) -> Option<Clash> {
+        let shapes = Shapes::new(pack);
         let mut clashes = Vec::new();
         for (subject, predicate, object) in &core.triples {
             for (other_subject, other_predicate, other) in &core.triples {
                 let joined = subject == other_subject && predicate == other_predicate;
-                if joined && object < other && allows_one(pack, &core.types[subject], *predicate) {
+                if joined && object < other && allows_one(&shapes, &core.types[subject], *predicate)
+                {
                     clashes.push((subject, *predicate, object, other));
                 }
             }

@@ -11,8 +11,24 @@ pub const MAX_BYTES: usize = 65_536;
 pub const BODIES: usize = 9;
 pub const CONTENTS: usize = 4 * BODIES;
 
+pub const MAX_VALUES: usize = 256;
+pub const MAX_TYPES: usize = 12;
+pub const MAX_PREDICATES: usize = 12;
+/// A type has one shape at most for each predicate.
+pub const MAX_SHAPES: usize = MAX_TYPES * MAX_PREDICATES;
+
 /// The most records that each body may hold.
-pub const MAX_RECORDS: [usize; BODIES] = [256, 16, 32, 8, 12, 96, 16, 32, 1_024];
+pub const MAX_RECORDS: [usize; BODIES] = [
+    MAX_VALUES,
+    16,
+    32,
+    MAX_TYPES,
+    MAX_PREDICATES,
+    MAX_SHAPES,
+    16,
+    32,
+    1_024,
+];
 
 /// A pack as read: the records of the nine bodies.
 #[derive(Clone, Debug, Default, PartialEq, Eq)]

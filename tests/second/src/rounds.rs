@@ -1,7 +1,7 @@
 //! Types spread in rounds, and the rounds counted: the change requests,
 //! card 4.
 
-use crate::graph::{core_of_heads, targets, NumberedCore, TripleRecord, Types};
+use crate::graph::{core_of_heads, targets, NumberedCore, Shapes, TripleRecord, Types};
 use crate::pack::{well_formed, Pack};
 use crate::Refusal;
 
@@ -42,12 +42,13 @@ fn facts(core: &NumberedCore) -> usize {
 /// the first triple to the last, the second from the last to the first, and
 /// so on in turn.
 pub fn spread_in_rounds(pack: &Pack, core: &mut NumberedCore) -> usize {
+    let shapes = Shapes::new(pack);
     let ascending = core.triples.clone();
     let descending = ascending.iter().rev().copied().collect();
     let walks: [Vec<TripleRecord>; 2] = [ascending, descending];
     let mut rounds = 0;
     loop {
-        let added = walk(pack, &walks[rounds % 2], &mut core.types);
+        let added = walk(&shapes, &walks[rounds % 2], &mut core.types);
         rounds += 1;
         if added == 0 {
             return rounds;
@@ -57,10 +58,10 @@ pub fn spread_in_rounds(pack: &Pack, core: &mut NumberedCore) -> usize {
 
 /// One round: each object gets the targets of the types that its subject
 /// has when the walk comes to the triple. Gives the number of facts added.
-fn walk(pack: &Pack, triples: &[TripleRecord], types: &mut [Types]) -> usize {
+fn walk(shapes: &Shapes, triples: &[TripleRecord], types: &mut [Types]) -> usize {
     let mut added = 0;
     for [subject, predicate, object] in triples {
-        let passed = targets(pack, &types[usize::from(*subject)], *predicate as u8);
+        let passed = targets(shapes, &types[usize::from(*subject)], *predicate as u8);
         for target in passed {
             added += usize::from(types[usize::from(*object)].insert(target));
         }

@@ -9,6 +9,7 @@ use crate::{build, certain, less_line_feed, pairs, read_back, yes_no, Clash, Gra
 
 mod first_clash;
 mod rounds;
+mod twelve_types;
 
 fn graph(pack: &Pack) -> Graph {
     build(&encode(pack)).unwrap()

@@ -235,6 +235,7 @@ pub fn read_directory(directory: &Path) -> Vec<Printed> {
 #[cfg(test)]
 mod tests {
     use super::*;
+    use crate::graph::UNUSED;
     use crate::{certain, less_line_feed};
 
     fn directory() -> std::path::PathBuf {
@@ -257,14 +258,62 @@ mod tests {
         assert!(cases.iter().all(|case| case.certain.is_none()));
     }
 
-    #[test]
-    fn so_are_those_with_a_first_clash_and_what_certain_prints() {
-        let cases = compare("card-08.txt");
-        assert_eq!(cases.len(), 300);
+    /// The same, with what `certain` prints.
+    fn compare_printed(file: &str, count: usize) {
+        let cases = compare(file);
+        assert_eq!(cases.len(), count);
         for case in cases {
             let found = certain(&case.pack, less_line_feed(&case.query));
             assert_eq!(Some(found), case.certain, "{}", case.title);
         }
+    }
+
+    #[test]
+    fn so_are_those_with_a_first_clash_and_what_certain_prints() {
+        compare_printed("card-08.txt", 300);
+    }
+
+    #[test]
+    fn so_are_those_with_twelve_types() {
+        compare_printed("card-14.txt", 320);
+    }
+
+    #[test]
+    fn so_are_the_hard_ones() {
+        for (hard, count) in [("adversarial", 8), ("adversarial-14", 5)] {
+            let cases = read_directory(&directory().join(hard));
+            assert_eq!(cases.len(), count);
+            for case in cases {
+                let found = certain(&case.pack, &case.query);
+                assert_eq!(found, case.certain, "{}", case.title);
+            }
+        }
+    }
+
+    /// Older cases that were refused by 4 when there were at most 8 types
+    /// and 96 shapes. The one has nine types, and now a graph without nodes;
+    /// the other's 97th shape is of a type that there is not.
+    #[test]
+    fn superseded_cases_are_answered_by_the_change_requests() {
+        let cases = read_file(&directory().join("superseded.txt"));
+        let four = |case: &Written| case.answers.build == Err(Refusal::new(4));
+        assert!(cases.len() == 2 && cases.iter().all(four));
+        let answers_to = |case: &Written| answers(&case.pack, &case.query, &case.text);
+        let empty = Graph::default;
+        let nine_types = Answers {
+            build: Ok(empty()),
+            yes_no: Ok((false, empty())),
+            pairs: Ok((Vec::new(), empty())),
+            read_back: Ok([0, 0, UNUSED, UNUSED, UNUSED]),
+        };
+        assert_eq!(answers_to(&cases[0]), nine_types);
+        let no_type = Answers {
+            build: Err(Refusal::new(7)),
+            yes_no: Err(Refusal::new(7)),
+            pairs: Err(Refusal::new(7)),
+            read_back: Err(Refusal::new(7)),
+        };
+        assert_eq!(answers_to(&cases[1]), no_type);
     }
 
     /// A node of a kind, with a number, a type set and one argument.

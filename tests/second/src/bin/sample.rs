@@ -37,6 +37,9 @@ fn main() {
             add(&mut sizes, "literals", range(of_kind(1)));
             add(&mut sizes, "invented, not literal", range(of_kind(3)));
             add(&mut sizes, "triples", range(graph.triples.len()));
+            let highest = graph.nodes.iter().map(|node| node[2]).max();
+            let highest = usize::from(highest.unwrap_or(0));
+            add(&mut sizes, "highest type set", range(highest));
         }
         if let Ok((pairs, _)) = &pairs {
             add(&mut sizes, "pairs", range(pairs.len()));
@@ -83,11 +86,12 @@ fn outcome<T>(result: &Result<T, Refusal>, name: impl Fn(&T) -> String) -> Strin
 
 fn range(count: usize) -> String {
     match count {
-        0 => "  0".into(),
-        1..=4 => "  1 to 4".into(),
-        5..=15 => "  5 to 15".into(),
-        16..=99 => " 16 to 99".into(),
-        _ => "100 and more".into(),
+        0 => "    0".into(),
+        1..=4 => "    1 to 4".into(),
+        5..=15 => "    5 to 15".into(),
+        16..=99 => "   16 to 99".into(),
+        100..=999 => "  100 to 999".into(),
+        _ => "1,000 and more".into(),
     }
 }
 

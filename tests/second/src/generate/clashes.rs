@@ -1,17 +1,18 @@
 //! Packs with several clashes, of which refusal 10 shows the first.
 
 use super::Random;
-use crate::pack::{Head, Pack, Rule, Term, LITERAL};
+use crate::pack::{Head, Pack, Rule, Term, LITERAL, MAX_TYPES};
 use crate::records::{atom, constructor, edge, named, numbered, row, rule, shape, term, typed};
 
 /// Nodes of three constructors have several objects of several predicates,
 /// IRIs and literals mixed. Texts descend, and rules and rows mostly do, so
 /// that whoever goes by their order does not find the first clash first.
 pub fn several_clashes(random: &mut Random) -> Pack {
+    let most_types = *random.pick(&[4, 4, 4, MAX_TYPES]);
     let mut pack = Pack {
         values: numbered(random.between(4, 9)),
         relations: vec![2; random.between(2, 4)],
-        types: named(b't', random.between(2, 4) as u8),
+        types: named(b't', random.between(2, most_types) as u8),
         predicates: named(b'p', random.between(2, 4) as u8),
         constructors: vec![
             constructor(1, b"c:"),

@@ -1,20 +1,38 @@
 //! Packs close to a limit of the graph, of the pair list or of the records.
 
+use super::type_sets::{
+    many_starts_pack, most_triples_pack, shapes_pack, subsets_pack, types_pack,
+};
 use super::valid::{random_row, random_rule};
 use super::Random;
-use crate::pack::{Dependency, Head, Pack, Row, Rule, Shape, Term, LITERAL, MAX_RECORDS};
+use crate::pack::{
+    Dependency, Head, Pack, Row, Rule, Shape, Term, LITERAL, MAX_RECORDS, MAX_SHAPES, MAX_TYPES,
+};
 use crate::records::{atom, constructor, numbered, term};
 
-/// A pack close to 512 IRI nodes, 1,024 triples, 4,096 pairs or the most
-/// records.
+/// A pack close to 512 IRI nodes, 1,024 triples, 4,096 pairs, the most
+/// types, shapes or type sets, or the most records.
 pub fn near_limit(random: &mut Random) -> Pack {
     let small = random.between(0, 2);
-    match random.below(6) {
-        0 => product_pack(*random.pick(&[16, 32]), 512, small, false),
-        1 => product_pack(*random.pick(&[8, 32, 64]), 1_024, small, true),
-        2 => pairs_pack(64, 64, small),
-        3 => pairs_pack(17, *random.pick(&[240, 241]), small),
+    match random.below(12) {
+        0..=1 => product_pack(*random.pick(&[16, 32]), 512, small, false),
+        2..=3 => product_pack(*random.pick(&[8, 32, 64]), 1_024, small, true),
+        4..=5 => pairs_pack(64, 64, small),
+        6..=7 => pairs_pack(17, *random.pick(&[240, 241]), small),
+        8 => types_pack(MAX_TYPES - 1 + small),
+        9 => shapes_pack(MAX_SHAPES - 1 + small),
+        10 => many_sets(random),
         _ => full_pack(random),
+    }
+}
+
+/// A pack with many type sets, seldom with all there are.
+fn many_sets(random: &mut Random) -> Pack {
+    match random.below(6) {
+        0 => most_triples_pack(),
+        1 => many_starts_pack(),
+        2 => subsets_pack(MAX_TYPES),
+        _ => subsets_pack(random.between(2, MAX_TYPES - 1)),
     }
 }
 

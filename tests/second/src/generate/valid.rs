@@ -5,6 +5,7 @@ use crate::encode::encode;
 use crate::graph::all_clashing;
 use crate::pack::{
     keeps_dependencies, Atom, Constructor, Dependency, Head, Pack, Row, Rule, Shape, Term, LITERAL,
+    MAX_PREDICATES, MAX_TYPES,
 };
 
 /// The sample of the scope document.
@@ -147,8 +148,8 @@ pub fn free(random: &mut Random, mixed: usize) -> Pack {
     for _ in 0..random.between(1, 4) {
         pack.relations.push(random.between(1, widest) as u8);
     }
-    let most_types = if random.percent(20) { 8 } else { 5 };
-    let most_predicates = if random.percent(20) { 12 } else { 5 };
+    let most_types = *random.pick(&[5, 5, 5, 5, 8, MAX_TYPES]);
+    let most_predicates = *random.pick(&[5, 5, 5, 5, MAX_PREDICATES]);
     add_names(random, &mut pack.types, most_types);
     add_names(random, &mut pack.predicates, most_predicates);
     add_constructors(random, &mut pack);
@@ -188,7 +189,8 @@ pub fn free(random: &mut Random, mixed: usize) -> Pack {
 /// A pack whose type sets move along many required edges, so that many
 /// invented nodes arise.
 pub fn many_invented(random: &mut Random) -> Pack {
-    let types = random.between(3, 8);
+    let most_types = *random.pick(&[8, 8, MAX_TYPES]);
+    let types = random.between(3, most_types);
     let predicates = random.between(1, 5);
     let mut pack = Pack {
         values: vec![b"a".to_vec(), b"b".to_vec()],

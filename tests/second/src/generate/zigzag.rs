@@ -1,7 +1,7 @@
 //! A pack whose types spread as slowly as any can, where rounds walk over
 //! the triples from first to last and from last to first in turn.
 
-use crate::pack::{Head, Pack, LITERAL};
+use crate::pack::{Head, Pack, LITERAL, MAX_TYPES};
 use crate::records::{atom, constructor, edge, named, numbered, row, rule, shape, term, typed};
 
 const NEXT: u8 = 0;
@@ -16,29 +16,32 @@ const END: u8 = 2;
 /// a(x); one from last to first that passes it from a(x) to b(x + 1) has
 /// already been at those of b(x + 1). So each round adds one fact.
 ///
-/// b(0) has type 0. Once round the ring, at the last a(x), type t becomes
-/// type t + 1 of b(0), and type 7 ends in a literal. All nodes get all
-/// types. That is 16 facts a pair; one is given, and the literal's is one
-/// more. So 16 a pair are added, in one more round than that.
+/// There are as many types as there can be, 12. b(0) has type 0. Once round
+/// the ring, at the last a(x), type t becomes type t + 1 of b(0), and the
+/// last type ends in a literal. All nodes get all types. That is 24 facts a
+/// pair; one is given, and the literal's is one more. So 24 a pair are
+/// added, in one more round than that.
 ///
-/// With 256 pairs the rounds are 4,097, and no core needs more. Literals
+/// With 256 pairs the rounds are 6,145, and no core needs more. Literals
 /// have no outgoing edges and Literal has no shapes, so nothing follows from
 /// a round that adds only such facts: the next one adds nothing. Every
-/// earlier one adds a type to an IRI, and at least one of the 512 times 8
+/// earlier one adds a type to an IRI, and at least one of the 512 times 12
 /// such facts comes from a head.
 pub fn zigzag_pack(pairs: usize) -> Pack {
     let last = (pairs - 1) as u8;
+    let types = MAX_TYPES as u8;
     let mut pack = Pack {
         values: numbered(pairs),
         relations: vec![1, 2, 2],
-        types: named(b't', 8),
+        types: named(b't', types),
         predicates: [&b"next"[..], b"turn", b"end"].map(<[u8]>::to_vec).to_vec(),
         constructors: vec![constructor(1, b"a:"), constructor(1, b"b:")],
         ..Pack::default()
     };
-    pack.shapes.extend((0..8).map(|t| shape(t, NEXT, t, 3)));
-    pack.shapes.extend((0..7).map(|t| shape(t, TURN, t + 1, 3)));
-    pack.shapes.push(shape(7, END, LITERAL, 3));
+    let next = (0..types).map(|t| shape(t, NEXT, t, 3));
+    let turn = (1..types).map(|t| shape(t - 1, TURN, t, 3));
+    pack.shapes.extend(next.chain(turn));
+    pack.shapes.push(shape(types - 1, END, LITERAL, 3));
     add_rules(&mut pack);
     pack.rows.extend((0..=last).map(|x| row(0, &[x])));
     pack.rows.extend((0..last).map(|x| row(1, &[x, x + 1])));

@@ -223,8 +223,8 @@ fn a_zigzag_takes_a_round_for_each_fact() {
         let expected = Counts {
             nodes: 2 * pairs + 1,
             triples: 2 * pairs + 1,
-            added: 16 * pairs,
-            rounds: 16 * pairs + 1,
+            added: 24 * pairs,
+            rounds: 24 * pairs + 1,
         };
         assert_eq!(checked(&bytes), Ok(expected));
         // It has a graph: the core, with nothing invented.
@@ -265,12 +265,14 @@ fn random_packs() {
 #[test]
 fn written_packs() {
     let directory = Path::new(env!("CARGO_MANIFEST_DIR")).join("../vectors");
-    for file in ["cases.txt", "card-08.txt"] {
+    for file in ["cases.txt", "card-08.txt", "card-14.txt"] {
         for case in read_file(&directory.join(file)) {
             let _ = checked(&case.pack);
         }
     }
-    for case in read_directory(&directory.join("adversarial")) {
-        checked(&case.pack).unwrap();
+    for hard in ["adversarial", "adversarial-14"] {
+        for case in read_directory(&directory.join(hard)) {
+            checked(&case.pack).unwrap();
+        }
     }
 }

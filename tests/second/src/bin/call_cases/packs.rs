@@ -1,8 +1,9 @@
 //! The packs of the cases: the scope document's, packs refused by 3 to 9,
-//! packs at the limits, packs for spelled labels.
+//! packs at the limits, packs whose types are above the eighth, packs for
+//! spelled labels.
 
 use second::encode::{bodies, encode, join};
-use second::generate::{product_pack, sample};
+use second::generate::{product_pack, sample, types_pack};
 use second::pack::{Dependency, Head, Pack, LITERAL, MAX_BYTES};
 use second::records::{atom, constructor, edge, named, numbered, row, rule, shape, term, typed};
 
@@ -175,6 +176,47 @@ pub fn most_nodes() -> Pack {
     pack.rules.push(rule(&[atom(1, &[0])], value));
     let head = edge(term(1, &[0]), 11, term(0, &[0]));
     pack.rules.push(rule(&[atom(1, &[0])], head));
+    pack
+}
+
+/// Four nodes in a path. The first has three types, which become others
+/// along its edges. The type sets go up to 2,305, and to 3,200 in invented
+/// nodes.
+pub fn high_types() -> Pack {
+    let mut pack = types_pack(12);
+    pack.values = numbered(4);
+    pack.relations.push(2);
+    pack.rules
+        .push(rule(&[atom(0, &[0])], typed(term(0, &[0]), 8)));
+    let head = edge(term(0, &[0]), 0, term(0, &[1]));
+    pack.rules.push(rule(&[atom(1, &[0, 1])], head));
+    pack.rows.extend((0..3).map(|x| row(1, &[x, x + 1])));
+    pack
+}
+
+/// 10: the last of these nodes has type 11 by its edge only, and two values.
+pub fn high_clash() -> Pack {
+    let mut pack = high_types();
+    pack.predicates.push(b"pb".to_vec());
+    pack.shapes.push(shape(11, 1, LITERAL, 2));
+    pack.relations.push(2);
+    let head = Head::Value {
+        subject: term(0, &[0]),
+        predicate: 1,
+        variable: 1,
+    };
+    pack.rules.push(rule(&[atom(2, &[0, 1])], head));
+    pack.rows
+        .extend([[3, 2], [2, 3], [2, 1], [3, 0], [0, 1]].map(|values| row(2, &values)));
+    pack
+}
+
+/// 11: an invented node is a literal by type 11, and has a type by type 8.
+pub fn high_mixture() -> Pack {
+    let mut pack = high_types();
+    pack.predicates.push(b"pb".to_vec());
+    pack.shapes
+        .extend([shape(11, 1, LITERAL, 1), shape(8, 1, 9, 3)]);
     pack
 }
 

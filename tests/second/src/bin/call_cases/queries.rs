@@ -5,12 +5,16 @@
 //! `bounds`; 512 and 513 nodes in `at_limits` and `too_large`; 4,096 and
 //! 4,097 pairs in `pair_counts`; refusal 1 in `short_buffers`; refusals 2
 //! to 11 in `samples`, `refused` and `too_large`; labels of every byte
-//! value in `all_bytes`.
+//! value in `all_bytes`. The change requests, card 14: 12 and 13 types, 144
+//! and 145 shapes in `twelve_types`; all type sets in `all_type_sets`.
 
 use crate::packs;
 use crate::{Case, Query};
 use second::encode::encode;
-use second::generate::{case, pairs_pack, product_pack, sample};
+use second::generate::{
+    case, many_starts_pack, most_triples_pack, pairs_pack, product_pack, sample, shapes_pack,
+    stars_query, subsets_pack, types_pack,
+};
 use second::pairs;
 use second::query::MAX_BYTES;
 use second::spelling::segment;
@@ -30,6 +34,8 @@ pub fn all_cases() -> Vec<Case> {
     cases.extend(short_buffers());
     cases.extend(refused());
     cases.extend(at_limits());
+    cases.extend(twelve_types());
+    cases.extend(all_type_sets());
     cases.extend(pair_counts());
     cases.extend([segments(), all_bytes()]);
     for (number, count) in RANDOM {
@@ -250,6 +256,58 @@ fn at_limits() -> Vec<Case> {
     ];
     let case = |(title, pack, queries)| Case::new(title, encode(&pack), queries);
     cases.into_iter().map(case).collect()
+}
+
+/// The most types and shapes, and one more; types above the eighth, in
+/// node records, in invented nodes, in a clash and in a mixture.
+fn twelve_types() -> Vec<Case> {
+    let packs = [
+        ("12 types", types_pack(12)),
+        ("13 types", types_pack(13)),
+        ("143 shapes", shapes_pack(143)),
+        ("144 shapes", shapes_pack(144)),
+        ("145 shapes", shapes_pack(145)),
+        ("types above the eighth", packs::high_types()),
+        ("a clash by type 11", packs::high_clash()),
+        ("a mixture by types 8 and 11", packs::high_mixture()),
+    ];
+    let queries = texts(&[
+        "pa",
+        "pa/pa",
+        "pa*",
+        "<a:v0>/pa*/[pb]",
+        "pa/pl",
+        "pl/pa",
+        "pl|",
+    ]);
+    packs
+        .map(|(title, pack)| Case::new(title, encode(&pack), queries.clone()))
+        .into_iter()
+        .collect()
+}
+
+/// Every type set is a node, or all but one: queries whose paths are there
+/// or not by the invented nodes, of which most are numbered above 1,024.
+fn all_type_sets() -> Vec<Case> {
+    let subsets = [
+        "pa/pb/pc/pd/pe/pf/pg/ph/pi/pj/pk",
+        "pa/pb/pc/pd/pe/pf/pg/ph/pi/pj/pk/pl",
+        "<a:v0>/[pl/pk/pj/pi/ph/pg/pf/pe/pd/pc/pb]",
+        "<a:v0>/[pl/pk/pj/pi/ph/pg/pf/pe/pd/pc/pb/(pb|pa)]",
+        "<a:v0>/[pl/pk/pj/pi/ph/pg/pf/pe/pd/pc/pb/pb*/pa]",
+        "((pa|pb/pc)*/[pd/pe*/pf])*/pg",
+        "[_*/[pa]/pb/[pc]]",
+    ];
+    let most = ["_", "pa/pl", "[pb/pc*]/pl", "(pa|pc)*/[pb/pd/pl]", "_*"];
+    let starts = ["pa/pl", "[pc*/pl]/pa/[pb*/pk]/pl/\"v255\""];
+    let mut cases = vec![
+        Case::new("4,094 sets", encode(&subsets_pack(12)), texts(&subsets)),
+        Case::new("56,305 triples", encode(&most_triples_pack()), texts(&most)),
+        Case::new("768 starts", encode(&many_starts_pack()), texts(&starts)),
+    ];
+    let whole = |text| Query { lending: 0, text };
+    cases[2].queries.push(whole(stars_query()));
+    cases
 }
 
 /// Just 4,096 pairs, and 4,097.
