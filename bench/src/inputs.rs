@@ -1,9 +1,11 @@
 //! What is measured: packs with their queries.
 
 use second::encode::encode;
-use second::generate::{full_pack, sample, zigzag_pack, Random};
-use second::pack::{Dependency, Head, Pack, Rule};
-use second::records::{atom, constructor, numbered, row, term};
+use second::generate::{
+    full_pack, many_starts_pack, most_triples_pack, sample, stars_query, zigzag_pack, Random,
+};
+use second::pack::{well_formed, Dependency, Head, Pack, Rule};
+use second::records::{atom, constructor, numbered, row, rule, shape, term, typed};
 use std::path::Path;
 
 pub struct Input {
@@ -20,49 +22,87 @@ fn input(name: &str, pack: Vec<u8>, queries: &[&str]) -> Input {
     }
 }
 
-const ADVERSARIAL: [&str; 8] = [
-    "cross",
-    "late-failure",
-    "most-triples",
-    "nested-stars",
-    "nested-tests",
-    "pairs-4096-far",
-    "spread-slow",
-    "stars-255",
+/// The packs made to be slow, by their place in tests/vectors.
+const HARD: [&str; 13] = [
+    "adversarial/cross",
+    "adversarial/late-failure",
+    "adversarial/most-triples",
+    "adversarial/nested-stars",
+    "adversarial/nested-tests",
+    "adversarial/pairs-4096-far",
+    "adversarial/spread-slow",
+    "adversarial/stars-255",
+    "adversarial-14/closure-85-stars",
+    "adversarial-14/closure-many-starts",
+    "adversarial-14/closure-most-triples",
+    "adversarial-14/closure-nested-tests",
+    "adversarial-14/spread-slow-12",
 ];
 
-/// Every input. `foundry` is the pack of examples/foundry; `adversarial` the
-/// folder that has the packs made to be slow, with their queries.
-pub fn all(foundry: &Path, adversarial: &Path) -> std::io::Result<Vec<Input>> {
-    let mut inputs = vec![
+/// Every input. `foundry` is the pack of examples/foundry; `vectors` the folder
+/// that has the packs made to be slow, with their queries.
+pub fn all(foundry: &Path, vectors: &Path) -> std::io::Result<Vec<Input>> {
+    let foundry = std::fs::read(foundry)?;
+    let mut inputs = plain(foundry);
+    for place in HARD {
+        inputs.push(hard(vectors, place)?);
+    }
+    inputs.extend(largest());
+    inputs.extend(slow_rules());
+    Ok(inputs)
+}
+
+fn plain(foundry: Vec<u8>) -> Vec<Input> {
+    let asked = [
+        "<plant:leipzig>/offers",
+        "offers/fallback*/name",
+        "[sheet/signedby/name]/family/[script]/lead",
+    ];
+    let more_types = encode(&with_twelve_types(&foundry));
+    vec![
         input("empty", vec![0; 36], &["()"]),
         input(
             "sample",
             encode(&sample()),
             &["family/lead/name", "(family/lead)*", "[family/lead]/name"],
         ),
-        input(
-            "foundry",
-            std::fs::read(foundry)?,
-            &[
-                "<plant:leipzig>/offers",
-                "offers/fallback*/name",
-                "[sheet/signedby/name]/family/[script]/lead",
-            ],
-        ),
+        input("foundry", foundry, &asked),
+        input("foundry, 12 types", more_types, &asked),
         input("full", encode(&full(1)), &["_/_", "(pd|pe)*", "[_/pa]/pb"]),
-    ];
-    for name in ADVERSARIAL {
-        let file = |ending: &str| std::fs::read(adversarial.join(format!("{name}.{ending}")));
-        inputs.push(Input {
-            name: name.to_string(),
-            pack: file("pack")?,
-            queries: vec![file("query")?],
-        });
+    ]
+}
+
+/// A pack and its query from files, and what else is asked of it.
+fn hard(vectors: &Path, place: &str) -> std::io::Result<Input> {
+    let file = |ending: &str| std::fs::read(vectors.join(format!("{place}.{ending}")));
+    let (_, name) = place.split_once('/').expect("a folder and a name");
+    let mut queries = vec![file("query")?];
+    match name {
+        "most-triples" => queries.push(b"aa/ab".to_vec()),
+        "nested-stars" => queries.push(stars_query()),
+        _ => {}
     }
-    inputs[6].queries.push(b"aa/ab".to_vec());
-    inputs[7].queries.push(far().into_bytes());
-    let slow: [(&str, fn() -> Pack, &[&str]); 8] = [
+    Ok(Input {
+        name: name.to_string(),
+        pack: file("pack")?,
+        queries,
+    })
+}
+
+/// 4,864 nodes, invented ones of all 4,095 sets among them.
+fn largest() -> Vec<Input> {
+    let stars = String::from_utf8(stars_query()).expect("a text");
+    let asked = ["pa/pb", "[pa/pb]/pa*", &stars];
+    vec![
+        input("56,305 triples", encode(&most_triples_pack()), &asked),
+        input("768 starts", encode(&many_starts_pack()), &asked),
+    ]
+}
+
+/// Packs on which some step is as slow as it is known to be.
+fn slow_rules() -> Vec<Input> {
+    type Slow = (&'static str, fn() -> Pack, &'static [&'static str]);
+    let slow: [Slow; 8] = [
         ("zigzag", zigzag, &[]),
         ("third search fails", third_fails, &[]),
         ("rows against themselves", against_themselves, &[]),
@@ -72,20 +112,52 @@ pub fn all(foundry: &Path, adversarial: &Path) -> std::io::Result<Vec<Input>> {
         ("dependencies", dependencies, &[]),
         ("values", values, &[LAST_VALUE]),
     ];
-    for (name, pack, queries) in slow {
-        inputs.push(input(name, encode(&pack()), queries));
-    }
-    Ok(inputs)
+    let made = |(name, pack, queries): Slow| input(name, encode(&pack()), queries);
+    slow.into_iter().map(made).collect()
 }
 
-/// Types that spread in 4,097 rounds, the most that there can be.
+/// Types that spread in 6,145 rounds, the most that there can be.
 fn zigzag() -> Pack {
     zigzag_pack(256)
 }
 
-/// `_*/_*/..`, as long as a query may be: a walk passes each triple 85 times.
-fn far() -> String {
-    ["_*"; 85].join("/")
+/// The foundry's catalogue with five more types: styles are variable too, their
+/// families collections, and sheets of them proofs, each of a press and with a
+/// reviewer.
+fn with_twelve_types(foundry: &[u8]) -> Pack {
+    let mut pack = well_formed(foundry).unwrap_or_else(|_| panic!("the foundry's pack"));
+    let number = |names: &[Vec<u8>], name: &str| {
+        let found = names.iter().position(|known| known == name.as_bytes());
+        found.unwrap_or_else(|| panic!("{name} is in the foundry's pack")) as u8
+    };
+    let more = ["variable", "collection", "proof", "press", "reviewer"];
+    let more = more.map(|name| name.as_bytes().to_vec());
+    pack.types.extend(more);
+    for (owner, predicate, target) in [
+        ("variable", "family", "collection"),
+        ("variable", "sheet", "proof"),
+        ("collection", "lead", "variable"),
+        ("proof", "head", "press"),
+        ("proof", "signedby", "reviewer"),
+        ("press", "sheet", "proof"),
+    ] {
+        pack.shapes.push(shape(
+            number(&pack.types, owner),
+            number(&pack.predicates, predicate),
+            number(&pack.types, target),
+            4,
+        ));
+    }
+    let style = number(&pack.types, "style");
+    let variable = number(&pack.types, "variable");
+    let of_styles = pack.rules.iter().find_map(|known| match &known.head {
+        Head::Typed { term, type_number } if *type_number == style => {
+            Some(rule(&known.atoms, typed(term.clone(), variable)))
+        }
+        _ => None,
+    });
+    pack.rules.extend(of_styles);
+    pack
 }
 
 /// The most records in every body, within all limits.

@@ -26,9 +26,12 @@ pub struct Lent {
     pub pairs: Vec<u16>,
     pub rows: Vec<u16>,
     pub heads: Vec<u64>,
-    pub alive: Vec<u8>,
-    pub queue: Vec<u32>,
-    pub seen: Vec<u16>,
+    pub alive: Vec<u64>,
+    pub waiting: Vec<u64>,
+    pub stack: Vec<u16>,
+    pub seen: Vec<u64>,
+    pub own_nodes: Vec<u16>,
+    pub own_triples: Vec<u16>,
 }
 
 impl Default for Lent {
@@ -39,9 +42,12 @@ impl Default for Lent {
             pairs: vec![7; ciravehy::PAIR_LIST_LENGTH],
             rows: vec![7; ciravehy::ROWS_LENGTH],
             heads: vec![7; ciravehy::HEADS_LENGTH],
-            alive: vec![7; ciravehy::STATES],
-            queue: vec![7; ciravehy::STATES],
-            seen: vec![7; ciravehy::STATES],
+            alive: vec![7; ciravehy::STATE_WORDS],
+            waiting: vec![7; ciravehy::STATE_WORDS],
+            stack: vec![7; ciravehy::STATE_WORDS],
+            seen: vec![7; ciravehy::SEEN_WORDS],
+            own_nodes: vec![7; ciravehy::NODE_LIST_LENGTH],
+            own_triples: vec![7; ciravehy::TRIPLE_LIST_LENGTH],
         }
     }
 }
@@ -62,15 +68,32 @@ impl Lent {
             rows,
             heads,
             alive,
-            queue,
+            waiting,
+            stack,
             seen,
+            own_nodes,
+            own_triples,
         } = self;
         let outcome = match call {
             Call::Build => lent::build(pack, nodes, triples, rows, heads).map(|c| (0, c)),
-            Call::YesNo => lent::yes_no(pack, query, nodes, triples, rows, heads, alive, queue)
-                .map(|(yes, c)| (yes as usize, c)),
+            Call::YesNo => lent::yes_no(
+                pack, query, nodes, triples, rows, heads, alive, waiting, stack,
+            )
+            .map(|(yes, c)| (yes as usize, c)),
             Call::Pairs => lent::pairs(
-                pack, query, nodes, triples, pairs, rows, heads, alive, queue, seen,
+                pack,
+                query,
+                nodes,
+                triples,
+                pairs,
+                rows,
+                heads,
+                alive,
+                waiting,
+                stack,
+                seen,
+                own_nodes,
+                own_triples,
             ),
         };
         outcome
@@ -86,19 +109,35 @@ impl Lent {
             rows,
             heads,
             alive,
-            queue,
+            waiting,
+            stack,
             seen,
+            own_nodes,
+            own_triples,
         } = self;
         let outcome = match call {
             Call::Build => {
                 ordinary::build(checks, pack, nodes, triples, rows, heads).map(|c| (0, c))
             }
             Call::YesNo => ordinary::yes_no(
-                checks, pack, query, nodes, triples, rows, heads, alive, queue,
+                checks, pack, query, nodes, triples, rows, heads, alive, waiting, stack,
             )
             .map(|(yes, c)| (yes as usize, c)),
             Call::Pairs => ordinary::pairs(
-                checks, pack, query, nodes, triples, pairs, rows, heads, alive, queue, seen,
+                checks,
+                pack,
+                query,
+                nodes,
+                triples,
+                pairs,
+                rows,
+                heads,
+                alive,
+                waiting,
+                stack,
+                seen,
+                own_nodes,
+                own_triples,
             ),
         };
         outcome

@@ -2,7 +2,7 @@
 //! time of each call: ours, the same algorithm in ordinary Rust, and that with
 //! records compared after sorting instead of two by two.
 //!
-//!     bench FOUNDRY_PACK ADVERSARIAL_FOLDER [PART_OF_A_NAME]
+//!     bench FOUNDRY_PACK VECTORS_FOLDER [PART_OF_A_NAME]
 
 use bench::inputs::{all, Input};
 use bench::lent::{Call, Lent, Outcome, Program};
@@ -23,11 +23,11 @@ const PROGRAMS: [Program; 3] = [
 
 fn main() {
     let arguments: Vec<String> = std::env::args().collect();
-    let [_, foundry, adversarial, only @ ..] = &arguments[..] else {
-        eprintln!("bench FOUNDRY_PACK ADVERSARIAL_FOLDER [PART_OF_A_NAME]");
+    let [_, foundry, vectors, only @ ..] = &arguments[..] else {
+        eprintln!("bench FOUNDRY_PACK VECTORS_FOLDER [PART_OF_A_NAME]");
         std::process::exit(2);
     };
-    let inputs = all(Path::new(foundry), Path::new(adversarial)).unwrap_or_else(|error| {
+    let inputs = all(Path::new(foundry), Path::new(vectors)).unwrap_or_else(|error| {
         eprintln!("the packs cannot be read: {error}");
         std::process::exit(2);
     });

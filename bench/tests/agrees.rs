@@ -3,8 +3,11 @@
 
 use bench::lent::{Call, Lent, Program};
 use bench::ordinary::{self, Checks, Counts, Refused};
-use second::generate::{case, Case};
+use second::encode::encode;
+use second::generate::{case, many_starts_pack, most_triples_pack, stars_query};
+use second::vectors::read_file;
 use second::{Graph, Refusal};
+use std::path::Path;
 
 fn same_front(list: &[u16], front: impl Iterator<Item = u16>) {
     let front: Vec<u16> = front.collect();
@@ -35,17 +38,17 @@ fn same_refusal(ours: &Refused, theirs: &Refusal) {
     }
 }
 
-fn check_build(checks: Checks, case: &Case) {
+fn check_build(checks: Checks, pack: &[u8]) {
     let lent = &mut Lent::default();
     let ours = ordinary::build(
         checks,
-        &case.pack,
+        pack,
         &mut lent.nodes,
         &mut lent.triples,
         &mut lent.rows,
         &mut lent.heads,
     );
-    match (ours, second::build(&case.pack)) {
+    match (ours, second::build(pack)) {
         (Ok(counts), Ok(graph)) => holds(lent, counts, &graph),
         (Err(ours), Err(theirs)) => {
             same_refusal(&ours, &theirs);
@@ -55,20 +58,21 @@ fn check_build(checks: Checks, case: &Case) {
     }
 }
 
-fn check_yes_no(checks: Checks, case: &Case) {
+fn check_yes_no(checks: Checks, pack: &[u8], query: &[u8]) {
     let lent = &mut Lent::default();
     let ours = ordinary::yes_no(
         checks,
-        &case.pack,
-        &case.query,
+        pack,
+        query,
         &mut lent.nodes,
         &mut lent.triples,
         &mut lent.rows,
         &mut lent.heads,
         &mut lent.alive,
-        &mut lent.queue,
+        &mut lent.waiting,
+        &mut lent.stack,
     );
-    match (ours, second::yes_no(&case.pack, &case.query)) {
+    match (ours, second::yes_no(pack, query)) {
         (Ok((yes, counts)), Ok((answer, graph))) => {
             assert_eq!(yes, answer);
             holds(lent, counts, &graph);
@@ -81,22 +85,25 @@ fn check_yes_no(checks: Checks, case: &Case) {
     }
 }
 
-fn check_pairs(checks: Checks, case: &Case) {
+fn check_pairs(checks: Checks, pack: &[u8], query: &[u8]) {
     let lent = &mut Lent::default();
     let ours = ordinary::pairs(
         checks,
-        &case.pack,
-        &case.query,
+        pack,
+        query,
         &mut lent.nodes,
         &mut lent.triples,
         &mut lent.pairs,
         &mut lent.rows,
         &mut lent.heads,
         &mut lent.alive,
-        &mut lent.queue,
+        &mut lent.waiting,
+        &mut lent.stack,
         &mut lent.seen,
+        &mut lent.own_nodes,
+        &mut lent.own_triples,
     );
-    match (ours, second::pairs(&case.pack, &case.query)) {
+    match (ours, second::pairs(pack, query)) {
         (Ok((count, counts)), Ok((pairs, graph))) => {
             assert_eq!(count, pairs.len());
             same_front(&lent.pairs, pairs.iter().flatten().copied());
@@ -108,11 +115,19 @@ fn check_pairs(checks: Checks, case: &Case) {
         }
         (ours, _) => panic!("pairs: {ours:?}"),
     }
-    let zero = [&lent.rows, &lent.seen].into_iter().flatten();
-    assert!(zero.into_iter().all(|n| *n == 0));
-    assert!(lent.heads.iter().all(|n| *n == 0));
-    assert!(lent.alive.iter().all(|n| *n == 0));
-    assert!(lent.queue.iter().all(|n| *n == 0));
+    let short = [&lent.rows, &lent.stack, &lent.own_nodes, &lent.own_triples];
+    assert!(short.into_iter().flatten().all(|n| *n == 0));
+    let long = [&lent.heads, &lent.alive, &lent.waiting, &lent.seen];
+    assert!(long.into_iter().flatten().all(|n| *n == 0));
+}
+
+fn check(checks: Checks, pack: &[u8], query: &[u8], title: &str) {
+    let outcome = std::panic::catch_unwind(|| {
+        check_build(checks, pack);
+        check_yes_no(checks, pack, query);
+        check_pairs(checks, pack, query);
+    });
+    assert!(outcome.is_ok(), "{title}");
 }
 
 #[test]
@@ -123,12 +138,28 @@ fn the_ordinary_program_agrees_with_the_second() {
             0 => Checks::TwoByTwo,
             _ => Checks::Sorted,
         };
-        let outcome = std::panic::catch_unwind(|| {
-            check_build(checks, &case);
-            check_yes_no(checks, &case);
-            check_pairs(checks, &case);
-        });
-        assert!(outcome.is_ok(), "seed {seed}, {}", case.family);
+        let title = format!("seed {seed}, {}", case.family);
+        check(checks, &case.pack, &case.query, &title);
+    }
+}
+
+/// Written cases with 9 to 12 types, one of them with all sets of types.
+#[test]
+fn it_agrees_on_twelve_types() {
+    let file = concat!(env!("CARGO_MANIFEST_DIR"), "/../tests/vectors/card-14.txt");
+    for case in read_file(Path::new(file)) {
+        check(Checks::TwoByTwo, &case.pack, &case.query, &case.title);
+    }
+}
+
+/// The largest graphs, by the longest queries.
+#[test]
+fn it_agrees_on_the_largest() {
+    let tests = b"[_*/pa]/(pb|pa/[pl]/pl)*/[(pa/pb)*/[pc]]".to_vec();
+    for pack in [most_triples_pack(), many_starts_pack()] {
+        for query in [stars_query(), tests.clone()] {
+            check(Checks::Sorted, &encode(&pack), &query, "the largest");
+        }
     }
 }
 

@@ -24,21 +24,23 @@ extern "C" {
 
 /* ---- lengths, or more */
 
-/* Lists: 1,024 nodes of seven numbers, 10,228 triples of three, 4,096 pairs of two. */
-#define CIRAVEHY_NODE_LIST_LENGTH 7168
-#define CIRAVEHY_TRIPLE_LIST_LENGTH 30684
+/* Lists: 4,864 nodes of seven numbers, 56,308 triples of three, 4,096 pairs of two. The working buffers own_nodes and
+ * own_triples are as long as the lists nodes and triples. */
+#define CIRAVEHY_NODE_LIST_LENGTH 34048
+#define CIRAVEHY_TRIPLE_LIST_LENGTH 168924
 #define CIRAVEHY_PAIR_LIST_LENGTH 8192
 
-/* Working buffers; the last is the length of each of alive, queue and seen. */
+/* The other working buffers: rows, heads; each of alive, waiting and stack; seen. */
 #define CIRAVEHY_ROWS_LENGTH 9216
 #define CIRAVEHY_HEADS_LENGTH 32768
-#define CIRAVEHY_STATES 263168
+#define CIRAVEHY_STATE_WORDS 19532
+#define CIRAVEHY_SEEN_WORDS 3084
 
 /* Stack that the calling thread has, in bytes, or more. */
-#define CIRAVEHY_BUILD_STACK 81920
-#define CIRAVEHY_YES_NO_STACK 106496
-#define CIRAVEHY_PAIRS_STACK 196608
-#define CIRAVEHY_READ_BACK_STACK 40960
+#define CIRAVEHY_BUILD_STACK 98304
+#define CIRAVEHY_YES_NO_STACK 229376
+#define CIRAVEHY_PAIRS_STACK 245760
+#define CIRAVEHY_READ_BACK_STACK 49152
 
 /* Reports, of exactly these lengths. Every call writes the whole of its report. */
 #define CIRAVEHY_REPORT_LENGTH 25
@@ -79,12 +81,14 @@ uint8_t ciravehy_yes_no(
     uint16_t *triples, size_t triples_length,
     uint16_t *rows, size_t rows_length,
     uint64_t *heads, size_t heads_length,
-    uint8_t *alive, size_t alive_length,
-    uint32_t *queue, size_t queue_length,
+    uint64_t *alive, size_t alive_length,
+    uint64_t *waiting, size_t waiting_length,
+    uint16_t *stack, size_t stack_length,
     uint16_t *report);
 
 /* The pairs of named nodes that the query joins in every finite graph that obeys the pack, at the front of pairs; its
- * graph, as by build. Refusals 1 to 12. */
+ * graph, as by build. Refusals 1 to 12. The working buffers own_nodes and own_triples hold the graph until it is known that
+ * there are not too many pairs. */
 uint8_t ciravehy_pairs(
     const uint8_t *pack, size_t pack_length,
     const uint8_t *query, size_t query_length,
@@ -93,9 +97,12 @@ uint8_t ciravehy_pairs(
     uint16_t *pairs, size_t pairs_length,
     uint16_t *rows, size_t rows_length,
     uint64_t *heads, size_t heads_length,
-    uint8_t *alive, size_t alive_length,
-    uint32_t *queue, size_t queue_length,
-    uint16_t *seen, size_t seen_length,
+    uint64_t *alive, size_t alive_length,
+    uint64_t *waiting, size_t waiting_length,
+    uint16_t *stack, size_t stack_length,
+    uint64_t *seen, size_t seen_length,
+    uint16_t *own_nodes, size_t own_nodes_length,
+    uint16_t *own_triples, size_t own_triples_length,
     uint16_t *report);
 
 /* What an IRI's text is spelled from: the constructor and four values in argument order, 65,535 where unused or refused, in

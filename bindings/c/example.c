@@ -13,9 +13,12 @@ static uint16_t triples[CIRAVEHY_TRIPLE_LIST_LENGTH];
 static uint16_t pairs[CIRAVEHY_PAIR_LIST_LENGTH];
 static uint16_t rows[CIRAVEHY_ROWS_LENGTH];
 static uint64_t heads[CIRAVEHY_HEADS_LENGTH];
-static uint8_t alive[CIRAVEHY_STATES];
-static uint32_t queue[CIRAVEHY_STATES];
-static uint16_t seen[CIRAVEHY_STATES];
+static uint64_t alive[CIRAVEHY_STATE_WORDS];
+static uint64_t waiting[CIRAVEHY_STATE_WORDS];
+static uint16_t stack[CIRAVEHY_STATE_WORDS];
+static uint64_t seen[CIRAVEHY_SEEN_WORDS];
+static uint16_t own_nodes[CIRAVEHY_NODE_LIST_LENGTH];
+static uint16_t own_triples[CIRAVEHY_TRIPLE_LIST_LENGTH];
 static uint16_t report[CIRAVEHY_REPORT_LENGTH];
 
 static void print_numbers(const char *what, const uint16_t *numbers, size_t count)
@@ -49,12 +52,13 @@ static void show_graph(size_t size)
 static void show_answer(size_t size, const uint8_t *query, size_t length)
 {
     if (!refused("yes/no", ciravehy_yes_no(pack, size, query, length, nodes, CIRAVEHY_NODE_LIST_LENGTH, triples,
-            CIRAVEHY_TRIPLE_LIST_LENGTH, rows, CIRAVEHY_ROWS_LENGTH, heads, CIRAVEHY_HEADS_LENGTH, alive, CIRAVEHY_STATES,
-            queue, CIRAVEHY_STATES, report)))
+            CIRAVEHY_TRIPLE_LIST_LENGTH, rows, CIRAVEHY_ROWS_LENGTH, heads, CIRAVEHY_HEADS_LENGTH, alive,
+            CIRAVEHY_STATE_WORDS, waiting, CIRAVEHY_STATE_WORDS, stack, CIRAVEHY_STATE_WORDS, report)))
         printf("certain %s\n", report[CIRAVEHY_ANSWER] ? "yes" : "no");
     if (refused("pairs", ciravehy_pairs(pack, size, query, length, nodes, CIRAVEHY_NODE_LIST_LENGTH, triples,
             CIRAVEHY_TRIPLE_LIST_LENGTH, pairs, CIRAVEHY_PAIR_LIST_LENGTH, rows, CIRAVEHY_ROWS_LENGTH, heads,
-            CIRAVEHY_HEADS_LENGTH, alive, CIRAVEHY_STATES, queue, CIRAVEHY_STATES, seen, CIRAVEHY_STATES, report)))
+            CIRAVEHY_HEADS_LENGTH, alive, CIRAVEHY_STATE_WORDS, waiting, CIRAVEHY_STATE_WORDS, stack, CIRAVEHY_STATE_WORDS,
+            seen, CIRAVEHY_SEEN_WORDS, own_nodes, CIRAVEHY_NODE_LIST_LENGTH, own_triples, CIRAVEHY_TRIPLE_LIST_LENGTH, report)))
         return;
     for (size_t i = 0; i < report[CIRAVEHY_ANSWER]; i++)
         print_numbers("pair", pairs + 2 * i, 2);

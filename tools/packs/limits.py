@@ -1,4 +1,4 @@
-"""The limits of document 01, each named once."""
+"""The limits of documents 01 and 02, each named once."""
 
 PACK_BYTES = 65_536
 BODIES = ("values", "relations", "dependencies", "types", "predicates",
@@ -10,9 +10,9 @@ RECORDS = {
     "values": 256,
     "relations": 16,
     "dependencies": 32,
-    "types": 8,
+    "types": 12,
     "predicates": 12,
-    "shapes": 96,
+    "shapes": 144,
     "constructors": 16,
     "rules": 32,
     "rows": 1_024,

@@ -1,6 +1,6 @@
 """Why no graph obeys a pack: refusals 10 and 11."""
 
-from collections import defaultdict
+from collections import defaultdict, deque
 from dataclasses import dataclass
 
 import limits
@@ -103,12 +103,13 @@ def mixed(core):
 
 
 def mixed_invented(core):
-    nodes = set(core.types) | set(core.edges)
-    todo = [(core.text(node), frozenset(core.types.get(node, ())), core.edges.get(node, {})) for node in nodes
-            if isinstance(node, tuple)]
+    """Each set that mixes, told by the shortest way to it: there can be thousands of sets, one after another."""
+    nodes = sorted(set(core.types) | set(core.edges), key=order)
+    todo = deque((core.text(node), frozenset(core.types.get(node, ())), core.edges.get(node, {})) for node in nodes
+                 if isinstance(node, tuple))
     seen = set()
     while todo:
-        who, types, edges = todo.pop()
+        who, types, edges = todo.popleft()
         for predicate in range(len(core.pack.predicates)):
             shapes = [core.shapes[number, predicate] for number in sorted(types) if (number, predicate) in core.shapes]
             if predicate in edges or not any(shape.multiplicity in (1, 4) for shape in shapes):

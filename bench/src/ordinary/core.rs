@@ -1,38 +1,28 @@
 //! The core: nodes, triples and types. Refusal 9.
 
+use super::bits::members;
 use super::matching::{self, Work};
-use super::pack::{Head, Pack, LITERAL};
+use super::pack::{Head, Pack, LITERAL, MOST_PREDICATES, MOST_TYPES};
 
 pub const FIRST_LITERAL: u64 = 1 << 36;
 /// The weight of Literal in a mask of types.
 pub const LITERAL_WEIGHT: u16 = 1 << 15;
 
-/// The members of a set, a mask of types or of predicates, from the lowest upward.
-pub fn members(mut mask: u16) -> impl Iterator<Item = usize> {
-    std::iter::from_fn(move || {
-        (mask != 0).then(|| {
-            let lowest = mask.trailing_zeros() as usize;
-            mask &= mask - 1;
-            lowest
-        })
-    })
-}
-
 /// What the shapes say of each type.
 pub struct Shapes {
     /// The target's weight, by predicate.
-    targets: [[u16; 12]; 8],
+    targets: [[u16; MOST_PREDICATES]; MOST_TYPES],
     /// Predicates as masks.
-    required: [u16; 8],
-    limited: [u16; 8],
+    required: [u16; MOST_TYPES],
+    limited: [u16; MOST_TYPES],
 }
 
 impl Shapes {
     pub fn new(pack: &Pack) -> Shapes {
         let mut shapes = Shapes {
-            targets: [[0; 12]; 8],
-            required: [0; 8],
-            limited: [0; 8],
+            targets: [[0; MOST_PREDICATES]; MOST_TYPES],
+            required: [0; MOST_TYPES],
+            limited: [0; MOST_TYPES],
         };
         for shape in &pack.shapes {
             let (t, p) = (shape.owner as usize, shape.predicate as usize);
@@ -63,7 +53,7 @@ impl Shapes {
 }
 
 fn types(set: u16) -> impl Iterator<Item = usize> {
-    members(set & 255)
+    members(set & ((1 << MOST_TYPES) - 1))
 }
 
 pub struct Core {

@@ -1,14 +1,24 @@
 //! From the core to the graph in its two lists. Refusals 10 and 11.
 
-use super::core::{members, parts, Core, Shapes, FIRST_LITERAL, LITERAL_WEIGHT};
-use super::pack::Pack;
+use super::bits::{members, Worklist};
+use super::core::{parts, Core, Shapes, FIRST_LITERAL, LITERAL_WEIGHT};
+use super::pack::{Pack, MOST_TYPES};
 use super::{Counts, Refused};
 
 const UNUSED: u16 = 65_535;
 
-/// The number of a set of types and Literal, below 512.
+/// The number of {Literal}. Sets of types have those below it, and sets with
+/// Literal and types those above.
+const LITERAL_SET: usize = 1 << MOST_TYPES;
+
+/// Words of a set of set numbers.
+const SET_WORDS: usize = 2 * LITERAL_SET / 64;
+
+type Sets = [u64; SET_WORDS];
+
+/// The number of a set of types and Literal.
 fn set_number(mask: u16) -> usize {
-    ((mask & 255) | mask >> 15 << 8) as usize
+    mask as usize % LITERAL_SET + (mask / LITERAL_WEIGHT) as usize * LITERAL_SET
 }
 
 fn record(pack: &Pack, core: &Core, node: usize) -> [u16; 7] {
@@ -49,37 +59,54 @@ fn clash(pack: &Pack, core: &Core, shapes: &Shapes) -> Option<[u16; 22]> {
     Some(clash)
 }
 
-/// The sets of the invented nodes, as flags by number. `with_edge` has each core node's predicates.
-fn invent(core: &Core, shapes: &Shapes, with_edge: &[u16]) -> [bool; 512] {
-    let mut invented = [false; 512];
-    let mut left = Vec::new();
-    let mut lead = |mask: u16, except: u16, left: &mut Vec<u16>| {
+/// Each core node's predicates.
+fn with_edge(core: &Core) -> Vec<u16> {
+    let mut with_edge = vec![0; core.nodes.len()];
+    for &triple in &core.triples {
+        let (s, p, _) = parts(triple);
+        with_edge[s] |= 1 << p;
+    }
+    with_edge
+}
+
+/// The sets of the invented nodes. `with_edge` has each core node's predicates.
+fn invent(core: &Core, shapes: &Shapes, with_edge: &[u16]) -> Sets {
+    let (mut invented, mut waiting) = ([0; SET_WORDS], [0; SET_WORDS]);
+    let mut stack = [0; SET_WORDS];
+    let mut sets = Worklist::new(&mut invented, &mut waiting, &mut stack);
+    let lead = |mask: u16, except: u16, sets: &mut Worklist| {
         for p in members(shapes.required(mask) & !except) {
-            let target = shapes.targets(mask, p);
-            let flag = &mut invented[set_number(target)];
-            if !*flag {
-                *flag = true;
-                left.push(target);
-            }
+            sets.mark(set_number(shapes.targets(mask, p)));
         }
     };
     for (mask, except) in core.types.iter().zip(with_edge) {
-        lead(*mask, *except, &mut left);
+        lead(*mask, *except, &mut sets);
     }
-    while let Some(mask) = left.pop() {
-        lead(mask, 0, &mut left);
+    while let Some((word, bits)) = sets.take() {
+        for place in members(bits) {
+            lead((word * 64 + place) as u16, 0, &mut sets);
+        }
     }
     invented
 }
 
-fn mixed(core: &Core, invented: &[bool; 512]) -> bool {
+/// Whether a set holds Literal and a type.
+fn mixed(core: &Core, invented: &Sets) -> bool {
+    let above = &invented[LITERAL_SET / 64..];
     core.types[..core.iris]
         .iter()
         .any(|mask| mask & LITERAL_WEIGHT != 0)
         || core.types[core.iris..]
             .iter()
             .any(|mask| mask & !LITERAL_WEIGHT != 0)
-        || invented[257..].contains(&true)
+        || above[0] > 1
+        || above[1..].iter().any(|word| *word != 0)
+}
+
+/// The invented sets of types, ascending.
+fn type_sets(invented: &Sets) -> impl Iterator<Item = usize> + '_ {
+    let words = invented[..LITERAL_SET / 64].iter().enumerate();
+    words.flat_map(|(word, bits)| members(*bits).map(move |place| word * 64 + place))
 }
 
 /// Writes the graph at the front of the lists.
@@ -93,65 +120,92 @@ pub fn write(
     if let Some(clash) = clash(pack, core, shapes) {
         return Err(Refused { number: 10, clash });
     }
-    let mut with_edge = vec![0u16; core.nodes.len()];
-    for &triple in &core.triples {
-        let (s, p, _) = parts(triple);
-        with_edge[s] |= 1 << p;
-    }
+    let with_edge = with_edge(core);
     let invented = invent(core, shapes, &with_edge);
     if mixed(core, &invented) {
         return Err(Refused::new(11));
     }
-    let mut places = [0u16; 512];
-    let mut count = core.nodes.len();
-    for (node, out) in nodes.chunks_exact_mut(7).take(count).enumerate() {
-        out.copy_from_slice(&record(pack, core, node));
-    }
-    for set in std::iter::once(256).chain(1..256) {
-        if invented[set] {
-            places[set] = count as u16;
-            let kind = if set == 256 { 2 } else { 3 };
-            let types = (set & 255) as u16;
-            nodes[count * 7..count * 7 + 7]
-                .copy_from_slice(&[kind, 0, types, UNUSED, UNUSED, UNUSED, UNUSED]);
-            count += 1;
-        }
-    }
-    let mut out = triples.chunks_exact_mut(3);
-    let mut written = 0;
-    let mut put = |s: usize, p: usize, o: u16| {
-        let place = out.next().unwrap();
-        place[0] = s as u16;
-        place[1] = p as u16;
-        place[2] = o;
-        written += 1;
+    let (nodes, places) = write_nodes(pack, core, &invented, nodes.as_chunks_mut().0);
+    let mut edges = Edges {
+        shapes,
+        places: &places,
+        out: triples.as_chunks_mut().0,
+        count: 0,
     };
-    let mut rest = core.triples.iter().copied().peekable();
-    for s in 0..core.iris {
-        let types = core.types[s];
-        for p in members(with_edge[s] | shapes.required(types)) {
-            if with_edge[s] >> p & 1 == 0 {
-                put(s, p, places[set_number(shapes.targets(types, p))]);
-                continue;
-            }
-            let origin = (s << 4 | p) as u32;
-            while let Some(triple) = rest.next_if(|triple| triple >> 10 == origin) {
-                put(s, p, (triple & 1_023) as u16);
+    edges.of_core(core, &with_edge);
+    for set in type_sets(&invented) {
+        edges.of_invented(set);
+    }
+    let triples = edges.count;
+    Ok(Counts { nodes, triples })
+}
+
+/// Writes the nodes. Gives their count, and the invented ones by set number.
+fn write_nodes(
+    pack: &Pack,
+    core: &Core,
+    invented: &Sets,
+    out: &mut [[u16; 7]],
+) -> (usize, [u16; LITERAL_SET + 1]) {
+    let mut places = [0; LITERAL_SET + 1];
+    let mut count = core.nodes.len();
+    for (node, out) in out[..count].iter_mut().enumerate() {
+        *out = record(pack, core, node);
+    }
+    let mut put = |set: usize, kind: u16, types: u16| {
+        places[set] = count as u16;
+        out[count] = [kind, 0, types, UNUSED, UNUSED, UNUSED, UNUSED];
+        count += 1;
+    };
+    if invented[LITERAL_SET / 64] == 1 {
+        put(LITERAL_SET, 2, 0);
+    }
+    for set in type_sets(invented) {
+        put(set, 3, set as u16);
+    }
+    (count, places)
+}
+
+struct Edges<'a> {
+    shapes: &'a Shapes,
+    places: &'a [u16; LITERAL_SET + 1],
+    out: &'a mut [[u16; 3]],
+    count: usize,
+}
+
+impl Edges<'_> {
+    fn put(&mut self, subject: usize, predicate: usize, object: u16) {
+        self.out[self.count] = [subject as u16, predicate as u16, object];
+        self.count += 1;
+    }
+
+    /// An edge to the invented node of the p-targets.
+    fn put_invented(&mut self, subject: usize, types: u16, p: usize) {
+        let set = set_number(self.shapes.targets(types, p));
+        self.put(subject, p, self.places[set]);
+    }
+
+    fn of_core(&mut self, core: &Core, with_edge: &[u16]) {
+        let mut rest = core.triples.iter().copied().peekable();
+        let iris = core.types[..core.iris].iter().zip(with_edge);
+        for (s, (&types, &present)) in iris.enumerate() {
+            for p in members(present | self.shapes.required(types)) {
+                if present >> p & 1 == 0 {
+                    self.put_invented(s, types, p);
+                    continue;
+                }
+                let origin = (s << 4 | p) as u32;
+                while let Some(triple) = rest.next_if(|triple| triple >> 10 == origin) {
+                    self.put(s, p, (triple & 1_023) as u16);
+                }
             }
         }
     }
-    for set in (1..256).filter(|set| invented[*set]) {
+
+    fn of_invented(&mut self, set: usize) {
         let types = set as u16;
-        for p in members(shapes.required(types)) {
-            put(
-                places[set] as usize,
-                p,
-                places[set_number(shapes.targets(types, p))],
-            );
+        for p in members(self.shapes.required(types)) {
+            self.put_invented(self.places[set] as usize, types, p);
         }
     }
-    Ok(Counts {
-        nodes: count,
-        triples: written,
-    })
 }

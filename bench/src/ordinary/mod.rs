@@ -3,6 +3,7 @@
 //! promises about them, written for speed and not proved.
 
 mod answers;
+mod bits;
 mod core;
 mod graph;
 mod matching;
@@ -10,8 +11,17 @@ mod pack;
 mod query;
 mod resolve;
 
-use answers::Problem;
+use answers::{Problem, Tables};
 pub use pack::Checks;
+
+/// The least lengths of what is lent.
+const NODES: usize = 34_048;
+const TRIPLES: usize = 168_924;
+const PAIRS: usize = 8_192;
+const ROWS: usize = 9_216;
+const HEADS: usize = 32_768;
+const STATE_WORDS: usize = 19_532;
+const SEEN_WORDS: usize = 3_084;
 
 #[derive(Clone, Copy, Debug, PartialEq, Eq)]
 pub struct Counts {
@@ -69,7 +79,7 @@ pub fn build(
     rows: &mut [u16],
     heads: &mut [u64],
 ) -> Result<Counts, Refused> {
-    if nodes.len() < 7_168 || triples.len() < 30_684 || rows.len() < 9_216 || heads.len() < 32_768 {
+    if nodes.len() < NODES || triples.len() < TRIPLES || rows.len() < ROWS || heads.len() < HEADS {
         return Err(Refused::new(1));
     }
     let built = construct(checks, pack, nodes, triples, heads);
@@ -87,27 +97,34 @@ pub fn yes_no(
     triples: &mut [u16],
     rows: &mut [u16],
     heads: &mut [u64],
-    alive: &mut [u8],
-    queue: &mut [u32],
+    alive: &mut [u64],
+    waiting: &mut [u64],
+    stack: &mut [u16],
 ) -> Result<(bool, Counts), Refused> {
-    if nodes.len() < 7_168
-        || triples.len() < 30_684
-        || rows.len() < 9_216
-        || heads.len() < 32_768
-        || alive.len() < 263_168
-        || queue.len() < 263_168
+    if nodes.len() < NODES
+        || triples.len() < TRIPLES
+        || rows.len() < ROWS
+        || heads.len() < HEADS
+        || alive.len() < STATE_WORDS
+        || waiting.len() < STATE_WORDS
+        || stack.len() < STATE_WORDS
     {
         return Err(Refused::new(1));
     }
-    let answer = yes(checks, pack, query, nodes, triples, heads, alive, queue);
+    let tables = Tables {
+        alive,
+        waiting,
+        stack,
+    };
+    let answer = yes(checks, pack, query, nodes, triples, heads, tables);
     rows.fill(0);
     heads.fill(0);
     alive.fill(0);
-    queue.fill(0);
+    waiting.fill(0);
+    stack.fill(0);
     answer
 }
 
-#[allow(clippy::too_many_arguments)]
 fn yes(
     checks: Checks,
     pack: &[u8],
@@ -115,21 +132,30 @@ fn yes(
     nodes: &mut [u16],
     triples: &mut [u16],
     heads: &mut [u64],
-    alive: &mut [u8],
-    queue: &mut [u32],
+    tables: Tables,
 ) -> Result<(bool, Counts), Refused> {
     let parts = query::read(query).ok_or(Refused::new(2))?;
     let built = construct(checks, pack, nodes, triples, heads)?;
-    alive.fill(0);
+    tables.alive.fill(0);
+    tables.waiting.fill(0);
     let wanted = resolve::resolve(&built.pack, &built.named, &parts);
-    let problem = Problem {
-        next: answers::thread(&parts),
-        parts: &parts,
-        wanted: &wanted,
-        nodes: built.counts.nodes,
-        triples: &triples[..built.counts.triples * 3],
-    };
-    Ok((answers::some_joined(&problem, alive, queue), built.counts))
+    let problem = problem(&parts, &wanted, built.counts, triples);
+    Ok((answers::some_joined(&problem, tables), built.counts))
+}
+
+fn problem<'a>(
+    parts: &'a [query::Part<'a>],
+    wanted: &'a [u16],
+    counts: Counts,
+    triples: &'a [u16],
+) -> Problem<'a> {
+    Problem {
+        next: answers::thread(parts),
+        parts,
+        wanted,
+        nodes: counts.nodes,
+        triples: &triples.as_chunks().0[..counts.triples],
+    }
 }
 
 #[allow(clippy::too_many_arguments)]
@@ -142,30 +168,67 @@ pub fn pairs(
     pairs: &mut [u16],
     rows: &mut [u16],
     heads: &mut [u64],
-    alive: &mut [u8],
-    queue: &mut [u32],
-    seen: &mut [u16],
+    alive: &mut [u64],
+    waiting: &mut [u64],
+    stack: &mut [u16],
+    seen: &mut [u64],
+    own_nodes: &mut [u16],
+    own_triples: &mut [u16],
 ) -> Result<(usize, Counts), Refused> {
-    if nodes.len() < 7_168
-        || triples.len() < 30_684
-        || pairs.len() < 8_192
-        || rows.len() < 9_216
-        || heads.len() < 32_768
-        || alive.len() < 263_168
-        || queue.len() < 263_168
-        || seen.len() < 263_168
+    if nodes.len() < NODES
+        || triples.len() < TRIPLES
+        || pairs.len() < PAIRS
+        || rows.len() < ROWS
+        || heads.len() < HEADS
+        || alive.len() < STATE_WORDS
+        || waiting.len() < STATE_WORDS
+        || stack.len() < STATE_WORDS
+        || seen.len() < SEEN_WORDS
+        || own_nodes.len() < NODES
+        || own_triples.len() < TRIPLES
     {
         return Err(Refused::new(1));
     }
-    let answer = joined(
-        checks, pack, query, nodes, triples, pairs, heads, alive, queue, seen,
+    let tables = Tables {
+        alive,
+        waiting,
+        stack,
+    };
+    // 12 is known only at the end, so the graph is built in working buffers.
+    let found = joined(
+        checks,
+        pack,
+        query,
+        own_nodes,
+        own_triples,
+        heads,
+        tables,
+        seen,
     );
-    rows.fill(0);
-    heads.fill(0);
-    alive.fill(0);
-    queue.fill(0);
-    seen.fill(0);
+    let answer = found.map(|found| {
+        let counts = found.counts;
+        copy_front(own_nodes, 7 * counts.nodes, nodes);
+        copy_front(own_triples, 3 * counts.triples, triples);
+        let list = found.pairs.as_flattened();
+        copy_front(list, list.len(), pairs);
+        (found.pairs.len(), counts)
+    });
+    for numbers in [rows, stack, own_nodes, own_triples] {
+        numbers.fill(0);
+    }
+    for numbers in [heads, alive, waiting, seen] {
+        numbers.fill(0);
+    }
     answer
+}
+
+fn copy_front(from: &[u16], count: usize, to: &mut [u16]) {
+    to[..count].copy_from_slice(&from[..count]);
+}
+
+struct Found {
+    pairs: Vec<[u16; 2]>,
+    counts: Counts,
 }
 
 #[allow(clippy::too_many_arguments)]
@@ -175,37 +238,21 @@ fn joined(
     query: &[u8],
     nodes: &mut [u16],
     triples: &mut [u16],
-    pairs: &mut [u16],
     heads: &mut [u64],
-    alive: &mut [u8],
-    queue: &mut [u32],
-    seen: &mut [u16],
-) -> Result<(usize, Counts), Refused> {
+    tables: Tables,
+    seen: &mut [u64],
+) -> Result<Found, Refused> {
     let parts = query::read(query).ok_or(Refused::new(2))?;
-    // 12 is known only at the end, so the graph is built in lists of the call's own.
-    let mut points = [0; 7_168];
-    let mut links = [0; 30_684];
-    let built = construct(checks, pack, &mut points, &mut links, heads)?;
-    let Counts {
-        nodes: n,
-        triples: t,
-    } = built.counts;
-    alive.fill(0);
+    let built = construct(checks, pack, nodes, triples, heads)?;
+    tables.alive.fill(0);
+    tables.waiting.fill(0);
     seen.fill(0);
     let wanted = resolve::resolve(&built.pack, &built.named, &parts);
-    let problem = Problem {
-        next: answers::thread(&parts),
-        parts: &parts,
-        wanted: &wanted,
-        nodes: n,
-        triples: &links[..t * 3],
-    };
-    let found = answers::joined_pairs(&problem, built.named.len(), alive, queue, seen)
-        .ok_or(Refused::new(12))?;
-    nodes[..n * 7].copy_from_slice(&points[..n * 7]);
-    triples[..t * 3].copy_from_slice(&links[..t * 3]);
-    for (out, pair) in pairs.chunks_exact_mut(2).zip(&found) {
-        out.copy_from_slice(pair);
-    }
-    Ok((found.len(), built.counts))
+    let problem = problem(&parts, &wanted, built.counts, triples);
+    let pairs =
+        answers::joined_pairs(&problem, built.named.len(), tables, seen).ok_or(Refused::new(12))?;
+    Ok(Found {
+        pairs,
+        counts: built.counts,
+    })
 }

@@ -59,10 +59,13 @@ pub struct Row {
 
 pub const LITERAL: u8 = 255;
 
+pub const MOST_TYPES: usize = 12;
+pub const MOST_PREDICATES: usize = 12;
+
 /// How records are compared for refusals 5 and 8.
 #[derive(Clone, Copy, PartialEq, Eq, Debug)]
 pub enum Checks {
-    /// Two by two, as crates/pack and crates/access do.
+    /// Two by two, as crates/texts and crates/depends do.
     TwoByTwo,
     /// After sorting, which is another algorithm.
     Sorted,
@@ -210,9 +213,9 @@ fn records<'a>(bodies: [&'a [u8]; 9]) -> Option<Pack<'a>> {
                 right: r.byte()?,
             })
         })?,
-        types: all(bodies[3], 8, Reader::name)?,
-        predicates: all(bodies[4], 12, Reader::name)?,
-        shapes: all(bodies[5], 96, |r| {
+        types: all(bodies[3], MOST_TYPES, Reader::name)?,
+        predicates: all(bodies[4], MOST_PREDICATES, Reader::name)?,
+        shapes: all(bodies[5], MOST_TYPES * MOST_PREDICATES, |r| {
             Some(Shape {
                 owner: r.byte()?,
                 predicate: r.byte()?,

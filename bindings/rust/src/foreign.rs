@@ -28,8 +28,9 @@ extern "C" {
         triples: *mut u16, triples_length: usize,
         rows: *mut u16, rows_length: usize,
         heads: *mut u64, heads_length: usize,
-        alive: *mut u8, alive_length: usize,
-        queue: *mut u32, queue_length: usize,
+        alive: *mut u64, alive_length: usize,
+        waiting: *mut u64, waiting_length: usize,
+        stack: *mut u16, stack_length: usize,
         report: *mut Report,
     ) -> u8;
 
@@ -41,9 +42,12 @@ extern "C" {
         pairs: *mut u16, pairs_length: usize,
         rows: *mut u16, rows_length: usize,
         heads: *mut u64, heads_length: usize,
-        alive: *mut u8, alive_length: usize,
-        queue: *mut u32, queue_length: usize,
-        seen: *mut u16, seen_length: usize,
+        alive: *mut u64, alive_length: usize,
+        waiting: *mut u64, waiting_length: usize,
+        stack: *mut u16, stack_length: usize,
+        seen: *mut u64, seen_length: usize,
+        own_nodes: *mut u16, own_nodes_length: usize,
+        own_triples: *mut u16, own_triples_length: usize,
         report: *mut Report,
     ) -> u8;
 
@@ -78,8 +82,9 @@ pub fn yes_no(
     triples: &mut [u16],
     rows: &mut [u16],
     heads: &mut [u64],
-    alive: &mut [u8],
-    queue: &mut [u32],
+    alive: &mut [u64],
+    waiting: &mut [u64],
+    stack: &mut [u16],
 ) -> (u8, Report) {
     let mut report = [0; 25];
     // SAFETY: as in `build`.
@@ -92,7 +97,8 @@ pub fn yes_no(
             rows.as_mut_ptr(), rows.len(),
             heads.as_mut_ptr(), heads.len(),
             alive.as_mut_ptr(), alive.len(),
-            queue.as_mut_ptr(), queue.len(),
+            waiting.as_mut_ptr(), waiting.len(),
+            stack.as_mut_ptr(), stack.len(),
             &mut report,
         )
     };
@@ -108,9 +114,12 @@ pub fn pairs(
     pairs: &mut [u16],
     rows: &mut [u16],
     heads: &mut [u64],
-    alive: &mut [u8],
-    queue: &mut [u32],
-    seen: &mut [u16],
+    alive: &mut [u64],
+    waiting: &mut [u64],
+    stack: &mut [u16],
+    seen: &mut [u64],
+    own_nodes: &mut [u16],
+    own_triples: &mut [u16],
 ) -> (u8, Report) {
     let mut report = [0; 25];
     // SAFETY: as in `build`.
@@ -124,8 +133,11 @@ pub fn pairs(
             rows.as_mut_ptr(), rows.len(),
             heads.as_mut_ptr(), heads.len(),
             alive.as_mut_ptr(), alive.len(),
-            queue.as_mut_ptr(), queue.len(),
+            waiting.as_mut_ptr(), waiting.len(),
+            stack.as_mut_ptr(), stack.len(),
             seen.as_mut_ptr(), seen.len(),
+            own_nodes.as_mut_ptr(), own_nodes.len(),
+            own_triples.as_mut_ptr(), own_triples.len(),
             &mut report,
         )
     };

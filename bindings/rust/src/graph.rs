@@ -47,7 +47,7 @@ impl Node {
         Node { kind, number, types, values }
     }
 
-    /// Whether it has the type of this number, from 0 to 7.
+    /// Whether it has the type of this number, from 0 to 11.
     pub fn has_type(&self, t: u32) -> bool {
         t < 16 && self.types >> t & 1 == 1
     }

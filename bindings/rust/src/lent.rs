@@ -1,7 +1,8 @@
 //! The four calls on lists and working buffers that the caller lends, of any length and any content.
 //!
 //! Too short a one is refusal 1, which touches nothing. After any other return the working buffers (`rows`, `heads`, `alive`,
-//! `queue`, `seen`) are zero. A refusal leaves the lists as they were; entries past the counts keep theirs.
+//! `waiting`, `stack`, `seen`, `own_nodes`, `own_triples`) are zero. A refusal leaves the lists as they were; entries past the
+//! counts keep theirs.
 use crate::foreign::{self, Report};
 use crate::{Counts, Refusal, Term};
 
@@ -36,16 +37,18 @@ pub fn yes_no(
     triples: &mut [u16],
     rows: &mut [u16],
     heads: &mut [u64],
-    alive: &mut [u8],
-    queue: &mut [u32],
+    alive: &mut [u64],
+    waiting: &mut [u64],
+    stack: &mut [u16],
 ) -> Result<(bool, Counts), Refusal> {
-    let (refusal, report) = foreign::yes_no(pack, query, nodes, triples, rows, heads, alive, queue);
+    let (refusal, report) = foreign::yes_no(pack, query, nodes, triples, rows, heads, alive, waiting, stack);
     let (said, counts) = answer(refusal, &report)?;
     Ok((said == 1, counts))
 }
 
 /// How many pairs of named nodes the query joins in every finite graph that obeys the pack. They stand at the front of
-/// `pairs` (two numbers a pair: the places of its nodes in `nodes`); the pack's graph is left as by [`build`].
+/// `pairs` (two numbers a pair: the places of its nodes in `nodes`); the pack's graph is left as by [`build`]. `own_nodes` and
+/// `own_triples` hold it until it is known that there are not too many pairs.
 #[allow(clippy::too_many_arguments)]
 pub fn pairs(
     pack: &[u8],
@@ -55,11 +58,16 @@ pub fn pairs(
     pairs: &mut [u16],
     rows: &mut [u16],
     heads: &mut [u64],
-    alive: &mut [u8],
-    queue: &mut [u32],
-    seen: &mut [u16],
+    alive: &mut [u64],
+    waiting: &mut [u64],
+    stack: &mut [u16],
+    seen: &mut [u64],
+    own_nodes: &mut [u16],
+    own_triples: &mut [u16],
 ) -> Result<(usize, Counts), Refusal> {
-    let (refusal, report) = foreign::pairs(pack, query, nodes, triples, pairs, rows, heads, alive, queue, seen);
+    let (refusal, report) = foreign::pairs(
+        pack, query, nodes, triples, pairs, rows, heads, alive, waiting, stack, seen, own_nodes, own_triples,
+    );
     let (count, counts) = answer(refusal, &report)?;
     Ok((usize::from(count), counts))
 }

@@ -23,28 +23,30 @@ pub use graph::{Graph, Kind, Node, Pair, Triple};
 pub use refusal::{Clash, Refusal};
 pub use service::{Pairs, Service};
 
-/// How many numbers a lent node list has, or more: 1,024 nodes.
-pub const NODE_LIST_LENGTH: usize = 7168;
-/// How many numbers a lent triple list has, or more: 10,228 triples.
-pub const TRIPLE_LIST_LENGTH: usize = 30684;
+/// How many numbers a lent node list has, or more: 4,864 nodes. The length of the working buffer `own_nodes` too.
+pub const NODE_LIST_LENGTH: usize = 34048;
+/// How many numbers a lent triple list has, or more: 56,308 triples. The length of the working buffer `own_triples` too.
+pub const TRIPLE_LIST_LENGTH: usize = 168924;
 /// How many numbers a lent pair list has, or more: 4,096 pairs.
 pub const PAIR_LIST_LENGTH: usize = 8192;
 /// The length of the working buffer `rows`, or more.
 pub const ROWS_LENGTH: usize = 9216;
 /// The length of the working buffer `heads`, or more.
 pub const HEADS_LENGTH: usize = 32768;
-/// The length of each of the working buffers `alive`, `queue` and `seen`, or more.
-pub const STATES: usize = 263168;
+/// The length of each of the working buffers `alive`, `waiting` and `stack`, or more: 257 parts by 76 words of 64 nodes.
+pub const STATE_WORDS: usize = 19532;
+/// The length of the working buffer `seen`, or more: 257 parts by 12 words of 64 named nodes.
+pub const SEEN_WORDS: usize = 3084;
 
 /// How many bytes of its thread's stack [`Service::build`] takes at most, measured on x86-64. The caller owes it: a thread
 /// with less may be ended by the operating system.
-pub const BUILD_STACK: usize = 80 << 10;
+pub const BUILD_STACK: usize = 96 << 10;
 /// The same of [`Service::yes_no`].
-pub const YES_NO_STACK: usize = 104 << 10;
+pub const YES_NO_STACK: usize = 224 << 10;
 /// The same of [`Service::pairs`].
-pub const PAIRS_STACK: usize = 192 << 10;
+pub const PAIRS_STACK: usize = 240 << 10;
 /// The same of [`lent::read_back`].
-pub const READ_BACK_STACK: usize = 40 << 10;
+pub const READ_BACK_STACK: usize = 48 << 10;
 
 /// How many nodes and triples the pack's graph has.
 #[derive(Clone, Copy, Debug, PartialEq, Eq)]

@@ -1,7 +1,7 @@
 //! The four calls with buffers of their own.
 use crate::*;
 
-/// Owns every list and working buffer, some 3 MB, for one call after another.
+/// Owns every list and working buffer, some 1.5 MB, for one call after another.
 #[derive(Clone)]
 pub struct Service {
     nodes: Vec<u16>,
@@ -9,9 +9,12 @@ pub struct Service {
     pairs: Vec<u16>,
     rows: Vec<u16>,
     heads: Vec<u64>,
-    alive: Vec<u8>,
-    queue: Vec<u32>,
-    seen: Vec<u16>,
+    alive: Vec<u64>,
+    waiting: Vec<u64>,
+    stack: Vec<u16>,
+    seen: Vec<u64>,
+    own_nodes: Vec<u16>,
+    own_triples: Vec<u16>,
 }
 
 /// The certain pairs, and the graph whose nodes they number.
@@ -32,9 +35,12 @@ impl Service {
             pairs: vec![0; PAIR_LIST_LENGTH],
             rows: vec![0; ROWS_LENGTH],
             heads: vec![0; HEADS_LENGTH],
-            alive: vec![0; STATES],
-            queue: vec![0; STATES],
-            seen: vec![0; STATES],
+            alive: vec![0; STATE_WORDS],
+            waiting: vec![0; STATE_WORDS],
+            stack: vec![0; STATE_WORDS],
+            seen: vec![0; SEEN_WORDS],
+            own_nodes: vec![0; NODE_LIST_LENGTH],
+            own_triples: vec![0; TRIPLE_LIST_LENGTH],
         }
     }
 
@@ -69,7 +75,8 @@ impl Service {
             &mut self.rows,
             &mut self.heads,
             &mut self.alive,
-            &mut self.queue,
+            &mut self.waiting,
+            &mut self.stack,
         )?;
         Ok(said)
     }
@@ -94,8 +101,11 @@ impl Service {
             &mut self.rows,
             &mut self.heads,
             &mut self.alive,
-            &mut self.queue,
+            &mut self.waiting,
+            &mut self.stack,
             &mut self.seen,
+            &mut self.own_nodes,
+            &mut self.own_triples,
         )?;
         let pairs = self.pairs[..2 * count].chunks_exact(2).map(|p| Pair { start: p[0], end: p[1] }).collect();
         Ok(Pairs { graph: self.graph(counts), pairs })

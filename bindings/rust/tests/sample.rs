@@ -116,9 +116,12 @@ fn with_short(short: usize) -> (Result<(usize, Counts), Refusal>, bool) {
     let mut pairs = vec![7; length(2, PAIR_LIST_LENGTH)];
     let mut rows = vec![7; length(3, ROWS_LENGTH)];
     let mut heads = vec![7; length(4, HEADS_LENGTH)];
-    let mut alive = vec![7; length(5, STATES)];
-    let mut queue = vec![7; length(6, STATES)];
-    let mut seen = vec![7; length(7, STATES)];
+    let mut alive = vec![7; length(5, STATE_WORDS)];
+    let mut waiting = vec![7; length(6, STATE_WORDS)];
+    let mut stack = vec![7; length(7, STATE_WORDS)];
+    let mut seen = vec![7; length(8, SEEN_WORDS)];
+    let mut own_nodes = vec![7; length(9, NODE_LIST_LENGTH)];
+    let mut own_triples = vec![7; length(10, TRIPLE_LIST_LENGTH)];
     let answer = lent::pairs(
         SAMPLE,
         QUERY,
@@ -128,29 +131,30 @@ fn with_short(short: usize) -> (Result<(usize, Counts), Refusal>, bool) {
         &mut rows,
         &mut heads,
         &mut alive,
-        &mut queue,
+        &mut waiting,
+        &mut stack,
         &mut seen,
+        &mut own_nodes,
+        &mut own_triples,
     );
-    let all_7 = [nodes, triples, pairs, rows, seen].concat().iter().all(|&x| x == 7)
-        && heads.iter().all(|&x| x == 7)
-        && alive.iter().all(|&x| x == 7)
-        && queue.iter().all(|&x| x == 7);
+    let all_7 = [nodes, triples, pairs, rows, stack, own_nodes, own_triples].concat().iter().all(|&x| x == 7)
+        && [heads, alive, waiting, seen].concat().iter().all(|&x| x == 7);
     (answer, !all_7)
 }
 
 #[test]
 fn refusal_1_touches_nothing() {
-    for short in 0..8 {
+    for short in 0..11 {
         assert_eq!(with_short(short), (Err(Refusal { number: 1, clash: None }), false), "buffer {short}");
     }
-    assert_eq!(with_short(8), (Ok((1, Counts { nodes: 5, triples: 5 })), true), "none is short");
+    assert_eq!(with_short(11), (Ok((1, Counts { nodes: 5, triples: 5 })), true), "none is short");
 }
 
 #[test]
 fn empty_buffers() {
     let refusal = Refusal { number: 1, clash: None };
     assert_eq!(lent::build(SAMPLE, &mut [], &mut [], &mut [], &mut []), Err(refusal.clone()));
-    assert_eq!(lent::yes_no(SAMPLE, b"", &mut [], &mut [], &mut [], &mut [], &mut [], &mut []), Err(refusal));
+    assert_eq!(lent::yes_no(SAMPLE, b"", &mut [], &mut [], &mut [], &mut [], &mut [], &mut [], &mut []), Err(refusal));
 }
 
 #[test]

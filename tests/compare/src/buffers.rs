@@ -13,21 +13,34 @@ pub const PAIRS: usize = 2;
 pub const ROWS: usize = 3;
 pub const HEADS: usize = 4;
 pub const ALIVE: usize = 5;
-pub const QUEUE: usize = 6;
-pub const SEEN: usize = 7;
+pub const WAITING: usize = 6;
+pub const STACK: usize = 7;
+pub const SEEN: usize = 8;
+pub const OWN_NODES: usize = 9;
+pub const OWN_TRIPLES: usize = 10;
 
-pub const COUNT: usize = 8;
+pub const COUNT: usize = 11;
 
 pub const NAMES: [&str; COUNT] = [
-    "nodes", "triples", "pairs", "rows", "heads", "alive", "queue", "seen",
+    "nodes",
+    "triples",
+    "pairs",
+    "rows",
+    "heads",
+    "alive",
+    "waiting",
+    "stack",
+    "seen",
+    "own_nodes",
+    "own_triples",
 ];
 
 /// Bytes of an entry.
-const WIDTHS: [usize; COUNT] = [2, 2, 2, 2, 8, 1, 4, 2];
+const WIDTHS: [usize; COUNT] = [2, 2, 2, 2, 8, 8, 8, 2, 8, 2, 2];
 
 /// The lengths below which a call refuses by 1.
 pub const NEEDED: Lengths = [
-    7_168, 30_684, 8_192, 9_216, 32_768, 263_168, 263_168, 263_168,
+    34_048, 168_924, 8_192, 9_216, 32_768, 19_532, 19_532, 19_532, 3_084, 34_048, 168_924,
 ];
 
 /// The most entries lent past the needed ones. As many at least lie around
@@ -41,8 +54,20 @@ pub type Lengths = [usize; COUNT];
 pub fn lent_to(call: Call) -> &'static [usize] {
     match call {
         Call::Build => &[NODES, TRIPLES, ROWS, HEADS],
-        Call::YesNo => &[NODES, TRIPLES, ROWS, HEADS, ALIVE, QUEUE],
-        Call::Pairs => &[NODES, TRIPLES, PAIRS, ROWS, HEADS, ALIVE, QUEUE, SEEN],
+        Call::YesNo => &[NODES, TRIPLES, ROWS, HEADS, ALIVE, WAITING, STACK],
+        Call::Pairs => &[
+            NODES,
+            TRIPLES,
+            PAIRS,
+            ROWS,
+            HEADS,
+            ALIVE,
+            WAITING,
+            STACK,
+            SEEN,
+            OWN_NODES,
+            OWN_TRIPLES,
+        ],
         Call::ReadBack => &[],
     }
 }
@@ -72,6 +97,13 @@ pub fn enough(random: &mut Random) -> Lengths {
     }
 }
 
+/// Exactly as needed, but for one buffer that has an entry less.
+pub fn one_less(buffer: usize) -> Lengths {
+    let mut lengths = NEEDED;
+    lengths[buffer] -= 1;
+    lengths
+}
+
 /// One buffer too short: by one entry, by all, or by some number.
 pub fn shorter(random: &mut Random, mut lengths: Lengths, buffer: usize) -> Lengths {
     lengths[buffer] = match random.below(3) {
@@ -93,7 +125,7 @@ pub enum Place {
     Last,
 }
 
-/// The eight buffers.
+/// The eleven buffers.
 pub struct Buffers {
     pub lent: [Lent; COUNT],
 }

@@ -63,16 +63,31 @@ pub struct Proved;
 impl Calls for Proved {
     fn call(&mut self, call: Call, input: Input, buffers: &mut Buffers) -> Answer {
         let Input { pack, query, text } = input;
-        let [nodes, triples, pairs, rows, heads, alive, queue, seen] = &mut buffers.lent;
+        let [nodes, triples, pairs, rows, heads, alive, waiting, stack, seen, own_nodes, own_triples] =
+            &mut buffers.lent;
         let (nodes, triples, pairs) = (nodes.slice(), triples.slice(), pairs.slice());
         let (rows, heads) = (rows.slice(), heads.slice());
-        let (alive, queue, seen) = (alive.slice(), queue.slice(), seen.slice());
+        let (alive, waiting, stack) = (alive.slice(), waiting.slice(), stack.slice());
         match call {
             Call::Build => lent::build(pack, nodes, triples, rows, heads).map(Given::Graph),
-            Call::YesNo => lent::yes_no(pack, query, nodes, triples, rows, heads, alive, queue)
-                .map(|(yes, counts)| Given::Truth(yes, counts)),
+            Call::YesNo => lent::yes_no(
+                pack, query, nodes, triples, rows, heads, alive, waiting, stack,
+            )
+            .map(|(yes, counts)| Given::Truth(yes, counts)),
             Call::Pairs => lent::pairs(
-                pack, query, nodes, triples, pairs, rows, heads, alive, queue, seen,
+                pack,
+                query,
+                nodes,
+                triples,
+                pairs,
+                rows,
+                heads,
+                alive,
+                waiting,
+                stack,
+                seen.slice(),
+                own_nodes.slice(),
+                own_triples.slice(),
             )
             .map(|(count, counts)| Given::Pairs(count, counts)),
             Call::ReadBack => lent::read_back(pack, text).map(Given::Term),

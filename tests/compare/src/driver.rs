@@ -1,6 +1,6 @@
 //! Makes the calls of a case on buffers of many lengths, and checks each.
 
-use crate::buffers::{enough, lent_to, longer, shorter, Buffers, Lengths, Place};
+use crate::buffers::{enough, lent_to, longer, one_less, shorter, Buffers, Lengths, Place};
 use crate::buffers::{NEEDED, NODES, PAIRS};
 use crate::calls::{Answer, Call, Calls, Given, Input};
 use crate::check::expected;
@@ -80,6 +80,16 @@ impl<C: Calls> Driver<C> {
             let lengths = shorter(&mut self.random, others, buffer);
             self.lend(&lengths);
             self.checked(call, &lengths, case)?;
+        }
+        Ok(())
+    }
+
+    /// Each buffer of each call in turn has one entry less than needed.
+    pub fn one_less(&mut self, case: Case) -> Result<(), String> {
+        for call in Call::ALL {
+            for &buffer in lent_to(call) {
+                self.filled(call, &one_less(buffer), Numbers::Large, case)?;
+            }
         }
         Ok(())
     }

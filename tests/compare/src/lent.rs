@@ -9,9 +9,7 @@ use std::ops::Range;
 /// Numbers that a buffer may hold: any bytes are one.
 pub trait Entry: Copy {}
 
-impl Entry for u8 {}
 impl Entry for u16 {}
-impl Entry for u32 {}
 impl Entry for u64 {}
 
 /// What the lent entries hold before a call. What lies around them is always

@@ -1,11 +1,14 @@
-//! Cases at the limits that the scope document names, with the outcome that
-//! it states for one of the calls; and the pack whose types take the most
-//! rounds.
+//! Cases at the limits that the scope document and the change requests name,
+//! with the outcome that they state for one of the calls; the pack whose types
+//! take the most rounds; and the largest graphs.
 
 use crate::calls::Call;
 use crate::tally::Outcome::{self, Graph, Pairs, Refusal, Yes};
 use second::encode::{encode, join};
-use second::generate::{pairs_pack, product_pack, sample, zigzag_pack};
+use second::generate::{
+    many_starts_pack, most_triples_pack, pairs_pack, product_pack, sample, shapes_pack,
+    stars_query, subsets_pack, types_pack, zigzag_pack,
+};
 use second::pack::{CONTENTS, MAX_BYTES};
 
 pub struct Limit {
@@ -19,6 +22,7 @@ pub struct Limit {
 pub fn limits() -> Vec<Limit> {
     let mut limits = queries();
     limits.extend(packs());
+    limits.extend(type_sets());
     limits
 }
 
@@ -86,9 +90,32 @@ fn packs() -> Vec<Limit> {
         build("36 zero bytes", vec![0; 36], Graph),
         build("65,536 bytes", of_size(MAX_BYTES), Refusal(4)),
         build("65,537 bytes", of_size(MAX_BYTES + 1), Refusal(3)),
-        build("4,097 rounds of types", encode(&zigzag_pack(256)), Graph),
+        build("6,145 rounds of types", encode(&zigzag_pack(256)), Graph),
         pairs("4,096 pairs", 0, Pairs),
         pairs("4,097 pairs", 1, Refusal(12)),
+    ]
+}
+
+/// Types and shapes as many as there can be, and the graphs with the most
+/// invented nodes.
+fn type_sets() -> Vec<Limit> {
+    let limit = |title, pack, query: Vec<u8>, call, outcome| Limit {
+        title,
+        pack: encode(&pack),
+        query,
+        call,
+        outcome,
+    };
+    let build = |title, pack, outcome| limit(title, pack, b"_/_*".to_vec(), Call::Build, outcome);
+    let stars = |title, pack| limit(title, pack, stars_query(), Call::Pairs, Pairs);
+    vec![
+        build("12 types", types_pack(12), Graph),
+        build("13 types", types_pack(13), Refusal(4)),
+        build("144 shapes", shapes_pack(144), Graph),
+        build("145 shapes", shapes_pack(145), Refusal(4)),
+        build("4,094 sets of types", subsets_pack(12), Graph),
+        stars("85 stars over 56,305 triples", most_triples_pack()),
+        stars("85 stars from 768 starts", many_starts_pack()),
     ]
 }
 

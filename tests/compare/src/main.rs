@@ -9,6 +9,7 @@ use compare::calls::{Input, Proved};
 use compare::command::{arguments, ended, Arguments};
 use compare::driver::{Case, Driver};
 use compare::limits::limits;
+use second::encode::encode;
 use second::vectors::{answers, read_directory, read_file};
 use second::{generate, less_line_feed};
 use std::path::Path;
@@ -22,7 +23,9 @@ const COUNT: u64 = 6_000;
 
 const VECTORS: &str = concat!(env!("CARGO_MANIFEST_DIR"), "/../vectors");
 
-const WRITTEN: [&str; 2] = ["cases.txt", "card-08.txt"];
+const WRITTEN: [&str; 3] = ["cases.txt", "card-08.txt", "card-14.txt"];
+
+const HARD: [&str; 2] = ["adversarial", "adversarial-14"];
 
 fn main() -> ExitCode {
     ended(match arguments() {
@@ -44,10 +47,14 @@ fn compare_all(count: u64, first: u64) -> Result<(), String> {
         let count = compare_written(&mut driver, file)?;
         println!("{count} written cases of {file} agree");
     }
-    let hard = compare_printed(&mut driver)?;
-    println!("{hard} hard cases agree, and so does what is printed");
+    for directory in HARD {
+        let count = compare_printed(&mut driver, directory)?;
+        println!("{count} hard cases of {directory} agree, and so does what is printed");
+    }
     let limits = compare_limits(&mut driver)?;
     println!("{limits} cases at limits agree");
+    compare_lengths(&mut driver)?;
+    println!("each buffer with an entry less than needed is refused");
     println!("{} calls", std::mem::take(&mut driver.tally).total());
     for seed in first..first + count {
         compare_seed(&mut driver, seed)?;
@@ -101,8 +108,8 @@ fn compare_certain(
 }
 
 /// Hard cases: the second program's answers, and what is printed.
-fn compare_printed(driver: &mut Driver<Proved>) -> Result<usize, String> {
-    let cases = read_directory(&Path::new(VECTORS).join("adversarial"));
+fn compare_printed(driver: &mut Driver<Proved>, directory: &str) -> Result<usize, String> {
+    let cases = read_directory(&Path::new(VECTORS).join(directory));
     for (seed, printed) in (0..).zip(&cases) {
         let title = &printed.title;
         let input = Input::new(&printed.pack, &printed.query, b"");
@@ -133,6 +140,16 @@ fn compare_limits(driver: &mut Driver<Proved>) -> Result<usize, String> {
         }
     }
     Ok(cases.len())
+}
+
+/// The lengths by themselves, on a small pack: one entry less is too short.
+fn compare_lengths(driver: &mut Driver<Proved>) -> Result<(), String> {
+    let pack = encode(&generate::sample());
+    let input = Input::new(&pack, b"family/lead", b"");
+    let answers = &answers(input.pack, input.query, input.text);
+    driver
+        .one_less(Case { input, answers })
+        .map_err(|what| format!("difference with an entry less: {what}"))
 }
 
 fn compare_seed(driver: &mut Driver<Proved>, seed: u64) -> Result<(), String> {

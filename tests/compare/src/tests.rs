@@ -66,16 +66,18 @@ fn said(pack: &[u8], fault: impl FnMut(Call, &mut Answer, &mut Buffers)) -> Stri
 
 #[test]
 fn the_lengths_are_those_of_the_wrapper() {
-    let states = ciravehy::STATES;
     let lengths = [
         ciravehy::NODE_LIST_LENGTH,
         ciravehy::TRIPLE_LIST_LENGTH,
         ciravehy::PAIR_LIST_LENGTH,
         ciravehy::ROWS_LENGTH,
         ciravehy::HEADS_LENGTH,
-        states,
-        states,
-        states,
+        ciravehy::STATE_WORDS,
+        ciravehy::STATE_WORDS,
+        ciravehy::STATE_WORDS,
+        ciravehy::SEEN_WORDS,
+        ciravehy::NODE_LIST_LENGTH,
+        ciravehy::TRIPLE_LIST_LENGTH,
     ];
     assert_eq!(NEEDED, lengths);
 }
@@ -89,11 +91,31 @@ fn right_answers_pass() {
         let mut driver = Driver::new(Model);
         assert_eq!(driver.case(seed, Case { input, answers }), Ok(()));
         // Three calls on whole buffers, and one for each short buffer.
-        assert_eq!(driver.tally.total(), 4 * 3 + 4 + 6 + 8);
+        assert_eq!(driver.tally.total(), 4 * 3 + 4 + 7 + 11);
     }
     assert_eq!(compare(Model, &taken()), Ok(()));
     assert_eq!(compare(Model, &clashing()), Ok(()));
     assert_eq!(compare(Model, &encode(&several())), Ok(()));
+}
+
+#[test]
+fn an_entry_less_is_too_short() {
+    let answers = &answers(&taken(), b"name", b"sty:r1");
+    let pack = taken();
+    let input = Input::new(&pack, b"name", b"sty:r1");
+    let case = Case { input, answers };
+    let mut driver = Driver::new(Model);
+    assert_eq!(driver.one_less(case), Ok(()));
+    assert_eq!(driver.tally.total(), 4 + 7 + 11);
+    let mut driver = Driver::new(Faulty(|call, answer: &mut Answer, _: &mut Buffers| {
+        if let (Call::YesNo, Err(refusal)) = (call, answer) {
+            refusal.number = 2;
+        }
+    }));
+    assert!(driver
+        .one_less(case)
+        .unwrap_err()
+        .starts_with("yes/no, nodes=34047 "));
 }
 
 #[test]
@@ -200,7 +222,7 @@ fn a_changed_list_is_noticed() {
 
 #[test]
 fn a_buffer_that_is_not_cleared_is_noticed() {
-    for buffer in [ROWS, HEADS, ALIVE, QUEUE, SEEN] {
+    for buffer in ROWS..COUNT {
         for pack in [taken(), clashing()] {
             let said = said(&pack, |_, _, buffers| {
                 if let Some(last) = buffers.lent[buffer].bytes().last_mut() {
@@ -377,7 +399,7 @@ fn an_answer_that_depends_on_what_a_buffer_held_is_noticed() {
     let place = vec![first, second, clash(2, [0, 1])];
     for (buffer, name) in NAMES.into_iter().enumerate() {
         for clashes in [&one, &place] {
-            let noticed = (0..24).filter_map(|seed| {
+            let noticed = (0..60).filter_map(|seed| {
                 let clashes = clashes.clone();
                 let calls = Peeking { buffer, clashes };
                 compare_seed(seed, calls, &encode(&several())).err()

@@ -47,8 +47,8 @@ IN_DESCRIPTION = [
     ('["style", "head"]\npred', '["style", ""]\npred', '1: "" in types: a name must be 1 to 16 letters a to z'),
     ('"tuned"]', '"tunedbysomeplantx"]', '2: "tunedbysomeplantx" in predicates: a name must be 1 to 16 letters a to z'),
     ('["style", "head"]\npred', '["style", "head", "style"]\npred', '1: "style" stands twice in types; names must differ'),
-    ('["style", "head"]\npred', '["style", "head", "a", "b", "c", "d", "e", "f", "g"]\npred',
-     '1: 9 types; at most 8 are allowed'),
+    ('["style", "head"]\npred', '["style", "head", "a", "b", "c", "d", "e", "f", "g", "h", "i", "j", "k"]\npred',
+     '1: 13 types; at most 12 are allowed'),
     ('"tuned"]', '"tuned", "a", "b", "c", "d",\n"e", "f", "g", "h", "i", "j",\n"k"]', '4: 13 predicates; at most 12 are allowed'),
     ('"spare"', '"' + 'ü' * 33 + '"', '4: the value "' + 'ü' * 33 + '" has 66 bytes in UTF-8; at most 64 are allowed'),
 

@@ -129,12 +129,12 @@ class Make(Files):
         names = [letter * 16 for letter in "abcdefghijkl"]
         columns = [f"c{n}" for n in range(8)]
         others = ", ".join(f"c{n} = d{n}" for n in range(8))
-        text = f"types = {names[:8]}\npredicates = {names}\nvalues = ['the last']\n[constructors]\n"
+        text = f"types = {names}\npredicates = {names}\nvalues = ['the last']\n[constructors]\n"
         text += "".join(f"k{n} = '{n:0>32}{{a}}/{{b}}/{{c}}/{{d}}'\n" for n in range(16))
         text += "".join(f"[tables.t{n}]\nfile = 'rows.csv'\ncolumns = {columns}\nkey = 'c0'\n"
                         "dependencies = ['c0 -> c1']\n" for n in range(16))
         text += "".join(f"[shapes.{name}]\n" + "".join(f"{p} = {{ target = '{name}', count = '*' }}\n" for p in names)
-                        for name in names[:8])
+                        for name in names)
         text += "".join(f"[[mappings]]\nfrom = ['t{n}({', '.join(columns)})', 't0({others})', 't1({others})']\n"
                         f"subject = 'k0(c0, c1, c2, c3)'\ntype = '{names[0]}'\nlinks.{names[0]} = 'k0(c0, c1, c2, c3)'\n"
                         for n in range(16))

@@ -86,6 +86,25 @@ class Show(Files):
         self.assertIn("  1024  can't be read: byte 4236: the body goes on, at most 1,024 records are allowed", out)
         self.assertTrue(out.endswith("refused 4\n"))
 
+    def test_types_and_shapes(self):
+        """Twelve types with a shape for each of twelve predicates; one more of either is 4."""
+        pack = sample()
+        pack.types = [bytes([116, 97 + n]) for n in range(12)]
+        pack.predicates = [b"name", b"family", b"lead"] + [bytes([112, 97 + n]) for n in range(9)]
+        pack.shapes = [Shape(owner, predicate, 255, 3) for owner in range(12) for predicate in range(12)]
+        pack.rules = pack.rules[:2]
+        status, out, _ = self.shown(encode(pack))
+        self.assertEqual((status, out.splitlines()[-1]), (0, "well formed, keeps its dependencies, and has a graph"))
+        self.assertIn("types: 12 ", out)
+        self.assertIn("shapes: 144 ", out)
+        for body, record, most in (("types", b"more", 12), ("shapes", Shape(0, 0, 255, 3), 144)):
+            more = sample()
+            more.types, more.predicates, more.shapes = list(pack.types), pack.predicates, list(pack.shapes)
+            getattr(more, body).append(record)
+            _, out, _ = self.shown(encode(more))
+            self.assertIn(f"the body goes on, at most {most} records are allowed", out)
+            self.assertTrue(out.endswith("refused 4\n"))
+
     def test_sizes(self):
         for data, expected in [
             (b"", "the pack has 0 bytes, the contents alone take 36\nrefused 3\n"),

@@ -46,6 +46,13 @@ class Agreement(Files):
             numbers[number] = numbers.get(number, 0) + 1
         self.assertTrue(all(numbers.get(number, 0) > 50 for number in (None, 10, 11)), numbers)
 
+    def test_drawn_packs_of_twelve_types(self):
+        draw, numbers = random.Random(7), {}
+        for _ in range(300):
+            number = self.same(encode(drawn(draw, 12)))
+            numbers[number] = numbers.get(number, 0) + 1
+        self.assertTrue(all(numbers.get(number, 0) > 20 for number in (None, 10, 11)), numbers)
+
     def same(self, data):
         _, found = findings(data)
         number = found[0].refusal if found else None
@@ -77,8 +84,8 @@ def asked(draw):
     return query
 
 
-def drawn(draw):
-    """A pack of which 3 to 7 are not true, small enough for clashes to be likely."""
+def drawn(draw, types=3):
+    """A pack of which 3 to 7 are not true, small enough for clashes to be likely; of more types each node has several."""
     def number(most):
         return draw.randrange(most)
 
@@ -88,16 +95,17 @@ def drawn(draw):
     def head():
         kind = draw.choice((0, 0, 1, 1, 2))
         if kind == 0:
-            return Head(0, term(), type=number(3))
+            return Head(0, term(), type=number(types))
         return Head(kind, term(), predicate=number(3), object=term() if kind == 1 else number(2))
 
     literal = draw.choice((0, 0, 1, 3))     # how often a shape's target is Literal
-    cells = draw.sample([(owner, predicate) for owner in range(3) for predicate in range(3)], draw.randrange(3, 10))
+    cells = [(owner, predicate) for owner in range(types) for predicate in range(3)]
+    cells = draw.sample(cells, draw.randrange(len(cells) // 3, len(cells) + 1))
     return Pack(
         values=[b"a", b"b", b"c"], relations=[2, 2],
         dependencies=[Dependency(number(2), 1 << number(2), 3) for _ in range(draw.choice((0, 0, 0, 1)))],
-        types=[b"one", b"two", b"three"], predicates=[b"p", b"q", b"r"],
-        shapes=[Shape(owner, predicate, draw.choice((0, 1, 2) * 3 + (255,) * literal), draw.randrange(1, 5))
+        types=[bytes([97 + n]) for n in range(types)], predicates=[b"p", b"q", b"r"],
+        shapes=[Shape(owner, predicate, draw.choice((*range(types), ) * 3 + (255,) * literal), draw.randrange(1, 5))
                 for owner, predicate in cells],
         constructors=[Constructor(1, b"k:"), Constructor(1, b"l:")],
         rules=[Rule([Atom(number(2), [0, 1]) for _ in range(draw.choice((1, 1, 1, 2)))], head())
