@@ -11,11 +11,11 @@ ghost use Rattle.walk.specs.Parts.{partOf};
 ghost use Rattle.worklist.specs.Table.{AddsOnly, Table, board};
 use meaning::MAX_NODES;
 use meaning::NODE_WORDS;
+use meaning::WORD_BITS;
 use query::kinds;
 use query::parts::first_number;
 use query::parts::kind_of;
 use states::takes_predicate;
-use worklist::WORD;
 use worklist::mark;
 use worklist::mark_word;
 
@@ -92,7 +92,7 @@ fn mark_steps(
     let mut end = top;
     let mut left = bits;
     while left != 0 {
-        let m = block * WORD + u64::trailing_zeros(left) as usize;
+        let m = block * WORD_BITS + u64::trailing_zeros(left) as usize;
         left &= left - 1;
         end = mark_subjects(
             triples,
@@ -150,10 +150,10 @@ fn mark_leaf(
         );
     }
     let node = want as usize;
-    if node / WORD != block {
+    if node / WORD_BITS != block {
         return top;
     }
-    let here = bits & (1u64 << (node % WORD));
+    let here = bits & (1u64 << (node % WORD_BITS));
     mark_word(i * NODE_WORDS + block, here, alive, waiting, stack, top)
 }
 

@@ -18,8 +18,8 @@ use crate::links::link_parts;
 use index::chain_by_object;
 use meaning::MAX_PARTS;
 use meaning::NODE_WORDS;
+use meaning::WORD_BITS;
 use states::Sizes;
-use worklist::WORD;
 use worklist::mark_word;
 use worklist::take_word;
 
@@ -37,8 +37,8 @@ fn real_nodes(nodes: usize, block: usize) -> u64
     requires { ⌜ block * 64 < nodes ⌝ }
     ensures { λ r. ⌜ RealNodes nodes block r ⌝ }
 {
-    let count = nodes - block * WORD;
-    if WORD <= count {
+    let count = nodes - block * WORD_BITS;
+    if WORD_BITS <= count {
         return ALL_BITS;
     }
     (1u64 << count) - 1
@@ -58,7 +58,7 @@ fn mark_ends(
 {
     let mut top = 0;
     let mut block = 0;
-    while block * WORD < nodes {
+    while block * WORD_BITS < nodes {
         let here = real_nodes(nodes, block);
         top = mark_word(parts * NODE_WORDS + block, here, alive, waiting, stack, top);
         block += 1;
@@ -217,7 +217,7 @@ pub fn some_alive(nodes: usize, parts: usize, alive: &[u64]) -> bool
     ensures { λ r. ⌜ SomeAt r (now (alive .entry)) nodes (parts - 1) ⌝ }
 {
     let mut block = 0;
-    while block * WORD < nodes {
+    while block * WORD_BITS < nodes {
         if alive[(parts - 1) * NODE_WORDS + block] & real_nodes(nodes, block) != 0 {
             return true;
         }

@@ -10,7 +10,7 @@ use Rattle.meaning.proofs.Theory.Theorem.{has-graph, none-obeys}
 use Rattle.meaning.specs.NoGraph.{NoGraph}
 use Rattle.meaning.specs.Pack.{Pack}
 use Rattle.meaning.specs.WellFormed.{duplicates, prefixClash, dangling, broken}
-use Rattle.pack.specs.Checked.{Checked, refused, accepted, firstTrue, onPack, checkBy, wellFormed, firstRefusal, numberOf}
+use Rattle.pack.specs.Checked.{Checked, refused, accepted, firstTrue, onPack, checkWithin, wellFormed, firstRefusal, numberOf}
 use Rattle.pack.specs.Contents.{badSize}
 use Rattle.pack.specs.Unpack.{unpack}
 use Rattle.spelling.proofs.CoreTerms.{plain-distinct}
@@ -24,26 +24,26 @@ pub record Accepts (s : List ℕ) : Type 0 where
 
 -- what the answer 0 says
 pub accepts : (s : List ℕ) → 0 ≡ numberOf (firstRefusal s) → Accepts s
-unfolding wellFormed firstRefusal checkBy onPack firstTrue
+unfolding wellFormed firstRefusal checkWithin onPack firstTrue
 accepts s h = go (badSize s) refl
   where
     tests : badSize s ≡ false → (P : Pack) → unpack s ≡ some P → (a b c d : Bool) → duplicates P ≡ a → prefixClash P ≡ b → dangling P ≡ c → broken P ≡ d → Accepts s
-    tests z P e true b c d u v w x = absurd (let k : _≡_ {A = ℕ} 0 5 = rw (z, checkBy, e, u, firstTrue) at h in omega arith)
-    tests z P e false true c d u v w x = absurd (let k : _≡_ {A = ℕ} 0 6 = rw (z, checkBy, e, u, firstTrue, v) at h in omega arith)
-    tests z P e false false true d u v w x = absurd (let k : _≡_ {A = ℕ} 0 7 = rw (z, checkBy, e, u, firstTrue, v, w) at h in omega arith)
-    tests z P e false false false true u v w x = absurd (let k : _≡_ {A = ℕ} 0 8 = rw (z, checkBy, e, u, firstTrue, v, w, x) at h in omega arith)
+    tests z P e true b c d u v w x = absurd (let k : _≡_ {A = ℕ} 0 5 = rw (z, checkWithin, e, u, firstTrue) at h in omega arith)
+    tests z P e false true c d u v w x = absurd (let k : _≡_ {A = ℕ} 0 6 = rw (z, checkWithin, e, u, firstTrue, v) at h in omega arith)
+    tests z P e false false true d u v w x = absurd (let k : _≡_ {A = ℕ} 0 7 = rw (z, checkWithin, e, u, firstTrue, v, w) at h in omega arith)
+    tests z P e false false false true u v w x = absurd (let k : _≡_ {A = ℕ} 0 8 = rw (z, checkWithin, e, u, firstTrue, v, w, x) at h in omega arith)
     tests z P e false false false false u v w x = record {
       pack = P;
-      all = rw (z, checkBy, e, u, firstTrue, v, w, x);
-      formed = rw (z, checkBy, e, u, firstTrue, v, w);
+      all = rw (z, checkWithin, e, u, firstTrue, v, w, x);
+      formed = rw (z, checkWithin, e, u, firstTrue, v, w);
     }
 
     parsed : badSize s ≡ false → (o : Option Pack) → unpack s ≡ o → Accepts s
-    parsed z none e = absurd (let k : _≡_ {A = ℕ} 0 4 = rw (z, checkBy, e) at h in omega arith)
+    parsed z none e = absurd (let k : _≡_ {A = ℕ} 0 4 = rw (z, checkWithin, e) at h in omega arith)
     parsed z (some P) e = tests z P e (duplicates P) (prefixClash P) (dangling P) (broken P) refl refl refl refl
 
     go : (b : Bool) → badSize s ≡ b → Accepts s
-    go true e = absurd (let k : _≡_ {A = ℕ} 0 3 = rw (e, checkBy) at h in omega arith)
+    go true e = absurd (let k : _≡_ {A = ℕ} 0 3 = rw (e, checkWithin) at h in omega arith)
     go false e = parsed e (unpack s) refl
 
 module _ {s : List ℕ} {P : Pack} (w : WellFormed s P) where

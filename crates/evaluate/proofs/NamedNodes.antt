@@ -1,13 +1,13 @@
 -- The named nodes of a listed graph: what leads to one starts at one, and there are no more than the core may have. Assumes
 -- nothing.
 use lib.ListN.{getD, getElem?, length}
-use mathlib.Core.List.{List, [], _∷_}
-use mathlib.Core.Logic.{inl, inr, ⊎-elim, _≢_, _⊎_}
+use mathlib.Core.List.{List}
+use mathlib.Core.Logic.{inl, ⊎-elim}
 use mathlib.Core.Option.{Option, none, some}
 use mathlib.Core.Path.{ap, refl, subst, sym, _∙_, _≡_}
 use native.Mathlib.Decide.{decLt}
 use native.Mathlib.Omega.{arith}
-use Prim.Native.Nat.{ℕ, suc, zero, _+_, _<_, _≤_}
+use Prim.Native.Nat.{ℕ, _<_, _≤_}
 use Rattle.evaluate.specs.GraphIn.{GraphIn}
 use Rattle.evaluate.specs.Kinds.{FirstInvented}
 use Rattle.evaluate.specs.Named.{NamedFirst}
@@ -16,7 +16,7 @@ use Rattle.evaluate.proofs.HeldGraph.{edge-of, inOrder}
 use Rattle.evaluate.proofs.InLists.{formed}
 use Rattle.evaluate.proofs.KindOrder.{named-first}
 use Rattle.index.specs.Triples.{objectAt, predicateAt, subjectAt}
-use Rattle.meaning.proofs.Lists.Counting.{listed-few, over-carried}
+use Rattle.meaning.proofs.Lists.Counting.{below-many, listed-few, over-carried, over-parted}
 use Rattle.meaning.proofs.Lists.Members.{below, below-in, element}
 use Rattle.meaning.proofs.Lists.Places.{same-at}
 use Rattle.meaning.proofs.Theory.Named.{into-core}
@@ -26,93 +26,13 @@ use Rattle.meaning.specs.Core.{CoreNode, Node, iriNode, literalNode}
 use Rattle.meaning.specs.Limits.{maxCoreNodes, maxIris, maxValues}
 use Rattle.meaning.specs.Listing.{NodesInOrder}
 use Rattle.meaning.specs.NoGraph.{CoreIri}
-use Rattle.meaning.specs.Member.{_∈_, here, there}
-use Rattle.meaning.specs.Ordered.{InOrder, Over, before, empty}
+use Rattle.meaning.specs.Ordered.{Over}
 use Rattle.meaning.specs.Pack.{Pack, Text}
 use Rattle.pack.proofs.Accepted.{well-formed}
 use Rattle.pack.proofs.Unpacking.{unpacked}
 use Rattle.reached.specs.Own.{Inward}
 use Rattle.spelling.proofs.CoreTerms.{core-in-pack}
 use Rattle.spelling.specs.Iri.{plain}
-
--- ---- a set in two parts
-
-module _ {A : Type 0} {D : A → Type 0} (decide : (x : A) → Dec (D x)) where
-  -- the elements of a list of different ones, parted
-  record Parted (xs : List A) : Type 0 where
-    with : List A
-    without : List A
-    with-differ : InOrder _≢_ with
-    without-differ : InOrder _≢_ without
-    with-members : (x : A) → x ∈ with → (x ∈ xs) × D x
-    without-members : (x : A) → x ∈ without → (x ∈ xs) × (D x → ⊥)
-    all : length with + length without ≡ length xs
-
-  parted : (xs : List A) → InOrder _≢_ xs → Parted xs
-  parted [] o = record {
-    with = [];
-    without = [];
-    with-differ = empty;
-    without-differ = empty;
-    with-members = λ x m. elim m [ ];
-    without-members = λ x m. elim m [ ];
-    all = refl;
-  }
-  parted (x ∷ xs) (before p o) = put (parted xs o) (decide x)
-    where
-      put : Parted xs → Dec (D x) → Parted (x ∷ xs)
-      put r (yes d) = record {
-        with = x ∷ r .with;
-        without = r .without;
-        with-differ = before (λ y m. p y (r .with-members y m .0)) (r .with-differ);
-        without-differ = r .without-differ;
-        with-members = members;
-        without-members = λ y m. let q = r .without-members y m in (there (q .0), q .1);
-        all = let h = r .all in omega arith;
-      }
-        where
-          members : (y : A) → y ∈ (x ∷ r .with) → (y ∈ (x ∷ xs)) × D y
-          members y (here e) = (here e, rw e d)
-          members y (there m) = let q = r .with-members y m in (there (q .0), q .1)
-      put r (no d) = record {
-        with = r .with;
-        without = x ∷ r .without;
-        with-differ = r .with-differ;
-        without-differ = before (λ y m. p y (r .without-members y m .0)) (r .without-differ);
-        with-members = λ y m. let q = r .with-members y m in (there (q .0), q .1);
-        without-members = members;
-        all = let h = r .all in omega arith;
-      }
-        where
-          members : (y : A) → y ∈ (x ∷ r .without) → (y ∈ (x ∷ xs)) × (D y → ⊥)
-          members y (here e) = (here e, λ h. d (rw (← e) h))
-          members y (there m) = let q = r .without-members y m in (there (q .0), q .1)
-
-  -- over a + b elements: over a with D, or over b without
-  pub over-parted : {Q : A → Type 0} (a b : ℕ) → Over (a + b) Q → Over a (λ x. Q x × D x) ⊎ Over b (λ x. Q x × (D x → ⊥))
-  over-parted {Q} a b o = go (parted (o .some) (o .differ))
-    where
-      go : Parted (o .some) → Over a (λ x. Q x × D x) ⊎ Over b (λ x. Q x × (D x → ⊥))
-      go r = side (decLt a (length (r .with)))
-        where
-          side : Dec (a < length (r .with)) → Over a (λ x. Q x × D x) ⊎ Over b (λ x. Q x × (D x → ⊥))
-          side (yes h) = inl (record { some = r .with; differ = r .with-differ; members = λ x m. let q = r .with-members x m in (o .members x (q .0), q .1); over = h })
-          side (no h) = inr (record {
-            some = r .without;
-            differ = r .without-differ;
-            members = λ x m. let q = r .without-members x m in (o .members x (q .0), q .1);
-            over = let e = r .all in let l = o .over in omega arith;
-          })
-
--- the numbers below n are n
-below-many : (n : ℕ) → (length (below n) ≡ n) × InOrder _≢_ (below n) × ((x : ℕ) → x ∈ below n → x < n)
-unfolding below
-below-many zero = (refl, empty, λ x m. elim m [ ])
-below-many (suc n) = let (a, b, c) = below-many n in (ap suc a, before (λ y m e. absurd (let h = c y m in let z : n ≡ y = e in omega arith)) b, upto c)
-  where
-    upto : ((x : ℕ) → x ∈ below n → x < n) → (x : ℕ) → x ∈ (n ∷ below n) → x < suc n
-    upto c x (here e) = omega arith
-    upto c x (there m) = let h = c x m in omega arith
 
 -- ---- named nodes
 

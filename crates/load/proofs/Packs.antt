@@ -16,7 +16,7 @@ use Rattle.meaning.specs.Limits.{bodies, constructorsAt, dependenciesAt, maxCon
 use Rattle.meaning.specs.Limits.{maxShapes, maxTypes, maxValues, predicatesAt, relationsAt, rowWidth, rulesAt, shapesAt, typesAt, valuesAt, rowsBody}
 use Rattle.meaning.specs.Pack.{Pack, Row, Setting}
 use Rattle.meaning.specs.Tables.{rowNumbers}
-use Rattle.pack.specs.Unpack.{_then_, unpack}
+use Rattle.pack.specs.Unpack.{_then_, unpack, unpackWithin}
 use Rattle.pack.specs.declared.kinds.Kind.{Kind}
 use Rattle.pack.specs.declared.kinds.Kind.the-variants as K
 use Rattle.records.specs.PackHeld.{BodyHeld, RecordsHeld, SettingHeld, SettingNumbers, countsOf, width}
@@ -36,7 +36,7 @@ nil none = refl
 nil (some a) = refl
 
 pub no-pack : (s : List ℕ) (i : ℕ) → i < bodies → NoPart i s → unpack s ≡ none
-unfolding unpack bodyKind limitOf
+unfolding unpackWithin bodyKind limitOf
 no-pack s =
     each-at bodies (λ i. NoPart i s → unpack s ≡ none) (
       λ e. rw e,
@@ -147,7 +147,7 @@ module _ {s : List ℕ} (counts : List ℕ) {numbers rows : List ℕ} {n : ℕ} 
   pack = record { setting = setting; rows = I .records }
 
   unpacks : unpack s ≡ some pack
-  unfolding unpack
+  unfolding unpackWithin
   unpacks = rw (A .read, B .read, C .read, D .read, E .read, F .read, G .read, H .read, I .read)
 
   counts-are : take rowsBody counts ≡ countsOf setting

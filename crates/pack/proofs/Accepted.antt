@@ -7,7 +7,7 @@ use native.Mathlib.Omega.{arith}
 use Prim.Native.Nat.{ℕ}
 use Rattle.meaning.specs.Pack.{Pack}
 use Rattle.meaning.specs.WellFormed.{duplicates, prefixClash, dangling, broken}
-use Rattle.pack.specs.Checked.{Checked, refused, accepted, firstTrue, onPack, checkBy, wellFormed, firstRefusal, numberOf}
+use Rattle.pack.specs.Checked.{Checked, refused, accepted, firstTrue, onPack, checkWithin, wellFormed, firstRefusal, numberOf}
 use Rattle.pack.specs.Contents.{badSize}
 use Rattle.pack.specs.Unpack.{unpack}
 
@@ -33,7 +33,7 @@ all-untrue P Q h = go (duplicates P) (prefixClash P) (dangling P) refl refl refl
     go false false false x y z = let k : _≡_ {A = Checked} (accepted P) (accepted Q) = rw (x, firstTrue, y, z) at h in (cc, x, y, z)
 
 pub well-formed : (s : List ℕ) (P : Pack) → wellFormed s ≡ accepted P → WellFormed s P
-unfolding wellFormed checkBy onPack
+unfolding wellFormed checkWithin onPack
 well-formed s P h = go (badSize s) refl
   where
     parsed : badSize s ≡ false → (o : Option Pack) → unpack s ≡ o → onPack ((5, duplicates) ∷ (6, prefixClash) ∷ (7, dangling) ∷ []) o ≡ accepted P → WellFormed s P
@@ -43,8 +43,8 @@ well-formed s P h = go (badSize s) refl
         subst (WellFormed s) (r .0) (record { size = b; read = e; distinct = r .1; prefixFree = r .2; named = r .3 })
 
     go : (b : Bool) → badSize s ≡ b → WellFormed s P
-    go true e = not-accepted (rw (e, checkBy) at h)
-    go false e = parsed e (unpack s) refl (rw (e, checkBy) at h)
+    go true e = not-accepted (rw (e, checkWithin) at h)
+    go false e = parsed e (unpack s) refl (rw (e, checkWithin) at h)
 
 firstOf-zero : (P : Pack) → 0 ≡ numberOf (firstTrue ((5, duplicates) ∷ (6, prefixClash) ∷ (7, dangling) ∷ []) P)
     → firstTrue ((5, duplicates) ∷ (6, prefixClash) ∷ (7, dangling) ∷ []) P ≡ accepted P
@@ -59,45 +59,45 @@ firstOf-zero P h = go (duplicates P) (prefixClash P) (dangling P) refl refl refl
 
 -- what the answer 0 says
 pub zero-accepted : (s : List ℕ) → 0 ≡ numberOf (wellFormed s) → (P : Pack) × (wellFormed s ≡ accepted P)
-unfolding wellFormed checkBy onPack
+unfolding wellFormed checkWithin onPack
 zero-accepted s h = go (badSize s) refl
   where
     parsed : badSize s ≡ false → (o : Option Pack) → unpack s ≡ o → 0 ≡ numberOf (onPack ((5, duplicates) ∷ (6, prefixClash) ∷ (7, dangling) ∷ []) o)
         → (P : Pack) × (wellFormed s ≡ accepted P)
     parsed b none e k = absurd (let z : _≡_ {A = ℕ} 0 4 = k in omega arith)
-    parsed b (some P) e k = (P, rw (b, checkBy, e) (firstOf-zero P k))
+    parsed b (some P) e k = (P, rw (b, checkWithin, e) (firstOf-zero P k))
 
     go : (b : Bool) → badSize s ≡ b → (P : Pack) × (wellFormed s ≡ accepted P)
-    go true e = absurd (let z : _≡_ {A = ℕ} 0 3 = rw (e, checkBy) at h in omega arith)
-    go false e = parsed e (unpack s) refl (rw (e, checkBy) at h)
+    go true e = absurd (let z : _≡_ {A = ℕ} 0 3 = rw (e, checkWithin) at h in omega arith)
+    go false e = parsed e (unpack s) refl (rw (e, checkWithin) at h)
 
 -- ---- refusal 8 comes after them
 
 module _ (s : List ℕ) where
   -- a refusal of 3 to 7 stays the first
   pub refused-before : (r : ℕ) → r ≡ numberOf (wellFormed s) → (r ≡ 0 → ⊥) → r ≡ numberOf (firstRefusal s)
-  unfolding wellFormed firstRefusal checkBy onPack firstTrue
+  unfolding wellFormed firstRefusal checkWithin onPack firstTrue
   refused-before r h n = go (badSize s) refl
     where
       tests : badSize s ≡ false → (P : Pack) → unpack s ≡ some P → (a b c : Bool) → duplicates P ≡ a → prefixClash P ≡ b → dangling P ≡ c → r ≡ numberOf (firstRefusal s)
-      tests z P e true b c u v w = rw (z, checkBy, e, u, firstTrue) (rw (z, checkBy, e, u, firstTrue) at h)
-      tests z P e false true c u v w = rw (z, checkBy, e, u, firstTrue, v) (rw (z, checkBy, e, u, firstTrue, v) at h)
-      tests z P e false false true u v w = rw (z, checkBy, e, u, firstTrue, v, w) (rw (z, checkBy, e, u, firstTrue, v, w) at h)
-      tests z P e false false false u v w = absurd (n (rw (z, checkBy, e, u, firstTrue, v, w) at h))
+      tests z P e true b c u v w = rw (z, checkWithin, e, u, firstTrue) (rw (z, checkWithin, e, u, firstTrue) at h)
+      tests z P e false true c u v w = rw (z, checkWithin, e, u, firstTrue, v) (rw (z, checkWithin, e, u, firstTrue, v) at h)
+      tests z P e false false true u v w = rw (z, checkWithin, e, u, firstTrue, v, w) (rw (z, checkWithin, e, u, firstTrue, v, w) at h)
+      tests z P e false false false u v w = absurd (n (rw (z, checkWithin, e, u, firstTrue, v, w) at h))
 
       parsed : badSize s ≡ false → (o : Option Pack) → unpack s ≡ o → r ≡ numberOf (firstRefusal s)
-      parsed z none e = rw (z, checkBy, e) (rw (z, checkBy, e) at h)
+      parsed z none e = rw (z, checkWithin, e) (rw (z, checkWithin, e) at h)
       parsed z (some P) e = tests z P e (duplicates P) (prefixClash P) (dangling P) refl refl refl
 
       go : (b : Bool) → badSize s ≡ b → r ≡ numberOf (firstRefusal s)
-      go true e = rw (e, checkBy) (rw (e, checkBy) at h)
+      go true e = rw (e, checkWithin) (rw (e, checkWithin) at h)
       go false e = parsed e (unpack s) refl
 
   module _ (P : Pack) (w : WellFormed s P) where
     pub refused-8 : broken P ≡ true → 8 ≡ numberOf (firstRefusal s)
-    unfolding firstRefusal checkBy onPack firstTrue
-    refused-8 e = rw (w .size, checkBy, w .read, w .distinct, firstTrue, w .prefixFree, w .named, e)
+    unfolding firstRefusal checkWithin onPack firstTrue
+    refused-8 e = rw (w .size, checkWithin, w .read, w .distinct, firstTrue, w .prefixFree, w .named, e)
 
     pub keeps-dependencies : broken P ≡ false → firstRefusal s ≡ accepted P
-    unfolding firstRefusal checkBy onPack firstTrue
-    keeps-dependencies e = rw (w .size, checkBy, w .read, w .distinct, firstTrue, w .prefixFree, w .named, e)
+    unfolding firstRefusal checkWithin onPack firstTrue
+    keeps-dependencies e = rw (w .size, checkWithin, w .read, w .distinct, firstTrue, w .prefixFree, w .named, e)

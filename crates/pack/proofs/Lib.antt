@@ -8,3 +8,4 @@ pub mod Order
 pub mod Bounds
 pub mod Computing
 pub mod Accepted
+pub mod Before

@@ -7,35 +7,35 @@ use native.Mathlib.Omega.{arith}
 use Prim.Native.Nat.{ℕ}
 use Rattle.meaning.specs.Pack.{Pack}
 use Rattle.meaning.specs.WellFormed.{duplicates, prefixClash, dangling}
-use Rattle.pack.specs.Checked.{Checked, accepted, refused, firstTrue, onPack, checkBy, wellFormed, numberOf}
+use Rattle.pack.specs.Checked.{Checked, accepted, refused, firstTrue, onPack, checkWithin, wellFormed, numberOf}
 use Rattle.pack.specs.Contents.{badSize}
 use Rattle.pack.specs.Unpack.{unpack}
 
 pub refused-3 : (s : List ℕ) → badSize s ≡ true → 3 ≡ numberOf (wellFormed s)
-unfolding wellFormed checkBy
-refused-3 s e = rw (e, checkBy)
+unfolding wellFormed checkWithin
+refused-3 s e = rw (e, checkWithin)
 
 module _ (s : List ℕ) (size : badSize s ≡ false) where
   pub refused-4 : unpack s ≡ none → 4 ≡ numberOf (wellFormed s)
-  unfolding wellFormed checkBy onPack
-  refused-4 e = rw (size, checkBy, e)
+  unfolding wellFormed checkWithin onPack
+  refused-4 e = rw (size, checkWithin, e)
 
   module _ (P : Pack) (read : unpack s ≡ some P) where
     pub refused-5 : duplicates P ≡ true → 5 ≡ numberOf (wellFormed s)
-    unfolding wellFormed checkBy onPack firstTrue
-    refused-5 e = rw (size, checkBy, read, e, firstTrue)
+    unfolding wellFormed checkWithin onPack firstTrue
+    refused-5 e = rw (size, checkWithin, read, e, firstTrue)
 
     pub refused-6 : duplicates P ≡ false → prefixClash P ≡ true → 6 ≡ numberOf (wellFormed s)
-    unfolding wellFormed checkBy onPack firstTrue
-    refused-6 a e = rw (size, checkBy, read, a, firstTrue, e)
+    unfolding wellFormed checkWithin onPack firstTrue
+    refused-6 a e = rw (size, checkWithin, read, a, firstTrue, e)
 
     pub refused-7 : duplicates P ≡ false → prefixClash P ≡ false → dangling P ≡ true → 7 ≡ numberOf (wellFormed s)
-    unfolding wellFormed checkBy onPack firstTrue
-    refused-7 a b e = rw (size, checkBy, read, a, firstTrue, b, e)
+    unfolding wellFormed checkWithin onPack firstTrue
+    refused-7 a b e = rw (size, checkWithin, read, a, firstTrue, b, e)
 
     pub accepted-is : duplicates P ≡ false → prefixClash P ≡ false → dangling P ≡ false → wellFormed s ≡ accepted P
-    unfolding wellFormed checkBy onPack firstTrue
-    accepted-is a b e = rw (size, checkBy, read, a, firstTrue, b, e)
+    unfolding wellFormed checkWithin onPack firstTrue
+    accepted-is a b e = rw (size, checkWithin, read, a, firstTrue, b, e)
 
     pub accepted-number : duplicates P ≡ false → prefixClash P ≡ false → dangling P ≡ false → 0 ≡ numberOf (wellFormed s)
     accepted-number a b e = rw (accepted-is a b e)

@@ -13,7 +13,7 @@ use Rattle.meaning.specs.Pack.{Pack}
 use Rattle.pack.specs.Contents.{bodyOf}
 use Rattle.pack.specs.Readers.{Reader}
 use Rattle.pack.specs.Records.{value, relation, dependency, name, shape, constructor, rule, row}
-use Rattle.pack.specs.Unpack.{readAll, atMost, body, unpack, _then_}
+use Rattle.pack.specs.Unpack.{readAll, atMost, body, unpack, unpackWithin, _then_}
 
 -- ---- a body, by the count of its records
 
@@ -36,7 +36,7 @@ module _ {A : Type 0} (reader : Reader A) (limit : ℕ) (s : List ℕ) where
 -- ---- the bodies
 
 module _ {A B : Type 0} where
-  then-some : (o : Option A) (f : A → Option B) (b : B) → (o then f) ≡ some b → (a : A) × (o ≡ some a) × (f a ≡ some b)
+  pub then-some : (o : Option A) (f : A → Option B) (b : B) → (o then f) ≡ some b → (a : A) × (o ≡ some a) × (f a ≡ some b)
   then-some none f b h = absurd (let z : _≡_ {A = ℕ} 0 1 = cc in omega arith)
   then-some (some a) f b h = (a, refl, h)
 
@@ -54,7 +54,7 @@ pub record Unpacked (s : List ℕ) (P : Pack) : Type 0 where
   pub rows : (readAll row (bodyOf s 8) ≡ some (P .rows)) × (length (P .rows) ≤ maxRows)
 
 pub unpacked : (s : List ℕ) (P : Pack) → unpack s ≡ some P → Unpacked s P
-unfolding unpack
+unfolding unpackWithin
 unpacked s P h =
     let a = then-some (body value maxValues (bodyOf s 0)) _ P h in
     let b = then-some (body relation maxRelations (bodyOf s 1)) _ P (a .2) in

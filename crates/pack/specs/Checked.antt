@@ -4,10 +4,11 @@ use mathlib.Core.List.{List, [], _∷_}
 use mathlib.Core.Option.{Option, none, some}
 use mathlib.Core.Path.{_≡_}
 use Prim.Native.Nat.{ℕ}
+use Rattle.meaning.specs.Limits.{maxShapes, maxTypes}
 use Rattle.meaning.specs.Pack.{Pack}
 use Rattle.meaning.specs.WellFormed.{duplicates, prefixClash, dangling, broken}
 use Rattle.pack.specs.Contents.{badSize}
-use Rattle.pack.specs.Unpack.{unpack}
+use Rattle.pack.specs.Unpack.{unpackWithin}
 
 pub data Checked : Type 0 where
   refused : ℕ → Checked
@@ -26,17 +27,23 @@ unfoldable pub onPack : List Refusal → Option Pack → Checked
 onPack rs none = refused 4
 onPack rs (some P) = firstTrue rs P
 
--- 3, 4, then those of the list
-unfoldable pub checkBy : List Refusal → List ℕ → Checked
-checkBy rs s = elim (badSize s) [ true ↦ refused 3 | false ↦ onPack rs (unpack s) ]
+-- 3, 4, then those of the list; 4 by the limits of types and of shapes
+unfoldable pub checkWithin : ℕ → ℕ → List Refusal → List ℕ → Checked
+checkWithin types shapes rs s = elim (badSize s) [ true ↦ refused 3 | false ↦ onPack rs (unpackWithin types shapes s) ]
+
+abbrev pub checkBy : List Refusal → List ℕ → Checked
+checkBy = checkWithin maxTypes maxShapes
 
 -- "A pack is well formed when none of 3 to 7 is true of it"
 unfoldable pub wellFormed : List ℕ → Checked
 wellFormed = checkBy ((5, duplicates) ∷ (6, prefixClash) ∷ (7, dangling) ∷ [])
 
 -- "and keeps its dependencies when 8 is not."
+abbrev pub beforeGraph : List Refusal
+beforeGraph = (5, duplicates) ∷ (6, prefixClash) ∷ (7, dangling) ∷ (8, broken) ∷ []
+
 unfoldable pub firstRefusal : List ℕ → Checked
-firstRefusal = checkBy ((5, duplicates) ∷ (6, prefixClash) ∷ (7, dangling) ∷ (8, broken) ∷ [])
+firstRefusal = checkBy beforeGraph
 
 -- "A refusal gives its number"; 0 where there is none.
 abbrev pub numberOf : Checked → ℕ

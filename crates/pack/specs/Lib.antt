@@ -3,6 +3,7 @@ pub mod Records
 pub mod Contents
 pub mod Unpack
 pub mod Checked
+pub mod Before
 pub mod Classes
 pub mod Shown
 pub mod Kinds

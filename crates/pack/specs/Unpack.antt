@@ -43,14 +43,15 @@ module _ {A B : Type 0} where
 
 -- 4: "A body holds more records than its limit, or is not whole records with every arity, count, length, letter, prefix
 -- byte, kind, multiplicity and variable in bounds": then this gives nothing.
-unfoldable pub unpack : List ℕ → Option Pack
-unpack s =
+-- The limits of types and of shapes, which card 14 raised, are given.
+unfoldable pub unpackWithin : ℕ → ℕ → List ℕ → Option Pack
+unpackWithin types shapes s =
     body value maxValues (bodyOf s 0) then λ vs.
     body relation maxRelations (bodyOf s 1) then λ ks.
     body dependency maxDependencies (bodyOf s 2) then λ ds.
-    body name maxTypes (bodyOf s 3) then λ ts.
+    body name types (bodyOf s 3) then λ ts.
     body name maxPredicates (bodyOf s 4) then λ ps.
-    body shape maxShapes (bodyOf s 5) then λ ss.
+    body shape shapes (bodyOf s 5) then λ ss.
     body constructor maxConstructors (bodyOf s 6) then λ cs.
     body rule maxRules (bodyOf s 7) then λ us.
     body row maxRows (bodyOf s 8) then λ ws.
@@ -58,3 +59,6 @@ unpack s =
       setting = record { values = vs; arities = ks; dependencies = ds; types = ts; predicates = ps; shapes = ss; constructors = cs; rules = us };
       rows = ws;
     })
+
+abbrev pub unpack : List ℕ → Option Pack
+unpack = unpackWithin maxTypes maxShapes

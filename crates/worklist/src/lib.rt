@@ -5,9 +5,7 @@ ghost use lib.ListN.{length};
 ghost use mathlib.Core.Path.{_≡_};
 ghost use Prim.Native.Nat.{_*_, _-_, _/_, _<_, _≤_};
 ghost use Rattle.worklist.specs.Table.{AddsOnly, Board, Cleared, ForStacked, ForTable, InWord, SomeStacked, SomeTable, Takes, board, mark as marked};
-
-// The bits of a word.
-pub const WORD: usize = 64;
+use meaning::WORD_BITS;
 
 // A number that was taken, and how many words are left on the stack.
 pub struct Taken(pub usize, pub usize);
@@ -20,7 +18,7 @@ pub fn has(table: &[u64], x: usize) -> bool
     requires { ⌜ x / 64 < length (now table) ⌝ }
     ensures { λ r. ⌜ r ≡ eqb (marked (now (table .entry)) x) 1 ⌝ }
 {
-    (table[x / WORD] >> (x % WORD)) % 2 == 1
+    (table[x / WORD_BITS] >> (x % WORD_BITS)) % 2 == 1
 }
 
 // Marks the numbers of the word w that the bits say. Those that were not marked wait, and the word is on the stack.
@@ -63,7 +61,7 @@ pub fn mark(
     ensures { λ r. ⌜ ForTable (x / 64) (board (now (table .entry)) (now (waiting .entry)) (now (stack .entry)) top) (λ n. AddsOnly n (λ y. y ≡ x)
         (board (now (table .entry)) (now (waiting .entry)) (now (stack .entry)) top) (board (now (table .exit)) (now (waiting .exit)) (now (stack .exit)) r)) ⌝ }
 {
-    mark_word(x / WORD, 1u64 << (x % WORD), table, waiting, stack, top)
+    mark_word(x / WORD_BITS, 1u64 << (x % WORD_BITS), table, waiting, stack, top)
 }
 
 // Takes a number that waits.
@@ -73,7 +71,7 @@ pub fn take(waiting: &mut [u64], stack: &[u16], top: usize) -> Taken
 {
     let w = stack[top - 1] as usize;
     let all = waiting[w];
-    let x = w * WORD + u64::trailing_zeros(all) as usize;
+    let x = w * WORD_BITS + u64::trailing_zeros(all) as usize;
     let left = all & (all - 1);
     waiting[w] = left;
     if left == 0 {
