@@ -28,7 +28,8 @@ closing-start w = record { sound = λ j e. marked e; keeps = λ j e. e; passes =
 
 -- ---- nothing is marked at first
 
-pub none-marked : {flags waiting stack : List ℕ} → flags ≡ replicate setWords 0 → waiting ≡ replicate setWords 0 → stack ≡ replicate setWords 0 → Table setWords (board flags waiting stack 0)
+pub none-marked : {flags waiting stack : List ℕ} → flags ≡ replicate setWords 0 → waiting ≡ replicate setWords 0 → stack ≡ replicate setWords 0
+    → Table setWords (board flags waiting stack 0)
 none-marked {flags} {waiting} {stack} e f g =
     nothing-marked (zeros-unmarked setWords setWords e f (omega arith) (omega arith) (omega arith) (long flags e) (long waiting f) (long stack g))
   where

@@ -37,7 +37,8 @@ module _ {table : List (List ℕ)} where
   pub upto-start : {Q : Pack → ℕ → ℕ → Type 0} {a : Board} → Table setWords a → Marks table (λ P. Upto (Q P) 0) a a
   upto-start t = marks-none t (λ P h j u. not-suc-le-zero (u .below))
 
-  pub upto-again : {Q : Pack → ℕ → ℕ → Type 0} {n : ℕ} {a b c : Board} → Marks table (λ P. Upto (Q P) n) a b → Marks table (λ P. Q P n) b c → Marks table (λ P. Upto (Q P) (n + 1)) a c
+  pub upto-again : {Q : Pack → ℕ → ℕ → Type 0} {n : ℕ} {a b c : Board} → Marks table (λ P. Upto (Q P) n) a b → Marks table (λ P. Q P n) b c
+      → Marks table (λ P. Upto (Q P) (n + 1)) a c
   upto-again {Q} {n} m s = record {
     grows = adds-as (adds-then (m .grows) (s .grows)) (λ j u. u) (λ j e. absurd e);
     adds = λ P h. adds-both (m .adds P h) (s .adds P h) (more P) (λ j q. record { at = n; below = omega arith; holds = q }) (λ j u. split P j u (ℕ-discrete (u .at) n));

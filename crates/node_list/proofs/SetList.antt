@@ -163,7 +163,9 @@ module _ {w bits at : ℕ} {sets₀ sets : List ℕ} {left end : ℕ} (g : Wordi
     long = length-set sets end next ∙ g .long;
     new = g .new ++ (next ∷ []);
     list = joined-list (g .list) (single next) (λ x y d e. before-next x y d e) (λ x. (more x, both x));
-    front = ap (λ n. take n (set sets end next)) (add-one end) ∙ take-suc-set sets end next room ∙ ap (λ xs. xs ++ (next ∷ [])) (g .front) ∙ append-assoc (take at sets₀) (g .new) (next ∷ []);
+    front =
+        ap (λ n. take n (set sets end next)) (add-one end) ∙ take-suc-set sets end next room ∙ ap (λ xs. xs ++ (next ∷ [])) (g .front)
+        ∙ append-assoc (take at sets₀) (g .new) (next ∷ []);
   }
     where
       before-next : (x y : ℕ) → Done w bits left x → y ≡ next → x < y
@@ -239,7 +241,9 @@ pub record Numbering (sets : List ℕ) (first i : ℕ) (out₀ places out : List
 pub numbering-start : (sets : List ℕ) (first : ℕ) (places out : List ℕ) → Numbering sets first 0 out places out
 numbering-start sets first places out = record {
   within = omega arith;
-  records = subst (λ n. Records nodeWidth first n (map setNumbers sets) (map setNumbers sets) out out) (let e : first ≡ first + 0 = omega arith in e) (records-start nodeWidth first (map setNumbers sets) out);
+  records =
+      subst (λ n. Records nodeWidth first n (map setNumbers sets) (map setNumbers sets) out out) (let e : first ≡ first + 0 = omega arith in e)
+      (records-start nodeWidth first (map setNumbers sets) out);
   placed = λ k h. absurd (omega arith);
 }
 

@@ -176,7 +176,11 @@ module _ (table : List (List ℕ)) (triples places : List ℕ) (a : InOrder _<_ 
     origin-gets r t shown m small ts out₂ w = (
       record {
         records = (s ∷ p ∷ getD places (m % typeSets) 0 ∷ []) ∷ [];
-        are = λ P h. record { ascending = before {x = s ∷ p ∷ getD places (m % typeSets) 0 ∷ []} {xs = []} (λ y i. elim i [ ]) empty; members = λ x. (forth P h x, λ q. here (back P h x q)) };
+        are =
+            λ P h. record {
+              ascending = before {x = s ∷ p ∷ getD places (m % typeSets) 0 ∷ []} {xs = []} (λ y i. elim i [ ]) empty;
+              members = λ x. (forth P h x, λ q. here (back P h x q));
+            };
         long = refl;
         count = refl;
         written = w ∙ rw out-same refl;

@@ -329,7 +329,8 @@ module _ {P : Pack} {shapes : List (List ℕ)} {nodes triples masks sets : List 
     across : (Q : Pack) (x y : List ℕ) → IriEdge nodes triples masks places Q x → SetsEdge Q y → x ≺ y
     across Q x y u v = let b = u .below in let r = rank-le firstLiteral nodes in by-subject (omega arith) x y (u .holds) (v .holds .edge)
 
-    pub triples-listed : {table : List (List ℕ)} → Tabled (P .setting) table → {next r : ℕ} {out out₁ out₂ : List ℕ} → RecordsListed table (IriEdge nodes triples masks places) 0 out out₁ next
+    pub triples-listed : {table : List (List ℕ)} → Tabled (P .setting) table → {next r : ℕ} {out out₁ out₂ : List ℕ}
+        → RecordsListed table (IriEdge nodes triples masks places) 0 out out₁ next
         → RecordsListed table (λ Q. SetsEdge Q) next out₁ out₂ r → next * 3 ≤ length out → r ≤ maxTriples → TriplesListed P bs out out₂ r
     triples-listed {table} tab {next} {r} {out} {out₁} {out₂} a b room few = record {
       records = both .records;

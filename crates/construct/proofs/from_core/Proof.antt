@@ -12,13 +12,16 @@ pub from-core-spec : {M : Type 1} → statement M
 from-core-spec =
     tie.close
     (tie.spec
-    (λ c κs. let p = c .before .before .before .before .before .before .before .pre in (input-placed (p .0 .input), keys-small (p .0 .input), input-codes (p .0 .input), p .1, p .2))  -- build-requires
+    (λ c κs.
+    let p = c .before .before .before .before .before .before .before .pre in
+    (input-placed (p .0 .input), keys-small (p .0 .input), input-codes (p .0 .input), p .1, p .2))  -- build-requires
     (λ c. search needs)  -- enum-known-n
     (λ c. search needs)  -- enum-known-i
     (λ c. search needs)  -- slice-aggregate-clash-records
     (λ c κs.
+    let build = c .before .before .before .before .before .before .before .before .build in
     let p = c .before .before .before .before .before .before .before .before .before .before .before .before .before .before .before .before .pre in
-    (input-placed (p .0 .input), keys-small (p .0 .input), clash-inside _ _ _ _ _ _ _ _ _ _ (c .before .before .before .before .before .before .before .before .build .ensures) _ (c .before .before .i .given .1) (p .0), omega arith))  -- clash-records-requires
+    (input-placed (p .0 .input), keys-small (p .0 .input), clash-inside _ _ _ _ _ _ _ _ _ _ (build .ensures) _ (c .before .before .i .given .1) (p .0), omega arith))  -- clash-records-requires
     (λ c. search needs)  -- enum-told
     (λ c κs. search needs)  -- refused-requires
     (λ c. search needs)  -- same-length
@@ -26,7 +29,12 @@ from-core-spec =
     (λ c. graph-answer _ _ _ _ _ _ _ _ _ _ (c .before .before .before .before .before .before .before .build .ensures) _ _ (c .before .n .given .1) _ refl)  -- returns
     (λ c. search needs)  -- same-length-3
     (λ c. search needs)  -- same-length-4
-    (λ c. clash-answer _ _ _ _ _ _ _ _ _ _ (c .before .before .before .before .before .before .before .before .before .before .build .ensures) _ (c .before .before .before .before .i .given .1) _ _ refl (c .before .clash-records .ensures))  -- returns-2
+    (λ c.
+    let at-i = c .before .before .before .before in
+    let at-build = at-i .before .before .before .before .before .before in
+    clash-answer _ _ _ _ _ _ _ _ _ _ (at-build .build .ensures) _ (at-i .i .given .1) _ _ refl (c .before .clash-records .ensures))  -- returns-2
     (λ c. search needs)  -- same-length-5
     (λ c. search needs)  -- same-length-6
-    (λ c. mixed-answer _ _ _ _ _ _ _ _ _ _ (c .before .before .before .before .before .before .before .build .ensures) (c .before .enum-told .given .1) _ (c .refused .ensures)))  -- returns-3
+    (λ c.
+    let build = c .before .before .before .before .before .before .before .build in
+    mixed-answer _ _ _ _ _ _ _ _ _ _ (build .ensures) (c .before .enum-told .given .1) _ (c .refused .ensures)))  -- returns-3

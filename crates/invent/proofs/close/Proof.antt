@@ -26,16 +26,30 @@ close-spec =
     (tie.spec
     Inv-loop
     μ-loop
-    (λ c. (search needs, search needs, search needs, c .before .before .before .pre .0, λ P h. closing-start (c .before .before .before .pre .1)))  -- loop-holds
+    (λ c. let pre = c .before .before .before .pre in (search needs, search needs, search needs, pre .0, λ P h. closing-start (pre .1)))  -- loop-holds
     (λ c κs. (c .before .before .loop-test .taken, (setWords, c .before .before .before .loop .inv .3 .stacked)))  -- take-requires
     (λ c κs. c .before .before .take .ensures setWords (c .before .before .before .before .before .before .loop .inv .3 .stacked) .inside _ refl)  -- set-mask-requires
-    (λ c κs. let t = c .before .before .before .before .before .before .before .before .before .before .loop .inv .3 in (turn-table t (c .before .before .before .before .before .before .take .ensures setWords (t .stacked)), c .before .before .before .before .before .before .before .before .before .before .before .before .before .before .pre .2))  -- mark-all-requires
-    (λ c. let t = c .before .before .before .before .before .before .before .before .before .before .before .before .before .before .before .before .before .loop .inv .3 in turn-left t (c .before .before .before .before .before .before .before .before .before .before .before .before .before .take .ensures setWords (t .stacked)) (c .before .before .before .before .before .before .mark-all .ensures .grows))  -- loop-less
+    (λ c κs.
+    let at-take = c .before .before .before .before .before .before in
+    let at-loop = at-take .before .before .before .before in
+    let entry = at-loop .before .before .before .before in
+    let t = at-loop .loop .inv .3 in
+    (turn-table t (at-take .take .ensures setWords (t .stacked)), entry .pre .2))  -- mark-all-requires
     (λ c.
-    let t = c .before .before .before .before .before .before .before .before .before .before .before .before .before .before .before .before .before .loop .inv .3 in
-    let k = c .before .before .before .before .before .before .before .before .before .before .before .before .before .take .ensures setWords (t .stacked) in
-    let m = following (k .inside _ refl) (c .before .before .before .before .before .before .before .before .before .before .set-mask .ensures) (c .before .before .before .before .before .before .mark-all .ensures) in
-    (search needs, search needs, search needs, m .grows .after, λ P h. closing-again t k (c .before .before .before .before .before .before .before .before .before .before .before .before .before .before .before .before .before .loop .inv .4 P h) (m .adds P h)))  -- loop-again
+    let at-mark-all = c .before .before .before .before .before .before in
+    let at-take = at-mark-all .before .before .before .before .before .before .before in
+    let at-loop = at-take .before .before .before .before in
+    let t = at-loop .loop .inv .3 in
+    turn-left t (at-take .take .ensures setWords (t .stacked)) (at-mark-all .mark-all .ensures .grows))  -- loop-less
+    (λ c.
+    let at-mark-all = c .before .before .before .before .before .before in
+    let at-set-mask = at-mark-all .before .before .before .before in
+    let at-take = at-set-mask .before .before .before in
+    let at-loop = at-take .before .before .before .before in
+    let t = at-loop .loop .inv .3 in
+    let k = at-take .take .ensures setWords (t .stacked) in
+    let m = following (k .inside _ refl) (at-set-mask .set-mask .ensures) (at-mark-all .mark-all .ensures) in
+    (search needs, search needs, search needs, m .grows .after, λ P h. closing-again t k (at-loop .loop .inv .4 P h) (m .adds P h)))  -- loop-again
     (λ c. search needs)  -- same-length
     (λ c. search needs)  -- same-length-2
     (λ c. search needs)  -- same-length-3

@@ -31,7 +31,10 @@ mark-all-spec =
     (λ c κs. (omega arith, c .before .before .before .before .loop .inv .4 .grows .after, c .before .before .before .before .before .before .before .before .pre .1))  -- mark-targets-requires
     (λ c. search needs)  -- add-p
     (λ c. search needs)  -- loop-less
-    (λ c. (search needs, search needs, search needs, search needs, upto-again (c .before .before .before .before .before .before .before .before .before .before .before .loop .inv .4) (c .before .before .before .before .before .before .mark-targets .ensures)))  -- loop-again
+    (λ c.
+    let at-mark-targets = c .before .before .before .before .before .before in
+    let at-loop = at-mark-targets .before .before .before .before .before in
+    (search needs, search needs, search needs, search needs, upto-again (at-loop .loop .inv .4) (at-mark-targets .mark-targets .ensures)))  -- loop-again
     (λ c. search needs)  -- same-length
     (λ c. search needs)  -- same-length-2
     (λ c. search needs)  -- same-length-3

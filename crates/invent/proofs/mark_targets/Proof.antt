@@ -16,14 +16,20 @@ mark-targets-spec =
     (λ c. let r = c .before .required in not-required (c .before .before .before .before .before .pre .1) (r .result) (not-true (r .result) (c .if1 .taken)) (r .ensures))  -- returns
     (λ c κs. search needs)  -- targets-requires
     (λ c κs. search needs)  -- set-number-requires
-    (λ c κs. (setWords, omega (arith, c .before .before .before .set-number .ensures, number-lt (c .before .before .before .before .targets .result) (omega arith)), c .before .before .before .before .before .before .before .before .before .before .pre .1))  -- mark-requires
+    (λ c κs.
+    let at-targets = c .before .before .before .before in
+    let entry = at-targets .before .before .before .before .before .before in
+    (setWords, omega (arith, c .before .before .before .set-number .ensures, number-lt (at-targets .targets .result) (omega arith)), entry .pre .1))  -- mark-requires
     (λ c. search needs)  -- same-length
     (λ c. search needs)  -- same-length-2
     (λ c. search needs)  -- same-length-3
     (λ c.
+    let at-mark = c .before .before .before .before .before .before in
+    let at-if1 = at-mark .before .before .before .before .before .before in
+    let entry = at-if1 .before .before .before .before .before in
     let n = c .before .before .before .before .before .before .before .before .before .before .set-number in
     let t = c .before .before .before .before .before .before .before .before .before .before .before .targets in
     let r = c .before .before .before .before .before .before .before .before .before .before .before .before .before .required in
     let small = number-lt (t .result) (omega arith) in
-    marks-targets (omega arith) (t .ensures) (r .result) (not-false (r .result) (c .before .before .before .before .before .before .before .before .before .before .before .before .if1 .left)) (r .ensures) (n .ensures)
-    (c .before .before .before .before .before .before .mark .ensures setWords (omega (arith, n .ensures, small)) (c .before .before .before .before .before .before .before .before .before .before .before .before .before .before .before .before .before .pre .1))))  -- returns-2
+    marks-targets (omega arith) (t .ensures) (r .result) (not-false (r .result) (at-if1 .if1 .left)) (r .ensures) (n .ensures)
+    (at-mark .mark .ensures setWords (omega (arith, n .ensures, small)) (entry .pre .1))))  -- returns-2

@@ -31,15 +31,19 @@ seed-spec =
     (λ c. (search needs, search needs, search needs, search needs, search needs, no-subject _, upto-start (c .before .before .before .before .before .before .pre .1)))  -- loop-holds
     (λ c. omega (arith, c .before .before .before .before .before .before .before .before .pre .0 .few))  -- mul-seed-node
     (λ c. omega (arith, c .before .before .before .before .before .before .before .before .before .pre .0 .long))  -- shared-slice-read-seed-node
-    (λ c κs. let p = c .before .before .before .before .before .before .before .before .before .before .before .before .pre in let l = c .before .before .before .before .before .loop in (p .0 .triples-ascend, omega (arith, p .0 .few), l .inv .5, l .inv .6 .grows .after, p .2))  -- seed-node-requires
+    (λ c κs.
+    let p = c .before .before .before .before .before .before .before .before .before .before .before .before .pre in
+    let l = c .before .before .before .before .before .loop in
+    (p .0 .triples-ascend, omega (arith, p .0 .few), l .inv .5, l .inv .6 .grows .after, p .2))  -- seed-node-requires
     (λ c. search needs)  -- add-s
     (λ c. search needs)  -- loop-less
     (λ c.
-    let s = c .before .before .before .before .before .before .before .before .before .before .before .before .before .before .before .before .before .before .before in
+    let at-loop-test = c .before .before .before .before .before .before .before .before .before .before .before in
+    let s = at-loop-test .before .before .before .before .before .before .before .before in
     let l = c .before .before .before .before .before .before .before .before .before .before .before .before .loop in
     let m = c .before .before .before .before .before .before .seed-node in (
       search needs,
-      omega (arith, c .before .before .before .before .before .before .before .before .before .before .before .loop-test .taken, l .inv .0),
+      omega (arith, at-loop-test .loop-test .taken, l .inv .0),
       search needs,
       search needs,
       search needs,
@@ -49,4 +53,8 @@ seed-spec =
     (λ c. search needs)  -- same-length
     (λ c. search needs)  -- same-length-2
     (λ c. search needs)  -- same-length-3
-    (λ c. let l = c .before .loop in let e : l .s ≡ length (c .before .before .before .before .before .before .before .before .args .nodes .now) = omega arith in rw e at (l .inv .6)))  -- returns
+    (λ c.
+    let args = c .before .before .before .before .before .before .before .before .args in
+    let l = c .before .loop in
+    let e : l .s ≡ length (args .nodes .now) = omega arith in
+    rw e at (l .inv .6)))  -- returns

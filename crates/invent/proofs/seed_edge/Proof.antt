@@ -23,9 +23,12 @@ seed-edge-spec =
     (λ c. search needs)  -- same-length-2
     (λ c. search needs)  -- same-length-3
     (λ c.
-    let s = c .before .before .before .before .before .before .before .before .before .before .before .before .before .before .before .before in
+    let at-mark-targets = c .before .before .before .before .before .before in
+    let at-if1 = at-mark-targets .before .before .before .before in
+    let s = at-if1 .before .before .before .before .before .before in
     let m = c .before .before .before .before .before .before .before .before .before .before .before .after in
     let a = s .args in (
-      edge-missing (origin-none (a .triples .now) (originAt (a .subject) (a .p)) (a .from .at) (m .result) (s .pre .3) (m .ensures) (c .before .before .before .before .before .before .before .before .before .before .if1 .left)) (c .before .before .before .before .before .before .mark-targets .ensures),
+      edge-missing (origin-none (a .triples .now) (originAt (a .subject) (a .p)) (a .from .at) (m .result) (s .pre .3) (m .ensures) (at-if1 .if1 .left))
+          (at-mark-targets .mark-targets .ensures),
       m .ensures,
     )))  -- returns-2

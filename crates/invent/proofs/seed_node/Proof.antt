@@ -29,8 +29,11 @@ seed-node-spec =
     (tie.spec
     Inv-loop
     μ-loop
-    (λ c. (search needs, search needs, search needs, search needs, c .before .before .before .before .pre .2, upto-start (c .before .before .before .before .pre .3)))  -- loop-holds
-    (λ c κs. let s = c .before .before .before .before .before .before .before .before .before in let l = c .before .before .before .before .loop in (s .pre .0, s .pre .1, omega arith, l .inv .4, l .inv .5 .grows .after, s .pre .4))  -- seed-edge-requires
+    (λ c. let pre = c .before .before .before .before .pre in (search needs, search needs, search needs, search needs, pre .2, upto-start (pre .3)))  -- loop-holds
+    (λ c κs.
+    let s = c .before .before .before .before .before .before .before .before .before in
+    let l = c .before .before .before .before .loop in
+    (s .pre .0, s .pre .1, omega arith, l .inv .4, l .inv .5 .grows .after, s .pre .4))  -- seed-edge-requires
     (λ c. search needs)  -- add-p
     (λ c. search needs)  -- loop-less
     (λ c.

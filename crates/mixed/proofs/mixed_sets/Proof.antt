@@ -27,8 +27,15 @@ mixed-sets-spec =
     (λ c. (search needs, search needs, none-first (c .before .before .args .flags .now) (c .if1 .left)))  -- loop-holds
     (λ c. search needs)  -- mul-if2
     (λ c. search needs)  -- shared-slice-read-if2
-    (λ c. later-mixed (c .before .before .before .before .before .before .args .flags .now) (c .before .before .before .loop .w) (c .before .before .before .loop .inv .0) (omega arith) (omega (arith, c .if2 .taken)) (c .before .shared-slice-known2 .given _ .fits))  -- returns-2
+    (λ c.
+    let at-loop = c .before .before .before in
+    let entry = at-loop .before .before .before in
+    later-mixed (entry .args .flags .now) (at-loop .loop .w) (at-loop .loop .inv .0) (omega arith) (omega (arith, c .if2 .taken))
+    (c .before .shared-slice-known2 .given _ .fits))  -- returns-2
     (λ c. search needs)  -- add-w-2
     (λ c. search needs)  -- loop-less
-    (λ c. (search needs, search needs, none-later (c .before .before .before .before .before .before .args .flags .now) (c .before .before .before .loop .w) (c .before .before .before .loop .inv .2) (omega (arith, c .if2 .left))))  -- loop-again
+    (λ c.
+    let at-loop = c .before .before .before in
+    let entry = at-loop .before .before .before in
+    (search needs, search needs, none-later (entry .args .flags .now) (at-loop .loop .w) (at-loop .loop .inv .2) (omega (arith, c .if2 .left))))  -- loop-again
     (λ c. found-none memberSets (c .before .loop .inv .2) (omega arith)))  -- returns-3

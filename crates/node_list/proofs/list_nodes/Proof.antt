@@ -14,6 +14,11 @@ list-nodes-spec =
     (λ c. search needs)  -- same-length
     (λ c. search needs)  -- same-length-2
     (λ c.
-    let s = c .before .before .before .before .before .before .before .before .before .before .before .before .before .before .before .before in
-    let l = c .before .before .before .before .list-sets .ensures in
-    (λ P table triples I ar f clean. nodes-listed I f clean (s .args .arities) ar (s .pre .3) (s .args .out .now) (s .pre .1) (s .pre .5) (c .before .before .before .before .before .before .before .before .before .list-core .ensures) (l .0), l .1)))  -- returns
+    let at-list-sets = c .before .before .before .before in
+    let at-list-core = at-list-sets .before .before .before .before .before in
+    let s = at-list-core .before .before .before .before .before .before .before in
+    let l = at-list-sets .list-sets .ensures in (
+      λ P table triples I ar f clean. nodes-listed I f clean (s .args .arities) ar (s .pre .3) (s .args .out .now) (s .pre .1) (s .pre .5) (at-list-core .list-core .ensures)
+          (l .0),
+      l .1,
+    )))  -- returns

@@ -31,7 +31,9 @@ list-sets-spec =
     let m = numbering-room (l .inv .2) (p .0) (p .2) (p .3) (omega arith) in
     (omega (arith, few-sets (p .0), p .2), omega (arith, m, l .inv .2 .records .long)))  -- write-set-requires
     (λ c. search needs)  -- add-places
-    (λ c. omega (arith, few-sets (c .before .before .before .before .before .before .before .before .before .before .pre .0), c .before .before .before .before .before .before .before .before .before .before .pre .2))  -- cast-places
+    (λ c.
+    let pre = c .before .before .before .before .before .before .before .before .before .before .pre in
+    omega (arith, few-sets (pre .0), pre .2))  -- cast-places
     (λ c.
     let s = c .before .before .before .before .before .before .before .before .before .before in
     let l = c .before .before .before .before .before .before .loop in
@@ -51,7 +53,8 @@ list-sets-spec =
     let l = c .before .before .before .before .before .before .loop in (
       search needs,
       search needs,
-      rw (c .before .before .write-set .ensures) (numbering-again (l .inv .2) (p .0) (omega arith) (omega (arith, p .1, l .inv .1)) (numbering-room (l .inv .2) (p .0) (p .2) (p .3) (omega arith))),
+      rw (c .before .before .write-set .ensures)
+          (numbering-again (l .inv .2) (p .0) (omega arith) (omega (arith, p .1, l .inv .1)) (numbering-room (l .inv .2) (p .0) (p .2) (p .3) (omega arith))),
     ))  -- loop-again
     (λ c. search needs)  -- same-length
     (λ c. c .before .loop .inv .2 .records .long)  -- same-length-2

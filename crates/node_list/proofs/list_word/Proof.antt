@@ -26,12 +26,16 @@ list-word-spec =
     (λ c. omega (arith, trailing-le 64 (c .before .loop .left)))  -- add-sets
     (λ c. omega (arith, low-small (c .before .loop .inv) (omega arith) (omega (arith, c .loop-test .taken))))  -- cast-sets-2
     (λ c. omega (arith, word-room (c .before .loop .inv) (omega arith) (omega (arith, c .loop-test .taken)) typeSets (c .before .before .pre .1)))  -- mul-sets-2
-    (λ c. omega (arith, word-room (c .before .loop .inv) (omega arith) (omega (arith, c .loop-test .taken)) typeSets (c .before .before .pre .1), c .before .loop .inv .long, c .before .before .pre .2))  -- slice-write-sets
+    (λ c.
+    let pre = c .before .before .pre in
+    omega (arith, word-room (c .before .loop .inv) (omega arith) (omega (arith, c .loop-test .taken)) typeSets (pre .1), c .before .loop .inv .long, pre .2))  -- slice-write-sets
     (λ c. search needs)  -- sub-left
     (λ c. omega (arith, word-room (c .before .loop .inv) (omega arith) (omega (arith, c .loop-test .taken)) typeSets (c .before .before .pre .1)))  -- add-end
     (λ c. omega (arith, ones-cleared (c .before .loop .left) (omega (arith, c .loop-test .taken))))  -- loop-less
     (λ c.
+    let pre = c .before .before .pre in
     let g = c .before .loop .inv in
-    word-again g (omega arith) (omega (arith, c .loop-test .taken)) (omega (arith, word-room g (omega arith) (omega (arith, c .loop-test .taken)) typeSets (c .before .before .pre .1), g .long, c .before .before .pre .2)))  -- loop-again
+    word-again g (omega arith) (omega (arith, c .loop-test .taken))
+    (omega (arith, word-room g (omega arith) (omega (arith, c .loop-test .taken)) typeSets (pre .1), g .long, pre .2)))  -- loop-again
     (λ c. c .before .loop .inv .long)  -- same-length
     (λ c. word-done (c .before .loop .inv) (omega (arith, c .loop-test .left))))  -- returns

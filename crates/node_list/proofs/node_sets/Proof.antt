@@ -23,9 +23,15 @@ node-sets-spec =
     μ-loop
     (λ c. (search needs, search needs, listing-start _ _))  -- loop-holds
     (λ c κs. search needs)  -- node-word-requires
-    (λ c κs. let l = c .before .before .before .loop in (omega arith, omega (arith, word-few (l .inv .2) (c .before .node-word .result) (omega arith)), omega (arith, c .before .before .before .before .before .before .pre .1, l .inv .1)))  -- list-word-requires
+    (λ c κs.
+    let pre = c .before .before .before .before .before .before .pre in
+    let l = c .before .before .before .loop in
+    (omega arith, omega (arith, word-few (l .inv .2) (c .before .node-word .result) (omega arith)), omega (arith, pre .1, l .inv .1)))  -- list-word-requires
     (λ c. search needs)  -- add-w
     (λ c. search needs)  -- loop-less
-    (λ c. let m = c .before .before .before .before .node-word in (search needs, search needs, listing-again (m .result) (omega arith) (c .before .before .before .before .before .before .loop .inv .2) (m .ensures) (c .before .before .list-word .ensures)))  -- loop-again
+    (λ c.
+    let loop = c .before .before .before .before .before .before .loop in
+    let m = c .before .before .before .before .node-word in
+    (search needs, search needs, listing-again (m .result) (omega arith) (loop .inv .2) (m .ensures) (c .before .before .list-word .ensures)))  -- loop-again
     (λ c. search needs)  -- same-length
     (λ c. listing-done (c .before .loop .inv .2) (omega (arith, c .before .loop .inv .0))))  -- returns

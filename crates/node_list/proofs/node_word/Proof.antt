@@ -15,4 +15,4 @@ node-word-spec =
     (λ c. search needs)  -- sub-result
     (λ c. search needs)  -- shared-slice-read-result
     (λ c. omega (arith, c .before .before .shared-slice-known .given (c .before .before .before .args .w) .fits))  -- add-result
-    (λ c. first-word (c .before .before .before .args .flags .now) (c .before .before .before .args .w) (omega (arith, c .before .if1 .left))))  -- returns-2
+    (λ c. let args = c .before .before .before .args in first-word (args .flags .now) (args .w) (omega (arith, c .before .if1 .left))))  -- returns-2

@@ -14,7 +14,13 @@ write-set-spec =
     (λ c. search needs)  -- mul-at
     (λ c κs. search needs)  -- write-node-requires
     (λ c. search needs)  -- same-length
-    (λ c. let s = c .before .before .before .before .before .before .args in written-as (s .node * nodeWidth) (s .out .now) _ _ _ (c .before .before .write-node .ensures) (set-literal (s .types) (c .before .before .before .before .if1 .taken)))  -- returns
+    (λ c.
+    let if1 = c .before .before .before .before .if1 in
+    let s = c .before .before .before .before .before .before .args in
+    written-as (s .node * nodeWidth) (s .out .now) _ _ _ (c .before .before .write-node .ensures) (set-literal (s .types) (if1 .taken)))  -- returns
     (λ c κs. search needs)  -- write-node-requires-2
     (λ c. search needs)  -- same-length-2
-    (λ c. let s = c .before .before .before .before .before .before .args in written-as (s .node * nodeWidth) (s .out .now) _ _ _ (c .before .before .write-node2 .ensures) (set-other (s .types) (c .before .before .before .before .if1 .left))))  -- returns-2
+    (λ c.
+    let if1 = c .before .before .before .before .if1 in
+    let s = c .before .before .before .before .before .before .args in
+    written-as (s .node * nodeWidth) (s .out .now) _ _ _ (c .before .before .write-node2 .ensures) (set-other (s .types) (if1 .left))))  -- returns-2

@@ -26,25 +26,33 @@ list-origin-spec =
     (λ c κs. search needs)  -- required-requires
     (λ c. search needs)  -- same-length-2
     (λ c.
+    let at-list-edges = c .before .before .before .before .before in
+    let s = at-list-edges .before .before .before .before .before in
     let q = c .before .required in
-    let s = c .before .before .before .before .before .before .before .before .before .before in
     let a = s .args in
     origin-free (a .shapes .now) (a .triples .now) (a .places .now) (s .pre .0) (a .subject) (a .mask) (a .p) (a .next .at) (a .next .triple) (s .pre .4) (a .out .now) _ _
-    (c .before .before .before .before .before .list-edges .ensures) (c .before .before .if1 .left) (q .result) (not-true (q .result) (c .if2 .taken)) (q .ensures))  -- returns-2
+    (at-list-edges .list-edges .ensures) (c .before .before .if1 .left) (q .result) (not-true (q .result) (c .if2 .taken)) (q .ensures))  -- returns-2
     (λ c κs. search needs)  -- targets-requires
     (λ c. search needs)  -- cast-types
     (λ c. search needs)  -- cast-write-triple
     (λ c. search needs)  -- cast-write-triple-2
     (λ c. search needs)  -- mul-write-triple
     (λ c. search needs)  -- shared-slice-read-write-triple
-    (λ c κs. let s = c .before .before .before .before .before .before .before .before .before .before .before .before .before in (omega (arith, s .pre .4, s .pre .5, keys-next (originAt (s .args .subject) (s .args .p)) (s .args .triples .now)), search needs))  -- write-triple-requires
-    (λ c. let s = c .before .before .before .before .before .before .before .before .before .before .before .before .before .before .before .before in omega (arith, s .pre .4, s .pre .5, keys-next (originAt (s .args .subject) (s .args .p)) (s .args .triples .now)))  -- add-t24
+    (λ c κs.
+    let s = c .before .before .before .before .before .before .before .before .before .before .before .before .before in
+    (omega (arith, s .pre .4, s .pre .5, keys-next (originAt (s .args .subject) (s .args .p)) (s .args .triples .now)), search needs))  -- write-triple-requires
+    (λ c.
+    let s = c .before .before .before .before .before .before .before .before .before .before .before .before .before .before .before .before in
+    omega (arith, s .pre .4, s .pre .5, keys-next (originAt (s .args .subject) (s .args .p)) (s .args .triples .now)))  -- add-t24
     (λ c. search needs)  -- same-length-3
     (λ c.
+    let at-if2 = c .before .before .before .before .before .before in
+    let at-if1 = at-if2 .before .before in
+    let at-list-edges = at-if1 .before .before .before in
+    let s = at-list-edges .before .before .before .before .before in
     let q = c .before .before .before .before .before .before .before .required in
     let t = c .before .before .before .before .before .targets in
-    let s = c .before .before .before .before .before .before .before .before .before .before .before .before .before .before .before .before in
     let a = s .args in
     origin-gets (a .shapes .now) (a .triples .now) (a .places .now) (s .pre .0) (a .subject) (a .mask) (a .p) (a .next .at) (a .next .triple) (s .pre .4) (a .out .now) _ _
-    (c .before .before .before .before .before .before .before .before .before .before .before .list-edges .ensures) (c .before .before .before .before .before .before .before .before .if1 .left) (q .result) (not-false (q .result) (c .before .before .before .before .before .before .if2 .left)) (q .ensures) (t .result) (omega arith) (t .ensures) _
+    (at-list-edges .list-edges .ensures) (at-if1 .if1 .left) (q .result) (not-false (q .result) (at-if2 .if2 .left)) (q .ensures) (t .result) (omega arith) (t .ensures) _
     (c .before .before .write-triple .ensures)))  -- returns-3

@@ -26,6 +26,7 @@ list-set-edges-spec =
     ))  -- list-subject-requires
     (λ c. search needs)  -- same-length
     (λ c.
+    let if1 = c .before .before .before .before .if1 in
     let a = c .before .before .before .before .before .before .before .before .args in
     let m = c .before .before .list-subject .ensures in
-    (node-some (omega (arith, c .before .before .before .before .if1 .left)) (m .0), omega (arith, m .1, m .2, keys-le (originAt (a .node) maxPredicates) (a .triples .now), c .before .before .before .before .if1 .left))))  -- returns-2
+    (node-some (omega (arith, if1 .left)) (m .0), omega (arith, m .1, m .2, keys-le (originAt (a .node) maxPredicates) (a .triples .now), if1 .left))))  -- returns-2

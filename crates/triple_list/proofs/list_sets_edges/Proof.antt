@@ -27,8 +27,10 @@ list-sets-edges-spec =
     (tie.spec
     Inv-loop
     μ-loop
-    (λ c. let a = c .before .before .before .before .args in (search needs, search needs, search needs, omega arith, listed-start (SetEdge (a .triples .now) (a .sets .now) (a .places .now) (a .node)) (a .first) _))  -- loop-holds
-    (λ c. omega (arith, few-sets (c .before .before .before .before .before .before .pre .2), c .before .before .before .before .before .before .pre .4))  -- add-list-set-edges
+    (λ c.
+    let a = c .before .before .before .before .args in
+    (search needs, search needs, search needs, omega arith, listed-start (SetEdge (a .triples .now) (a .sets .now) (a .places .now) (a .node)) (a .first) _))  -- loop-holds
+    (λ c. let pre = c .before .before .before .before .before .before .pre in omega (arith, few-sets (pre .2), pre .4))  -- add-list-set-edges
     (λ c. search needs)  -- mul-list-set-edges
     (λ c. search needs)  -- shared-slice-read-list-set-edges
     (λ c κs.
