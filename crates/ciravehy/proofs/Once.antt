@@ -65,7 +65,7 @@ module _ (pack query : Text) (nodes nodes₂ triples triples₂ list list₂ row
   finds-once e f x y =
       let s =
       pairs.answers-once pack query (x .answer) (y .answer) nodes nodes₂ triples triples₂ list list₂ rows rows₂ heads heads₂ alive alive₂ waiting waiting₂ stack stack₂
-      seen seen₂ e f (x .answers) (y .answers) in
+      seen seen₂ own-nodes own-nodes₂ own-triples own-triples₂ e f (x .answers) (y .answers) in
       (same-report (ap (λ (a : PairAnswer). a .graph) (s .answer)) (ap (λ (a : PairAnswer). a .pairs) (s .answer)) (x .refusal) (y .refusal) (x .report) (y .report), s)
 
 pub reads-once : {pack text : Text} {result result₂ : ℕ} {report report₂ : List ℕ} → Reads pack text result report → Reads pack text result₂ report₂

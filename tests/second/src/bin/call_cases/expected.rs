@@ -8,10 +8,11 @@ use second::{build, pairs, yes_no, Graph, Refusal};
 const SHOWN: usize = 16;
 
 /// The numbers of the lists and buffers that a call is lent: nodes 1,
-/// triples 2, pairs 3, rows 4, heads 5, alive 6, queue 7, seen 8.
+/// triples 2, pairs 3, rows 4, heads 5, alive 6, waiting 7, stack 8, seen 9,
+/// own_nodes 10, own_triples 11.
 const BUILD: &[u8] = &[1, 2, 4, 5];
-const YES_NO: &[u8] = &[1, 2, 4, 5, 6, 7];
-const PAIRS: &[u8] = &[1, 2, 3, 4, 5, 6, 7, 8];
+const YES_NO: &[u8] = &[1, 2, 4, 5, 6, 7, 8];
+const PAIRS: &[u8] = &[1, 2, 3, 4, 5, 6, 7, 8, 9, 10, 11];
 
 pub fn output(case: &Case) -> String {
     let mut text = format!("{}\n", case.title);

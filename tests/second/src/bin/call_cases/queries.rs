@@ -163,7 +163,7 @@ fn short_buffers() -> Vec<Case> {
             queries: vec![query(b"name"), query(b"name|")],
         })
     };
-    (1..=8).flat_map(lend).collect()
+    (1..=11).flat_map(lend).collect()
 }
 
 /// Refusals 3 to 9, and 2 before each.
