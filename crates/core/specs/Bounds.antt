@@ -10,7 +10,7 @@ use Rattle.meaning.specs.Pack.{Constructor, Pack}
 use Rattle.meaning.specs.WellFormed.{dangling}
 use Rattle.core.specs.Heads.{keysOf, namedNumber, objectArguments, objectConstructor, subjectArguments, subjectConstructor}
 
--- "Values, at most 256", "Types, at most 8", "Predicates, at most 12", "Constructors, at most 16: arity 1 to 4", and no
+-- "Values, at most 256", "Types, at most 8" (12 by card 14), "Predicates, at most 12", "Constructors, at most 16: arity 1 to 4", and no
 -- number that names no record
 pub record Bounded (P : Pack) : Type 0 where
   pub values : length (P .setting .values) ≤ maxValues

@@ -1,7 +1,7 @@
 // The sets of the invented nodes, as bits by set number: those that the core leads to, and what follows from each.
-ghost use lib.ListN.{length, replicate};
+ghost use lib.ListN.{replicate};
 ghost use mathlib.Core.Path.{_≡_};
-ghost use Prim.Native.Nat.{_+_, _*_, _<_, _≤_};
+ghost use Prim.Native.Nat.{_+_, _<_};
 ghost use Rattle.core.specs.Keys.{originAt};
 ghost use Rattle.core_lists.specs.Input.{CoreFits};
 ghost use Rattle.core_lists.specs.Origin.{keysBefore};

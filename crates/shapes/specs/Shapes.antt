@@ -18,7 +18,7 @@ pub record SomeShape (S : Setting) (mask p : ℕ) (Q : Shape → Type 0) : Type 
   pub declared : HasShape S member p shape
   pub holds : Q shape
 
--- The shapes' types and targets are among the types that a pack may have ("Types, at most 8", and 7: "A number names no record").
+-- The shapes' types and targets are among the types that a pack may have ("Types, at most 8", by card 14 12, and 7: "A number names no record").
 pub record FewTypes (S : Setting) : Type 0 where
   pub owners : {t p : ℕ} {s : Shape} → HasShape S t p s → t < maxTypes
   pub targets : {t p u : ℕ} {s : Shape} → HasShape S t p s → s .target ≡ type u → u < maxTypes

@@ -9,7 +9,7 @@ use native.Mathlib.Numerals.{add-one}
 use native.Mathlib.Omega.{arith}
 use Prim.Native.Nat.{ℕ, min, suc, zero, _+_, _*_, _-_, _%_, _^_, _<_, _≤_}
 use Rattle.core.specs.Keys.{objectOf, originAt, originOf}
-use Rattle.invent.specs.Invent.{Upto, numberOf}
+use Rattle.invent.specs.Invent.{numberOf}
 use Rattle.node_list.specs.Records.{SetsFit, overwritten}
 use Rattle.triple_list.specs.Triples.{EdgeFrom, EdgesListed, NodeEdge, RecordsListed, SubjectEdge, SubjectsBelow, edgeRecord, edgeRecords, gotten, present}
 use Rattle.triple_list.proofs.ListedLaws.{listed-iff, listed-none}

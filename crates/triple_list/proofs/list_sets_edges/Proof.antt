@@ -1,9 +1,9 @@
 -- `triple_list::list_sets_edges` meets its contract: the sets before place i are done. Assumes nothing.
 use borrow.Author.Needs.{needs}
-use lib.ListN.{getD, length}
+use lib.ListN.{length}
 use mathlib.Core.Path.{_≡_}
 use native.Mathlib.Omega.{arith}
-use Prim.Native.Nat.{_+_, _*_, _-_, _≤_, _<_}
+use Prim.Native.Nat.{_+_, _*_, _-_, _≤_}
 use Rattle.invent.specs.Invent.{Upto}
 use Rattle.node_list.proofs.SetList.{few-sets}
 use Rattle.triple_list.specs.Triples.{RecordsListed, SetEdge}
