@@ -53,7 +53,8 @@ module _ (pack query : Text) (nodes nodes₂ triples triples₂ rows rows₂ hea
       let s = yes-no.answers-once pack query (x .answer) (y .answer) nodes nodes₂ triples triples₂ rows rows₂ heads heads₂ alive alive₂ waiting waiting₂ stack stack₂ e f (x .answers) (y .answers) in
       (same-report (ap (λ (a : YesNo). a .graph) (s .answer)) (ap (λ (a : YesNo). number (a .yes)) (s .answer)) (x .refusal) (y .refusal) (x .report) (y .report), s)
 
-module _ (pack query : Text) (nodes nodes₂ triples triples₂ list list₂ rows rows₂ heads heads₂ alive alive₂ waiting waiting₂ stack stack₂ seen seen₂ own-nodes own-nodes₂ own-triples own-triples₂ : Contents)
+module _ (pack query : Text)
+    (nodes nodes₂ triples triples₂ list list₂ rows rows₂ heads heads₂ alive alive₂ waiting waiting₂ stack stack₂ seen seen₂ own-nodes own-nodes₂ own-triples own-triples₂ : Contents)
     {result result₂ : ℕ} {report report₂ : List ℕ} where
   pub finds-once : SameLengths (Pairs.lists nodes triples list) (Pairs.lists nodes₂ triples₂ list₂)
       → SameLengths (Pairs.buffers rows heads alive waiting stack seen own-nodes own-triples) (Pairs.buffers rows₂ heads₂ alive₂ waiting₂ stack₂ seen₂ own-nodes₂ own-triples₂)

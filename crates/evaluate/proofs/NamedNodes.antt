@@ -82,7 +82,8 @@ module _ {pack : Text} {P : Pack} {nodes : List ℕ} {count : ℕ} {triples : Li
   OtherPlace n = (n < named) × (IsIri (getElem? (inOrder g) n) → ⊥)
 
   few-iris : Over maxIris IriPlace → ⊥
-  few-iris o = g .has .small (inl (over-carried IriPlace (CoreIri P) (λ n t. getElem? (inOrder g) n ≡ some (core (iriNode (t .0) (t .1)))) image (λ n m t x y. once (core (iriNode (t .0) (t .1))) n m x y) o))
+  few-iris o = g .has .small
+      (inl (over-carried IriPlace (CoreIri P) (λ n t. getElem? (inOrder g) n ≡ some (core (iriNode (t .0) (t .1)))) image (λ n m t x y. once (core (iriNode (t .0) (t .1))) n m x y) o))
     where
       image : (n : ℕ) → IriPlace n → (t : ℕ × List ℕ) × CoreIri P t × (getElem? (inOrder g) n ≡ some (core (iriNode (t .0) (t .1))))
       image n (l, h) = let (k, e) = places .core-node n l in go k e (subst IsIri e h)

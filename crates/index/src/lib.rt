@@ -1,11 +1,6 @@
 // The triples by object, in chains.
-ghost use lib.ListN.{getD, length};
-ghost use mathlib.Core.Path.{_≡_};
-ghost use Prim.Native.Nat.{_*_, _+_, _<_, _≤_};
 ghost use Rattle.index.specs.Index.{ByObject, ChainReady};
 ghost use Rattle.index.specs.Triples.{GraphFits};
-ghost use Rattle.meaning.specs.Limits.{maxNodes};
-use meaning::MAX_NODES;
 
 // Chains the triples with the same object: `last` has each object's last triple, `earlier` each triple's one before it,
 // as its number and one more, 0 for none.

@@ -2,8 +2,9 @@
 -- in it. Assumes nothing.
 use mathlib.Core.Path.{_≡_, refl}
 use native.Mathlib.Omega.{arith}
-use Prim.Native.Nat.{_*_, _≤_}
-use Rattle.meaning.specs.Limits.{contentsBytes, literalBit, maxCoreNodes, maxNodes, maxPredicates, maxShapes, maxTriples, maxTypes, memberSets, namedWords, nodeListLength, nodeWords, pairListLength, placeRoom, predicateRoom, setWords, tripleListLength, wordBits}
+use Prim.Native.Nat.{_*_, _-_, _≤_}
+use Rattle.meaning.specs.Limits.{contentsBytes, literalBit, maxCoreNodes, maxNodes, maxPredicates, maxShapes, maxTriples, maxTypes, memberSets}
+use Rattle.meaning.specs.Limits.{namedWords, nodeListLength, nodeWords, pairListLength, placeRoom, predicateRoom, setWords, tripleListLength, typeSets, wordBits}
 
 -- "under 36": nine 32-bit lengths
 pub contents-36 : contentsBytes ≡ 36
@@ -21,6 +22,13 @@ nodes-4864 = refl
 
 pub triples-56308 : maxTriples ≡ 56308
 triples-56308 = refl
+
+-- "Up to 4,095 invented non-literal nodes can arise", "9,728 for Card 13's list": two numbers for each node
+pub invented-4095 : typeSets - 1 ≡ 4095
+invented-4095 = refl
+
+pub index-9728 : 2 * maxNodes ≡ 9728
+index-9728 = refl
 
 -- Refusal 1: "8,192 for pairs"
 pub pairs-8192 : pairListLength ≡ 8192

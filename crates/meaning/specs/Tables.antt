@@ -10,7 +10,7 @@ use Rattle.meaning.specs.Limits.{atomsLength, literalBit, literalWeight,
 use Rattle.meaning.specs.Pack.{Atom, hasType, Head, linksTo, linksToValue, Literal, multiplicityNumber, Row, Rule, Setting, Shape, shapeOf, Target, type}
 use Rattle.meaning.specs.TypeSet.{TypeSet}
 
--- ---- "Shapes form a table of 8 types by 12 predicates": target and multiplicity packed per cell
+-- ---- "Shapes form a table of 8 types by 12 predicates", of 12 by 12 since card 14: target and multiplicity packed per cell
 
 -- Literal counts as a type: in a pack that is not refused, every type's number is lower.
 abbrev pub targetCode : Target → ℕ

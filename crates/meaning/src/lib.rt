@@ -185,7 +185,7 @@ pub const RULES_AT: usize = CONSTRUCTORS_AT + MAX_CONSTRUCTORS * CONSTRUCTOR_WID
 
 pub const SETTING_LENGTH: usize = RULES_AT + MAX_RULES * RULE_WIDTH;
 
-// "Shapes form a table of 8 types by 12 predicates": a cell for each.
+// "Shapes form a table of 8 types by 12 predicates", of 12 by 12 since card 14: a cell for each.
 pub type ShapeTable = [[u16; MAX_PREDICATES]; MAX_TYPES];
 
 // The arity of each constructor.

@@ -1,5 +1,6 @@
 -- Card 14: bytes with no more types and shapes than a pack had come to what they came to, refused or not; and every pack accepted
 -- before is accepted, as the same pack. Assumes nothing.
+use borrow.Author.Tests.{le-leb}
 use lib.Dec.{leb}
 use lib.ListN.{length}
 use mathlib.Core.Bool.{Bool, false, true}
@@ -12,12 +13,11 @@ use Rattle.meaning.specs.Limits.{maxConstructors, maxDependencies, maxPredicate
 use Rattle.meaning.specs.Pack.{Pack}
 use Rattle.pack.proofs.Unpacking.{body-records, then-some}
 use Rattle.pack.specs.Before.{FewBefore, firstRefusalBefore, shapesBefore, typesBefore}
-use Rattle.pack.specs.Checked.{Checked, accepted, beforeGraph, checkWithin, firstRefusal, numberOf, onPack, refused}
+use Rattle.pack.specs.Checked.{Refusal, accepted, fiveToEight, checkWithin, firstRefusal, numberOf, onPack, refused}
 use Rattle.pack.specs.Contents.{badSize, bodyOf}
 use Rattle.pack.specs.Readers.{Reader}
 use Rattle.pack.specs.Records.{constructor, dependency, name, relation, row, rule, shape, value}
-use Rattle.pack.specs.Unpack.{_then_, atMost, body, readAll, unpackWithin}
-use borrow.Author.Tests.{le-leb}
+use Rattle.pack.specs.Unpack.{atMost, body, readAll, unpackWithin}
 
 -- a body with no more records than the lower limit
 same-body : {A : Type 0} (reader : Reader A) (m n : ℕ) (s : List ℕ) → m ≤ n → ((xs : List A) → readAll reader s ≡ some xs → length xs ≤ m) → body reader m s ≡ body reader n s
@@ -32,10 +32,14 @@ unpack-same : (s : List ℕ) → FewBefore s → unpackWithin typesBefore shapes
 unfolding unpackWithin
 unpack-same s few = rw (same-body name typesBefore maxTypes (bodyOf s 3) (omega arith) (few .types), same-body shape shapesBefore maxShapes (bodyOf s 5) (omega arith) (few .shapes))
 
--- "for a pack with at most 8 types and 96 shapes, refused or not"
+-- "for a pack with at most 8 types and 96 shapes, refused or not": whatever is looked for after 4
+pub checks-same : (s : List ℕ) → FewBefore s → (rs : List Refusal) → checkWithin typesBefore shapesBefore rs s ≡ checkWithin maxTypes maxShapes rs s
+unfolding checkWithin
+checks-same s few rs = ap (λ (o : Option Pack). elim (badSize s) [ true ↦ refused 3 | false ↦ onPack rs o ]) (unpack-same s few)
+
 pub before-same : (s : List ℕ) → FewBefore s → firstRefusalBefore s ≡ firstRefusal s
-unfolding firstRefusal checkWithin
-before-same s few = ap (λ (o : Option Pack). elim (badSize s) [ true ↦ refused 3 | false ↦ onPack beforeGraph o ]) (unpack-same s few)
+unfolding firstRefusal
+before-same s few = checks-same s few fiveToEight
 
 -- what was accepted had no more
 few-of : (s : List ℕ) (P : Pack) → unpackWithin typesBefore shapesBefore s ≡ some P → FewBefore s

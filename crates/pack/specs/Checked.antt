@@ -38,12 +38,12 @@ checkBy = checkWithin maxTypes maxShapes
 unfoldable pub wellFormed : List ℕ → Checked
 wellFormed = checkBy ((5, duplicates) ∷ (6, prefixClash) ∷ (7, dangling) ∷ [])
 
--- "and keeps its dependencies when 8 is not."
-abbrev pub beforeGraph : List Refusal
-beforeGraph = (5, duplicates) ∷ (6, prefixClash) ∷ (7, dangling) ∷ (8, broken) ∷ []
+abbrev pub fiveToEight : List Refusal
+fiveToEight = (5, duplicates) ∷ (6, prefixClash) ∷ (7, dangling) ∷ (8, broken) ∷ []
 
+-- "and keeps its dependencies when 8 is not."
 unfoldable pub firstRefusal : List ℕ → Checked
-firstRefusal = checkBy beforeGraph
+firstRefusal = checkBy fiveToEight
 
 -- "A refusal gives its number"; 0 where there is none.
 abbrev pub numberOf : Checked → ℕ

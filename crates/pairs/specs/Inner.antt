@@ -14,7 +14,8 @@ use Rattle.pairs.specs.declared.PairAnswer.{PairAnswer}
 abbrev pub Room : List ℕ → List ℕ → List ℕ → List ℕ → List ℕ → List ℕ → List ℕ → List ℕ → List ℕ → List ℕ → List ℕ → Type 0
 Room nodes triples pairs rows heads alive waiting stack seen own-nodes own-triples =
     LongEnough
-    (lists (nodes becomes nodes) (triples becomes triples) (pairs becomes pairs) ++ buffers (rows becomes rows) (heads becomes heads) (alive becomes alive) (waiting becomes waiting) (stack becomes stack) (seen becomes seen)
+    (lists (nodes becomes nodes) (triples becomes triples) (pairs becomes pairs) ++ buffers (rows becomes rows) (heads becomes heads) (alive becomes alive) (waiting becomes waiting)
+    (stack becomes stack) (seen becomes seen)
     (own-nodes becomes own-nodes) (own-triples becomes own-triples))
 
 -- the three output lists are long enough

@@ -46,7 +46,8 @@ fn in_lists(
     stack: &mut [u16],
     seen: &mut [u64],
 ) -> PairAnswer
-    requires { ⌜ CountedGraph (now tree) parts (now wanted) graph (now points) (now links) × ListRoom (now nodes) (now triples) (now pairs) × TableRoom (now alive) (now waiting) (now stack) (now seen) ⌝ }
+    requires { ⌜ CountedGraph (now tree) parts (now wanted) graph (now points) (now links)
+        × ListRoom (now nodes) (now triples) (now pairs) × TableRoom (now alive) (now waiting) (now stack) (now seen) ⌝ }
     ensures { λ r. ⌜ ForCounted (now (tree .entry)) parts (now (wanted .entry)) graph (now (points .entry)) (now (links .entry))
         (λ pack query. Comes pack query r (lent nodes) (lent triples) (lent pairs)) ⌝ }
 {

@@ -150,7 +150,8 @@ module _ {triples own first : List ℕ} {kind want to block bits : ℕ} {a : Boa
 -- ---- a part that has parts
 
 module _ (tree table : List ℕ) (i after block bits : ℕ) {a b : Board} where
-  as-part : (p : Part) → partOf tree i ≡ p → AddsOnly seenWords (FromWord block bits (PartsOnward table after p)) a b → AddsOnly seenWords (FromWord block bits (PartsOnward table after (partOf tree i))) a b
+  as-part : (p : Part) → partOf tree i ≡ p → AddsOnly seenWords (FromWord block bits (PartsOnward table after p)) a b
+      → AddsOnly seenWords (FromWord block bits (PartsOnward table after (partOf tree i))) a b
   as-part p e d = subst (λ q. AddsOnly seenWords (FromWord block bits (PartsOnward table after q)) a b) (sym e) d
 
   -- the body is alive at some of the nodes
@@ -177,7 +178,8 @@ module _ (tree table : List ℕ) (i after block bits : ℕ) {a b : Board} where
   pub part-sequence : kindOf tree i ≡ 7 → AddsOnly seenWords (At (firstNumber tree i) block bits) a b → AddsOnly seenWords (FromWord block bits (PartsOnward table after (partOf tree i))) a b
   part-sequence k d = as-part (chain (firstNumber tree i) (i - 1)) (kind-chain tree i k) (adds-same d (from-same (λ n y h p. p)) (from-same (λ n y h p. p)))
 
-either-way : {block bits : ℕ} {R : ℕ → ℕ → Type 0} (x z : ℕ) → ((n y : ℕ) → R n y → (y ≡ seenState x n) ⊎ (y ≡ seenState z n)) → (y : ℕ) → FromWord block bits R y → At x block bits y ⊎ At z block bits y
+either-way : {block bits : ℕ} {R : ℕ → ℕ → Type 0} (x z : ℕ) → ((n y : ℕ) → R n y → (y ≡ seenState x n) ⊎ (y ≡ seenState z n)) → (y : ℕ) → FromWord block bits R y
+    → At x block bits y ⊎ At z block bits y
 either-way {block} {bits} x z f y w = go (f (w .from) y (w .leads))
   where
     go : (y ≡ seenState x (w .from)) ⊎ (y ≡ seenState z (w .from)) → At x block bits y ⊎ At z block bits y

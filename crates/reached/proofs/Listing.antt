@@ -1,14 +1,16 @@
 -- Listing the pairs in ascending order, start by start. Assumes nothing.
-use borrow.Author.Tests.{eq-eqb, eqb-true}
+use borrow.Author.Tests.{eq-eqb, eqb-true, ne-eqb}
+use lib.Count.{trailingZeros}
 use lib.Dec.{eqb}
-use lib.ListN.{length, length-append, set, take}
+use lib.ListN.{getD, length, length-append, set, take}
+use lib.Pow.{shr-shr}
 use lib.Seq.{length-take-le, take-suc-set}
 use mathlib.Core.List.{List, [], append-assoc, append-nil, _++_, _∷_}
 use mathlib.Core.Path.{ap, refl, subst, sym, _∙_, _≡_}
-use native.Mathlib.Decide.{ℕ-discrete}
+use native.Mathlib.Decide.{decLt, ℕ-discrete}
 use native.Mathlib.Numerals.{add-one}
 use native.Mathlib.Omega.{arith}
-use Prim.Native.Nat.{suc, zero, ℕ, _*_, _+_, _-_, _<_, _≤_}
+use Prim.Native.Nat.{suc, zero, ℕ, _%_, _*_, _+_, _-_, _/_, _<_, _^_, _≤_}
 use Rattle.states.specs.Fits.{ListsFit}
 use Rattle.states.specs.Lists.{AliveIn, Lists, ReachedIn, leafAt, numbered}
 use Rattle.states.specs.Living.{Living}
@@ -17,10 +19,14 @@ use Rattle.reached.specs.declared.pairs.Pairs.{Pairs}
 use Rattle.reached.specs.declared.pairs.Pairs.the-variants.{Listed, TooMany}
 use Rattle.reached.specs.Keys.{pairKey}
 use Rattle.reached.specs.Seen.{seenState}
-use Rattle.meaning.specs.Limits.{maxCoreNodes, maxNodes, maxPairs}
+use Rattle.meaning.specs.Limits.{maxCoreNodes, maxNodes, maxPairs, namedWords}
+use Rattle.meaning.proofs.Lists.Bits.{bit-shift, mask-lt, zero-bits}
+use Rattle.meaning.proofs.Lists.Lowest.{Lowest, lowest}
+use Rattle.meaning.proofs.Lists.Masks.{bit-small}
 use Rattle.meaning.specs.Member.{here, there, _∈_}
 use Rattle.meaning.specs.Ordered.{InOrder, ListOf, before, empty}
 use Rattle.states.specs.State.{state}
+use Rattle.meaning.specs.TypeSet.{bit}
 use Rattle.worklist.specs.Table.{Marked, mark}
 use Rattle.walk.proofs.Alive.{alive-saturated}
 use Rattle.walk.specs.Parts.{listed, partOf}
@@ -30,11 +36,6 @@ use Rattle.meaning.proofs.Cases.{true-false}
 use Rattle.meaning.proofs.Lists.Listing.{list-append, list-none, list-over, list-skip}
 
 -- ---- one start, end by end
-
--- what code is told of a state, by its number
-pub has-end : (seen : List ℕ) (part e : ℕ) {r b : Bool} → r ≡ eqb (mark seen (part * maxCoreNodes + e)) 1 → r ≡ b → hasState seen part e ≡ b
-unfolding seenState
-has-end seen part e p q = sym p ∙ q
 
 module _ (seen : List ℕ) (part start : ℕ) where
   ends-hit : (e f : ℕ) → hasState seen part e ≡ true → endsFrom seen part start e (suc f) ≡ (pairKey start e) ∷ endsFrom seen part start (suc e) f
@@ -49,35 +50,50 @@ module _ (seen : List ℕ) (part start : ℕ) where
   unfolding endsFrom
   ends-none e = refl
 
+-- No end from e on, before e + d.
+ends-pass : (seen : List ℕ) (part v named e d : ℕ) → ((x : ℕ) → e ≤ x → x < e + d → hasState seen part x ≡ false)
+    → endsFrom seen part v e (named - e) ≡ endsFrom seen part v (e + d) (named - (e + d))
+ends-pass seen part v named e zero none = let p : e ≡ e + 0 = omega arith in ap (λ x. endsFrom seen part v x (named - x)) p
+ends-pass seen part v named e (suc d) none =
+    one (decLt e named)
+    ∙ ends-pass seen part v named (suc e) d (λ x l h. none x (omega arith) (omega arith))
+    ∙ (let p : suc e + d ≡ e + suc d = omega arith in ap (λ x. endsFrom seen part v x (named - x)) p)
+  where
+    one : Dec (e < named) → endsFrom seen part v e (named - e) ≡ endsFrom seen part v (suc e) (named - suc e)
+    one (yes l) =
+        let p : named - e ≡ suc (named - suc e) = omega arith in
+        ap (endsFrom seen part v e) p ∙ ends-miss seen part v e (named - suc e) (none e (omega arith) (omega arith))
+    one (no l) =
+        let p : named - e ≡ 0 = omega arith in
+        let q : named - suc e ≡ 0 = omega arith in
+        ap (endsFrom seen part v e) p ∙ ends-none seen part v e ∙ sym (ends-none seen part v (suc e)) ∙ ap (endsFrom seen part v (suc e)) (sym q)
+
 -- What is listed, and what is still to come from the end e on.
 pub record Ends (seen : List ℕ) (part start named : ℕ) (pairs₀ : List ℕ) (k₀ : ℕ) (pairs : List ℕ) (k e : ℕ) : Type 0 where
-  pub within : e ≤ named
   pub few : k ≤ maxPairs
   pub are : take k pairs ++ endsFrom seen part start e (named - e) ≡ take k₀ pairs₀ ++ endsFrom seen part start 0 named
 
 module _ {seen : List ℕ} {part start named : ℕ} {pairs₀ : List ℕ} {k₀ : ℕ} where
   pub ends-start : k₀ ≤ maxPairs → Ends seen part start named pairs₀ k₀ pairs₀ k₀ 0
-  ends-start l = record { within = omega arith; few = l; are = let e : named - 0 ≡ named = omega arith in ap (λ x. take k₀ pairs₀ ++ endsFrom seen part start 0 x) e }
+  ends-start l = record { few = l; are = let e : named - 0 ≡ named = omega arith in ap (λ x. take k₀ pairs₀ ++ endsFrom seen part start 0 x) e }
 
   module _ {pairs : List ℕ} {k e : ℕ} (s : Ends seen part start named pairs₀ k₀ pairs k e) where
-    left-over : e < named → named - e ≡ suc (named - (e + 1))
-    left-over l = omega arith
-
-    pub ends-skip : e < named → hasState seen part e ≡ false → Ends seen part start named pairs₀ k₀ pairs k (e + 1)
-    ends-skip l h = record {
-      within = omega arith;
+    -- none before e′
+    pub ends-skip : (e′ : ℕ) → e ≤ e′ → ((x : ℕ) → e ≤ x → x < e′ → hasState seen part x ≡ false) → Ends seen part start named pairs₀ k₀ pairs k e′
+    ends-skip e′ l none = record {
       few = s .few;
       are =
-          ap (λ x. take k pairs ++ endsFrom seen part start x (named - (e + 1))) (add-one e)
-          ∙ ap (λ x. take k pairs ++ x) (sym (ends-miss seen part start e (named - (e + 1)) h))
-          ∙ ap (λ x. take k pairs ++ endsFrom seen part start e x) (sym (left-over l))
+          ap (λ x. take k pairs ++ endsFrom seen part start x (named - x)) (let p : e′ ≡ e + (e′ - e) = omega arith in p)
+          ∙ ap (λ x. take k pairs ++ x) (sym (ends-pass seen part start named e (e′ - e) (λ x a b. none x a (omega arith))))
           ∙ s .are;
     }
+
+    left-over : e < named → named - e ≡ suc (named - (e + 1))
+    left-over l = omega arith
 
     pub ends-add : e < named → k < maxPairs → k < length pairs → hasState seen part e ≡ true → {key : ℕ} → key ≡ pairKey start e
         → Ends seen part start named pairs₀ k₀ (set pairs k key) (k + 1) (e + 1)
     ends-add l g r h {key} is = subst (λ x. Ends seen part start named pairs₀ k₀ (set pairs k x) (k + 1) (e + 1)) (sym is) (record {
-      within = omega arith;
       few = omega arith;
       are =
           ap (λ x. take x (set pairs k (pairKey start e)) ++ endsFrom seen part start (e + 1) (named - (e + 1))) (add-one k)
@@ -102,6 +118,65 @@ module _ {seen : List ℕ} {part start named : ℕ} {pairs₀ : List ℕ} {k₀ 
     ends-done l =
         let z : named - e ≡ 0 = omega arith in
         sym (append-nil (take k pairs)) ∙ ap (λ x. take k pairs ++ x) (sym (ends-none seen part start e)) ∙ ap (λ x. take k pairs ++ endsFrom seen part start e x) (sym z) ∙ s .are
+
+    -- past the last
+    pub ends-past : named ≤ e → Ends seen part start named pairs₀ k₀ pairs k (e + 1)
+    ends-past l = record {
+      few = s .few;
+      are =
+          (let p : named - (e + 1) ≡ 0 = omega arith in ap (λ x. take k pairs ++ endsFrom seen part start (e + 1) x) p)
+          ∙ ap (λ x. take k pairs ++ x) (ends-none seen part start (e + 1) ∙ sym (ends-none seen part start e))
+          ∙ (let q : named - e ≡ 0 = omega arith in ap (λ x. take k pairs ++ endsFrom seen part start e x) (sym q))
+          ∙ s .are;
+    }
+
+-- ---- a word's ends from e on, as code shifts them down
+
+-- a bit of a shifted word
+shifted : (s u x : ℕ) → bit u (x / 2 ^ s) ≡ bit (s + u) x
+shifted s u x = bit-shift u (x / 2 ^ s) ∙ ap (λ (y : ℕ). y % 2) (shr-shr x s u) ∙ sym (bit-shift (s + u) x)
+
+module _ (seen : List ℕ) (part e : ℕ) where
+  -- the word, shifted
+  abbrev pub endsAt : ℕ
+  endsAt = getD seen (part * namedWords + e / 64) 0 / 2 ^ (e % 64)
+
+  -- what it says of an end of the same word
+  says : (x : ℕ) → e ≤ x → x < (e / 64 + 1) * 64 → mark seen (seenState part x) ≡ bit (x - e) endsAt
+  unfolding mark seenState
+  says x l h =
+      let a : (part * maxCoreNodes + x) / 64 ≡ part * namedWords + e / 64 = omega arith in
+      let b : (part * maxCoreNodes + x) % 64 ≡ e % 64 + (x - e) = omega arith in
+      ap (λ w. bit ((part * maxCoreNodes + x) % 64) (getD seen w 0)) a
+      ∙ ap (λ t. bit t (getD seen (part * namedWords + e / 64) 0)) b
+      ∙ sym (shifted (e % 64) (x - e) (getD seen (part * namedWords + e / 64) 0))
+
+  not-there : (x : ℕ) → mark seen (seenState part x) ≡ 0 → hasState seen part x ≡ false
+  not-there x e = ne-eqb (mark seen (seenState part x)) 1 (λ p. omega arith)
+
+  -- there is none
+  pub none-there : endsAt ≡ 0 → (x : ℕ) → e ≤ x → x < (e / 64 + 1) * 64 → hasState seen part x ≡ false
+  none-there z x l h = not-there x (says x l h ∙ ap (bit (x - e)) z ∙ zero-bits (x - e))
+
+  -- the first one
+  module _ (some : endsAt ≡ 0 → ⊥) (fits : getD seen (part * namedWords + e / 64) 0 < 2 ^ 64) where
+    within : (t : ℕ) → bit t endsAt ≡ 1 → e % 64 + t < 64
+    within t h = bit-small 64 (e % 64 + t) (getD seen (part * namedWords + e / 64) 0) (sym (shifted (e % 64) t (getD seen (part * namedWords + e / 64) 0)) ∙ h) fits
+
+    low : Lowest endsAt (trailingZeros 64 endsAt)
+    low = lowest 64 endsAt (omega arith) (mask-lt 64 endsAt (λ t h. let z = within t h in omega arith))
+
+    pub first-small : e + trailingZeros 64 endsAt < (e / 64 + 1) * 64
+    first-small = let z = within (trailingZeros 64 endsAt) (low .member) in omega arith
+
+    pub first-there : hasState seen part (e + trailingZeros 64 endsAt) ≡ true
+    first-there =
+        let p : e + trailingZeros 64 endsAt - e ≡ trailingZeros 64 endsAt = omega arith in
+        eq-eqb (mark seen (seenState part (e + trailingZeros 64 endsAt))) 1
+        (says (e + trailingZeros 64 endsAt) (omega arith) first-small ∙ ap (λ t. bit t endsAt) p ∙ low .member)
+
+    pub none-before : (x : ℕ) → e ≤ x → x < e + trailingZeros 64 endsAt → hasState seen part x ≡ false
+    none-before x l h = let z = first-small in not-there x (says x l (omega arith) ∙ low .least (x - e) (omega arith))
 
 -- ---- what is in that list
 

@@ -12,6 +12,7 @@ use meaning::MAX_CORE_NODES;
 use meaning::MAX_NODES;
 use meaning::MAX_PAIRS;
 use meaning::NAMED_WORDS;
+use meaning::WORD_BITS;
 use states::Sizes;
 use worklist::clear_words;
 use worklist::has;
@@ -69,7 +70,8 @@ fn walk(
     }
 }
 
-// Lists the pairs of `start` and each of the first `named` nodes at which the end is marked; k are listed already.
+// Lists the pairs of `start` and each of the first `named` nodes at which the end is marked; k are listed already. A turn goes to
+// the next marked end of a word, or to the next word.
 fn list_ends(
     named: usize,
     parts: usize,
@@ -85,15 +87,20 @@ fn list_ends(
     let mut listed = k;
     let mut e = 0;
     while e < named {
-        let key = pair_key(start, e);
-        if has(seen, parts * MAX_CORE_NODES + e) {
-            if listed == MAX_PAIRS {
-                return Pairs::TooMany;
+        let ends = seen[parts * NAMED_WORDS + e / WORD_BITS] >> (e % WORD_BITS);
+        if ends == 0 {
+            e = (e / WORD_BITS + 1) * WORD_BITS;
+        } else {
+            e += u64::trailing_zeros(ends) as usize;
+            if e < named {
+                if listed == MAX_PAIRS {
+                    return Pairs::TooMany;
+                }
+                pairs[listed] = pair_key(start, e);
+                listed += 1;
             }
-            pairs[listed] = key;
-            listed += 1;
+            e += 1;
         }
-        e += 1;
     }
     Pairs::Listed(listed)
 }

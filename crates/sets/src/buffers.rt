@@ -4,32 +4,16 @@ ghost use Prim.Native.Nat.{_≤_};
 ghost use lib.ListN.{length};
 ghost use Rattle.sets.specs.Buffers.{zeros, overlaid};
 
-// Sets every byte to 0.
-pub fn clear_u8(bytes: &mut [u8])
-    ensures { λ _. ⌜ now (bytes .exit) ≡ zeros (length (now (bytes .entry))) ⌝ }
+// Sets every number to 0.
+pub fn clear_u16(numbers: &mut [u16])
+    ensures { λ _. ⌜ now (numbers .exit) ≡ zeros (length (now (numbers .entry))) ⌝ }
 {
-    for i in 0..bytes.len() {
-        bytes[i] = 0;
+    for i in 0..numbers.len() {
+        numbers[i] = 0;
     }
 }
 
 // The same of wider numbers.
-pub fn clear_u16(buf: &mut [u16])
-    ensures { λ _. ⌜ now (buf .exit) ≡ zeros (length (now (buf .entry))) ⌝ }
-{
-    for i in 0..buf.len() {
-        buf[i] = 0;
-    }
-}
-
-pub fn clear_u32(buf: &mut [u32])
-    ensures { λ _. ⌜ now (buf .exit) ≡ zeros (length (now (buf .entry))) ⌝ }
-{
-    for i in 0..buf.len() {
-        buf[i] = 0;
-    }
-}
-
 pub fn clear_u64(buf: &mut [u64])
     ensures { λ _. ⌜ now (buf .exit) ≡ zeros (length (now (buf .entry))) ⌝ }
 {

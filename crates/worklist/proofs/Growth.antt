@@ -186,7 +186,8 @@ pub all-looked : {n : ℕ} {b : Board} → Table n b → b .top ≡ 0 → (x : �
 all-looked {n} {b} t z x l e = record { is = e; waits-not = mark-zero (b .waiting) x (λ h. let (k, g, p) = t .stacked .listed (x / 64) (omega arith) (marked-word (b .waiting) x h) in omega arith) }
 
 -- Buffers of zeros.
-pub zeros-unmarked : {n : ℕ} {marked waiting stack : List ℕ} (m f : ℕ) → marked ≡ replicate m 0 → waiting ≡ replicate f 0 → n < 2 ^ 16 → n ≤ m → n ≤ f → n ≤ length marked → n ≤ length waiting → n ≤ length stack → Unmarked n marked waiting stack
+pub zeros-unmarked : {n : ℕ} {marked waiting stack : List ℕ} (m f : ℕ) → marked ≡ replicate m 0 → waiting ≡ replicate f 0 → n < 2 ^ 16 → n ≤ m → n ≤ f → n ≤ length marked → n ≤ length waiting
+    → n ≤ length stack → Unmarked n marked waiting stack
 zeros-unmarked {n} {marked} {waiting} {stack} m f p q s a b c d e = record {
   long = c;
   none = λ x l. zero-word marked x (ap (λ y. getD y (x / 64) 0) p ∙ getD-replicate m (x / 64) 0 0 (omega arith));

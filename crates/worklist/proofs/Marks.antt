@@ -149,7 +149,8 @@ module _ (table : List ℕ) (w : ℕ) (l : w < length table) (some : 0 < getD ta
 
   pub cut-out : mark (cut table w) (firstIn table w) ≡ 0
   unfolding mark
-  cut-out = ap (λ t. bit t (getD (cut table w) (firstIn table w / 64) 0)) at-w ∙ ap (λ v. bit (trailingZeros 64 (getD table w 0)) (getD (cut table w) v 0)) in-w ∙ ap (bit (trailingZeros 64 (getD table w 0))) cut-word ∙ low .gone
+  cut-out = ap (λ t. bit t (getD (cut table w) (firstIn table w / 64) 0)) at-w ∙ ap (λ v. bit (trailingZeros 64 (getD table w 0)) (getD (cut table w) v 0)) in-w
+      ∙ ap (bit (trailingZeros 64 (getD table w 0))) cut-word ∙ low .gone
 
   pub cut-other : (x : ℕ) → x ≢ firstIn table w → mark (cut table w) x ≡ mark table x
   unfolding mark

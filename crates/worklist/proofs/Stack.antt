@@ -113,7 +113,8 @@ module _ {n : ℕ} {waiting stack : List ℕ} {top : ℕ} (d : Stacked n waiting
   -- No longer in the last word.
   module _ (some : 0 < top) (is : getD waiting′ (getD stack (top - 1) 0) 0 ≡ 0) (others : (v : ℕ) → v ≢ getD stack (top - 1) 0 → getD waiting′ v 0 ≡ getD waiting v 0) where
     fewer : busy n waiting ≡ suc (busy n waiting′)
-    fewer = sum-one (one waiting) (one waiting′) n (getD stack (top - 1) 0) (d .inside (top - 1) (omega arith)) (let a = d .waits (top - 1) (omega arith) in omega arith) (λ v g n. let a = others v n in omega arith)
+    fewer = sum-one (one waiting) (one waiting′) n (getD stack (top - 1) 0) (d .inside (top - 1) (omega arith)) (let a = d .waits (top - 1) (omega arith) in omega arith)
+        (λ v g n. let a = others v n in omega arith)
 
     -- another word than the last
     before : (k : ℕ) → k < top - 1 → getD stack k 0 ≢ getD stack (top - 1) 0

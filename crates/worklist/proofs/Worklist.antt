@@ -13,7 +13,8 @@ use Rattle.meaning.proofs.Lists.Gained.{gained, gained-bit, or-le, xor-equal}
 use Rattle.meaning.proofs.Lists.Lowest.{cleared}
 use Rattle.meaning.proofs.Lists.Places.{set-getD}
 use Rattle.worklist.specs.Table.{AddsOnly, Board, Cleared, InWord, Looked, Marked, Stacked, Table, Takes, board, mark}
-use Rattle.worklist.proofs.Marks.{cut, cut-other, cut-out, first-in, first-word, firstIn, in-word, joined, joined-in, joined-more, joined-other, joined-word, low-small, mark-bit, mark-zero, same-word, zero-word}
+use Rattle.worklist.proofs.Marks.{cut, cut-other, cut-out, first-in, first-word, firstIn, in-word, joined}
+use Rattle.worklist.proofs.Marks.{joined-in, joined-more, joined-other, joined-word, low-small, mark-bit, mark-zero, same-word, zero-word}
 use Rattle.worklist.proofs.Stack.{has-room, stacked-pop, stacked-push, stacked-same}
 
 -- ---- (n * 64) of a word are marked
@@ -52,7 +53,8 @@ module _ {n : ℕ} {marked waiting stack : List ℕ} {top w : ℕ} (t : Table n 
       same : joined marked w bits ≡ marked
       same = ap (λ v. set marked w v) e ∙ set-getD marked w 0
 
-  joins : {stack′ : List ℕ} {top′ : ℕ} → Stacked n (joined waiting w new) stack′ top′ → AddsOnly n (InWord w bits) (board marked waiting stack top) (board (joined marked w bits) (joined waiting w new) stack′ top′)
+  joins : {stack′ : List ℕ} {top′ : ℕ} → Stacked n (joined waiting w new) stack′ top′
+      → AddsOnly n (InWord w bits) (board marked waiting stack top) (board (joined marked w bits) (joined waiting w new) stack′ top′)
   joins {stack′} {top′} d = record {
     after = record {
       long = simp length-set (t .long);
@@ -62,7 +64,11 @@ module _ {n : ℕ} {marked waiting stack : List ℕ} {top w : ℕ} (t : Table n 
     more = joined-more marked w bits in-marked;
     new = λ x h. old x h (in-word w bits x);
     all = joined-in marked w bits in-marked;
-    looked = λ x l h. record { is = was x h (ℕ-discrete (mark marked x) 1); waits-not = mark-zero waiting x (λ e. let a = h .waits-not in let b = joined-more waiting w new in-waiting x e in omega arith) };
+    looked = λ x l h. record {
+      is = was x h (ℕ-discrete (mark marked x) 1);
+      waits-not = mark-zero waiting x
+          (λ e. let a = h .waits-not in let b = joined-more waiting w new in-waiting x e in omega arith);
+    };
     still = λ x l h. record { is = joined-more marked w bits in-marked x (h .is); waits-not = joined-other waiting w new in-waiting x (λ e. new-not x e (h .is)) ∙ h .waits-not };
   }
     where
@@ -131,7 +137,8 @@ module _ {n : ℕ} {waiting stack : List ℕ} {top : ℕ} (d : Stacked n waiting
     cut-long : n ≤ length (cut waiting (getD stack (top - 1) 0))
     cut-long = simp length-set (d .long)
 
-    takes : {top′ : ℕ} → Stacked n (cut waiting (getD stack (top - 1) 0)) stack top′ → Takes n (λ x. x ≡ firstIn waiting (getD stack (top - 1) 0)) waiting stack (cut waiting (getD stack (top - 1) 0)) top′
+    takes : {top′ : ℕ} → Stacked n (cut waiting (getD stack (top - 1) 0)) stack top′
+        → Takes n (λ x. x ≡ firstIn waiting (getD stack (top - 1) 0)) waiting stack (cut waiting (getD stack (top - 1) 0)) top′
     takes a = record {
       after = a;
       some = firstIn waiting (getD stack (top - 1) 0);
@@ -163,13 +170,15 @@ module _ {n : ℕ} {waiting stack : List ℕ} {top : ℕ} (d : Stacked n waiting
     take-one z = takes (stacked-same d (cut waiting (getD stack (top - 1) 0)) cut-long (λ v l. go v (ℕ-discrete v (getD stack (top - 1) 0))))
       where
         go : (v : ℕ) → Dec (v ≡ getD stack (top - 1) 0) → min 1 (getD waiting v 0) ≡ min 1 (getD (cut waiting (getD stack (top - 1) 0)) v 0)
-        go v (yes p) = let a = top-waits in let b = now-word in let c = ap (λ x. min 1 (getD waiting x 0)) p in let e = ap (λ x. min 1 (getD (cut waiting (getD stack (top - 1) 0)) x 0)) p in omega arith
+        go v (yes p) = let a = top-waits in let b = now-word in let c = ap (λ x. min 1 (getD waiting x 0)) p in let e = ap (λ x. min 1 (getD (cut waiting (getD stack (top - 1) 0)) x 0)) p in
+            omega arith
         go v (no n) = let a = other-word v n in omega arith
 
     -- All of its word.
     pub take-all : Takes n (InWord (getD stack (top - 1) 0) (getD waiting (getD stack (top - 1) 0) 0)) waiting stack (set waiting (getD stack (top - 1) 0) 0) (top - 1)
     take-all = record {
-      after = stacked-pop d (set waiting (getD stack (top - 1) 0) 0) (simp length-set (d .long)) some (getD-set-same waiting (getD stack (top - 1) 0) 0 0 in-list) (λ v n. getD-set-other waiting (getD stack (top - 1) 0) v 0 0 n);
+      after = stacked-pop d (set waiting (getD stack (top - 1) 0) 0) (simp length-set (d .long)) some (getD-set-same waiting (getD stack (top - 1) 0) 0 0 in-list)
+          (λ v n. getD-set-other waiting (getD stack (top - 1) 0) v 0 0 n);
       some = firstIn waiting (getD stack (top - 1) 0);
       some-is = first-word waiting (getD stack (top - 1) 0) in-list top-waits fits;
       inside = λ x h. let a = top-inside in let b = h .word in omega arith;
@@ -189,7 +198,8 @@ module _ {n : ℕ} {waiting stack : List ℕ} {top : ℕ} (d : Stacked n waiting
         less x h (yes e) = absurd (let y = none x e in omega arith)
         less x h (no n) = sym (same x n) ∙ h
 
-        which : (x : ℕ) → Marked waiting x → mark (set waiting (getD stack (top - 1) 0) 0) x ≡ 0 → Dec (x / 64 ≡ getD stack (top - 1) 0) → InWord (getD stack (top - 1) 0) (getD waiting (getD stack (top - 1) 0) 0) x
+        which : (x : ℕ) → Marked waiting x → mark (set waiting (getD stack (top - 1) 0) 0) x ≡ 0 → Dec (x / 64 ≡ getD stack (top - 1) 0)
+            → InWord (getD stack (top - 1) 0) (getD waiting (getD stack (top - 1) 0) 0) x
         which x h g (yes e) = record { word = e; is = mark-bit waiting x (getD stack (top - 1) 0) e ∙ h }
         which x h g (no n) = absurd (let y = same x n in omega arith)
 

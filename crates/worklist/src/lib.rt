@@ -61,7 +61,14 @@ pub fn mark(
     ensures { λ r. ⌜ ForTable (x / 64) (board (now (table .entry)) (now (waiting .entry)) (now (stack .entry)) top) (λ n. AddsOnly n (λ y. y ≡ x)
         (board (now (table .entry)) (now (waiting .entry)) (now (stack .entry)) top) (board (now (table .exit)) (now (waiting .exit)) (now (stack .exit)) r)) ⌝ }
 {
-    mark_word(x / WORD_BITS, 1u64 << (x % WORD_BITS), table, waiting, stack, top)
+    mark_word(
+        x / WORD_BITS,
+        1u64 << (x % WORD_BITS),
+        table,
+        waiting,
+        stack,
+        top,
+    )
 }
 
 // Takes a number that waits.

@@ -12,7 +12,8 @@ ciravehy-pairs-spec =
     (tie.spec
     (λ c κs. search needs)  -- pairs-requires
     (λ c κs.
-    let pairs = c .before .before .before .before .before .before .before .before .before .before .before .before .before .before .before .before .before .before .before .before .before .before .before .before .pairs in
+    let pairs = c .before .before .before .before .before .before .before .before .before .before .before .before .before .before .before .before .before .before .before .before .before
+    .before .before .before .pairs in
     let s = pairs-small (pairs .ensures) in
     (omega (arith, s .0, s .1, s .2), omega (arith, s .0, s .1, s .2), omega (arith, s .0, s .1, s .2)))  -- numbers-requires
     (λ c. search needs)  -- same-length
@@ -27,5 +28,6 @@ ciravehy-pairs-spec =
     (λ c. search needs)  -- same-length-10
     (λ c. search needs)  -- same-length-11
     (λ c.
-    let a = c .before .before .before .before .before .before .before .before .before .before .before .before .before .before .before .before .before .before .before .before .before .before .before .before .before .pairs in
+    let a = c .before .before .before .before .before .before .before .before .before .before .before .before .before .before .before .before .before .before .before .before .before .before
+    .before .before .before .pairs in
     record { answer = a .result; answers = a .ensures; refusal = refl; report = c .numbers .ensures }))  -- returns

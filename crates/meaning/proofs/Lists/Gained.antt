@@ -18,7 +18,8 @@ bit-xor : (t x y : ℕ) → bit t (bitXor x y) ≡ differ (bit t x) (bit t y)
 unfolding bit
 bit-xor zero x y = ap (λ (z : ℕ). z % 2) (xor-step x y) ∙ digits-mod (bitXor (x / 2) (y / 2)) (differ-lt (x % 2) (y % 2) (omega arith) (omega arith))
 bit-xor (suc t) x y =
-    ap (λ (z : ℕ). bit t (z / 2)) (xor-step x y) ∙ ap (bit t) (digits-div (bitXor (x / 2) (y / 2)) {m = 2} {r = differ (x % 2) (y % 2)} (differ-lt (x % 2) (y % 2) (omega arith) (omega arith))) ∙ bit-xor t (x / 2) (y / 2)
+    ap (λ (z : ℕ). bit t (z / 2)) (xor-step x y) ∙ ap (bit t) (digits-div (bitXor (x / 2) (y / 2)) {m = 2} {r = differ (x % 2) (y % 2)} (differ-lt (x % 2) (y % 2) (omega arith) (omega arith)))
+    ∙ bit-xor t (x / 2) (y / 2)
 
 -- Numbers that do not differ in a bit are equal.
 pub xor-equal : (x y : ℕ) → bitXor x y ≡ 0 → x ≡ y

@@ -22,7 +22,8 @@ take-spec =
     (λ c. let a = top-inside (c .before .before .pre .1 .1) (c .before .before .pre .0) in let b = c .before .before .pre .1 .1 .long in omega arith)  -- slice-read-waiting
     (λ c. let a = top-inside (c .before .before .pre .1 .1) (c .before .before .pre .0) in omega arith)  -- mul-s
     (λ c. omega (arith, trailing-le 64 (getD (c .before .before .args .waiting .now) (getD (c .before .before .args .stack .now) (c .before .before .args .top - 1) 0) 0)))  -- cast-s
-    (λ c. let a = top-inside (c .before .before .pre .1 .1) (c .before .before .pre .0) in omega (arith, trailing-le 64 (getD (c .before .before .args .waiting .now) (getD (c .before .before .args .stack .now) (c .before .before .args .top - 1) 0) 0)))  -- add-s
+    (λ c. let a = top-inside (c .before .before .pre .1 .1) (c .before .before .pre .0) in
+    omega (arith, trailing-le 64 (getD (c .before .before .args .waiting .now) (getD (c .before .before .args .stack .now) (c .before .before .args .top - 1) 0) 0)))  -- add-s
     (λ c. let a = top-waits (c .before .before .pre .1 .1) (c .before .before .pre .0) in omega arith)  -- sub-left
     (λ c. let a = top-inside (c .before .before .pre .1 .1) (c .before .before .pre .0) in omega arith)  -- mul-waiting
     (λ c. let a = top-inside (c .before .before .pre .1 .1) (c .before .before .pre .0) in let b = c .before .before .pre .1 .1 .long in omega arith)  -- slice-write-waiting
