@@ -42,19 +42,23 @@ module _ (pack : Text) (nodes nodes₂ triples triples₂ rows rows₂ heads hea
       let s = build.answers-once pack (x .answer) (y .answer) nodes nodes₂ triples triples₂ rows rows₂ heads heads₂ e f (x .answers) (y .answers) in
       (same-report (s .answer) refl (x .refusal) (y .refusal) (x .report) (y .report), s)
 
-module _ (pack query : Text) (nodes nodes₂ triples triples₂ rows rows₂ heads heads₂ alive alive₂ waiting waiting₂ stack stack₂ : Contents) {result result₂ : ℕ} {report report₂ : List ℕ} where
+module _ (pack query : Text)
+    (nodes nodes₂ triples triples₂ rows rows₂ heads heads₂ alive alive₂ waiting waiting₂ stack stack₂ : Contents) {result result₂ : ℕ} {report report₂ : List ℕ} where
   pub decides-once : SameLengths (graphLists nodes triples) (graphLists nodes₂ triples₂)
       → SameLengths (YesOrNo.buffers rows heads alive waiting stack) (YesOrNo.buffers rows₂ heads₂ alive₂ waiting₂ stack₂)
-      → (x : Decides pack query result nodes triples rows heads alive waiting stack report) (y : Decides pack query result₂ nodes₂ triples₂ rows₂ heads₂ alive₂ waiting₂ stack₂ report₂)
+      → (x : Decides pack query result nodes triples rows heads alive waiting stack report)
+      (y : Decides pack query result₂ nodes₂ triples₂ rows₂ heads₂ alive₂ waiting₂ stack₂ report₂)
       → SameReport result result₂ report report₂
       × Same (YesOrNo.Refuses pack query) (YesOrNo.Gives pack query) (x .answer) (y .answer) (graphLists nodes triples) (graphLists nodes₂ triples₂)
       (YesOrNo.buffers rows heads alive waiting stack) (YesOrNo.buffers rows₂ heads₂ alive₂ waiting₂ stack₂)
   decides-once e f x y =
-      let s = yes-no.answers-once pack query (x .answer) (y .answer) nodes nodes₂ triples triples₂ rows rows₂ heads heads₂ alive alive₂ waiting waiting₂ stack stack₂ e f (x .answers) (y .answers) in
+      let s = yes-no.answers-once pack query (x .answer)
+      (y .answer) nodes nodes₂ triples triples₂ rows rows₂ heads heads₂ alive alive₂ waiting waiting₂ stack stack₂ e f (x .answers) (y .answers) in
       (same-report (ap (λ (a : YesNo). a .graph) (s .answer)) (ap (λ (a : YesNo). number (a .yes)) (s .answer)) (x .refusal) (y .refusal) (x .report) (y .report), s)
 
 module _ (pack query : Text)
-    (nodes nodes₂ triples triples₂ list list₂ rows rows₂ heads heads₂ alive alive₂ waiting waiting₂ stack stack₂ seen seen₂ own-nodes own-nodes₂ own-triples own-triples₂ : Contents)
+    (nodes nodes₂ triples triples₂ list list₂ rows rows₂ heads heads₂ alive alive₂
+    waiting waiting₂ stack stack₂ seen seen₂ own-nodes own-nodes₂ own-triples own-triples₂ : Contents)
     {result result₂ : ℕ} {report report₂ : List ℕ} where
   pub finds-once : SameLengths (Pairs.lists nodes triples list) (Pairs.lists nodes₂ triples₂ list₂)
       → SameLengths (Pairs.buffers rows heads alive waiting stack seen own-nodes own-triples) (Pairs.buffers rows₂ heads₂ alive₂ waiting₂ stack₂ seen₂ own-nodes₂ own-triples₂)
@@ -62,7 +66,8 @@ module _ (pack query : Text)
       (y : Finds pack query result₂ nodes₂ triples₂ list₂ rows₂ heads₂ alive₂ waiting₂ stack₂ seen₂ own-nodes₂ own-triples₂ report₂)
       → SameReport result result₂ report report₂
       × Same (Pairs.Refuses pack query) (Pairs.Gives pack query) (x .answer) (y .answer) (Pairs.lists nodes triples list)
-      (Pairs.lists nodes₂ triples₂ list₂) (Pairs.buffers rows heads alive waiting stack seen own-nodes own-triples) (Pairs.buffers rows₂ heads₂ alive₂ waiting₂ stack₂ seen₂ own-nodes₂ own-triples₂)
+      (Pairs.lists nodes₂ triples₂ list₂) (Pairs.buffers rows heads alive waiting stack seen own-nodes own-triples)
+      (Pairs.buffers rows₂ heads₂ alive₂ waiting₂ stack₂ seen₂ own-nodes₂ own-triples₂)
   finds-once e f x y =
       let s =
       pairs.answers-once pack query (x .answer) (y .answer) nodes nodes₂ triples triples₂ list list₂ rows rows₂ heads heads₂ alive alive₂ waiting waiting₂ stack stack₂

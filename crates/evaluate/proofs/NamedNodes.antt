@@ -88,7 +88,8 @@ module _ {pack : Text} {P : Pack} {nodes : List ℕ} {count : ℕ} {triples : Li
       image : (n : ℕ) → IriPlace n → (t : ℕ × List ℕ) × CoreIri P t × (getElem? (inOrder g) n ≡ some (core (iriNode (t .0) (t .1))))
       image n (l, h) = let (k, e) = places .core-node n l in go k e (subst IsIri e h)
         where
-          go : (k : Node) → getElem? (inOrder g) n ≡ some (core k) → IsIri (some (core k)) → (t : ℕ × List ℕ) × CoreIri P t × (getElem? (inOrder g) n ≡ some (core (iriNode (t .0) (t .1))))
+          go : (k : Node) → getElem? (inOrder g) n ≡ some (core k) → IsIri (some (core k)) → (t : ℕ × List ℕ) × CoreIri P t
+              × (getElem? (inOrder g) n ≡ some (core (iriNode (t .0) (t .1))))
           go (iriNode c vs) e i = ((c, vs), core-at n (iriNode c vs) e, e)
           go (literalNode v) e i = absurd i
 

@@ -72,12 +72,14 @@ pub fixed : (pack query : Text) → Fixed (Refuses pack query) (Gives pack query
 fixed pack query = record { one-refusal = one-refusal; not-both = not-both; one-result = one-result }
 
 pub answers-once : (pack query : Text) (r s : PairAnswer)
-    (nodes nodes₂ triples triples₂ pairs pairs₂ rows rows₂ heads heads₂ alive alive₂ waiting waiting₂ stack stack₂ seen seen₂ own-nodes own-nodes₂ own-triples own-triples₂ : Contents)
+    (nodes nodes₂ triples triples₂ pairs pairs₂ rows rows₂ heads heads₂ alive alive₂
+    waiting waiting₂ stack stack₂ seen seen₂ own-nodes own-nodes₂ own-triples own-triples₂ : Contents)
     → SameLengths (lists nodes triples pairs) (lists nodes₂ triples₂ pairs₂)
     → SameLengths (buffers rows heads alive waiting stack seen own-nodes own-triples) (buffers rows₂ heads₂ alive₂ waiting₂ stack₂ seen₂ own-nodes₂ own-triples₂)
     → PairsAnswers pack query r nodes triples pairs rows heads alive waiting stack seen own-nodes own-triples
     → PairsAnswers pack query s nodes₂ triples₂ pairs₂ rows₂ heads₂ alive₂ waiting₂ stack₂ seen₂ own-nodes₂ own-triples₂
     → Same (Refuses pack query) (Gives pack query) r s (lists nodes triples pairs) (lists nodes₂ triples₂ pairs₂)
     (buffers rows heads alive waiting stack seen own-nodes own-triples) (buffers rows₂ heads₂ alive₂ waiting₂ stack₂ seen₂ own-nodes₂ own-triples₂)
-answers-once pack query r s nodes nodes₂ triples triples₂ pairs pairs₂ rows rows₂ heads heads₂ alive alive₂ waiting waiting₂ stack stack₂ seen seen₂ own-nodes own-nodes₂ own-triples own-triples₂ =
+answers-once pack query r s nodes nodes₂ triples triples₂ pairs pairs₂ rows rows₂ heads heads₂ alive alive₂
+    waiting waiting₂ stack stack₂ seen seen₂ own-nodes own-nodes₂ own-triples own-triples₂ =
     call-once (fixed pack query)

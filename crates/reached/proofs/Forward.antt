@@ -112,7 +112,8 @@ module _ {triples own first : List ℕ} {kind want to block bits : ℕ} {a : Boa
       back n y i (labels g h f p) = absurd (omega arith)
 
   -- a label of a node that is not in the block
-  pub leaf-none : (kind ≡ 0 → ⊥) → 3 ≤ kind → (want / 64 ≡ block → ⊥) → Table seenWords a → AddsOnly seenWords (FromWord block bits (LeafOnward triples own first kind want to)) a a
+  pub leaf-none : (kind ≡ 0 → ⊥) → 3 ≤ kind → (want / 64 ≡ block → ⊥) → Table seenWords a
+      → AddsOnly seenWords (FromWord block bits (LeafOnward triples own first kind want to)) a a
   leaf-none z l n t = adds-none t (λ y x. none (x .from) y (x .is) (x .leads))
     where
       none : (m y : ℕ) → InWord block bits m → LeafOnward triples own first kind want to m y → ⊥

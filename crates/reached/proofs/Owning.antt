@@ -126,7 +126,8 @@ module _ {triples : List ℕ} {edges named n k₀ c₀ : ℕ} {own₀ : List ℕ
     pub own-end : SubjectsBelow triples edges n k₀ → edges ≤ length own₀ → edges ≤ k → OwnFrom triples edges named n c₀ own₀ own k c
     own-end s room l = own-done s (λ j a b. absurd (omega arith)) room
 
-    pub own-stop : SubjectsRise triples edges → SubjectsBelow triples edges n k₀ → edges ≤ length own₀ → k < edges → (subjectAt triples k ≡ n → ⊥) → OwnFrom triples edges named n c₀ own₀ own k c
+    pub own-stop : SubjectsRise triples edges → SubjectsBelow triples edges n k₀ → edges ≤ length own₀ → k < edges → (subjectAt triples k ≡ n → ⊥)
+        → OwnFrom triples edges named n c₀ own₀ own k c
     own-stop up s room l d = own-done s above room
       where
         above : (j : ℕ) → k ≤ j → j < edges → n + 1 ≤ subjectAt triples j
@@ -199,5 +200,6 @@ module _ {triples : List ℕ} {edges named : ℕ} where
           (subst (λ y. OwnRange triples edges named own′ m y (getD first (m + 1) 0)) (sym (old m (omega arith)))
           (same m (getD first m 0) (getD first (m + 1) 0) (x .below m (omega arith)) (x .ranges m (omega arith))))
 
-  pub index-done : {own first : List ℕ} {k c n : ℕ} → Indexing triples edges named own first k c n → named ≤ n → maxCoreNodes + 1 ≤ length first → OwnBySubject triples edges named own first
+  pub index-done : {own first : List ℕ} {k c n : ℕ} → Indexing triples edges named own first k c n → named ≤ n → maxCoreNodes + 1 ≤ length first
+      → OwnBySubject triples edges named own first
   index-done x l h = record { long = h; ranges = λ m g. x .ranges m (omega arith) }

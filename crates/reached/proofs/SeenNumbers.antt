@@ -30,10 +30,6 @@ pub part-below : (s p : ℕ) → seenPart s ≤ p → s < (p + 1) * maxCoreNodes
 unfolding seenPart
 part-below s p l = omega arith
 
-pub node-small : (s : ℕ) → seenNode s < maxCoreNodes
-unfolding seenNode
-node-small s = omega arith
-
 -- what code computes
 pub seen-number : (i n : ℕ) → i * maxCoreNodes + n ≡ seenState i n
 unfolding seenState
@@ -44,10 +40,6 @@ unfolding seenWord
 word-number i b = refl
 
 -- ---- words
-
-pub word-small : (i b : ℕ) → i ≤ maxParts → b < namedWords → seenWord i b < seenWords
-unfolding seenWord
-word-small i b l h = omega arith
 
 pub word-parts : (w : ℕ) → w ≡ seenWord (w / namedWords) (w % namedWords)
 unfolding seenWord

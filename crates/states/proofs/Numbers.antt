@@ -26,19 +26,11 @@ pub state-inside : (i n : ℕ) → i ≤ maxParts → n < maxNodes → state i n
 unfolding state
 state-inside i n l h = omega arith
 
-pub part-inside : (s : ℕ) → s < stateWords * 64 → partAt s ≤ maxParts
-unfolding partAt
-part-inside s l = omega arith
-
 pub node-inside : (s : ℕ) → nodeAt s < maxNodes
 unfolding nodeAt
 node-inside s = omega arith
 
 -- ---- words
-
-pub word-inside : (i b : ℕ) → i ≤ maxParts → b < nodeWords → wordAt i b < stateWords
-unfolding wordAt
-word-inside i b l h = omega arith
 
 -- the word of a state: its part's, at the block of its node
 pub state-word : (i n : ℕ) → n < maxNodes → state i n / 64 ≡ wordAt i (n / 64)

@@ -56,7 +56,8 @@ module _ {n : ℕ} {S Y : ℕ → Type 0} {a : Board} where
   }
 
   -- What is marked stays such as P says.
-  pub adds-sound : {b : Board} → Adds n S Y a b → (P : ℕ → Type 0) → ((x : ℕ) → x < n * 64 → Marked (a .marked) x → P x) → ((x : ℕ) → S x → P x) → (x : ℕ) → x < n * 64 → Marked (b .marked) x → P x
+  pub adds-sound : {b : Board} → Adds n S Y a b → (P : ℕ → Type 0) → ((x : ℕ) → x < n * 64 → Marked (a .marked) x → P x) → ((x : ℕ) → S x → P x)
+      → (x : ℕ) → x < n * 64 → Marked (b .marked) x → P x
   adds-sound d P f g x l e = ⊎-elim (f x l) (g x) (d .new x e)
 
 -- The same (n * 64), said twice.
@@ -64,7 +65,8 @@ pub adds-same : {n : ℕ} {Y Z : ℕ → Type 0} {a b : Board} → Adds n Y Y a 
 adds-same d f g = adds-as d f g
 
 -- One group of (n * 64), then another.
-pub adds-both : {n : ℕ} {Y Z X : ℕ → Type 0} {a b c : Board} → Adds n Y Y a b → Adds n Z Z b c → ((y : ℕ) → Y y → X y) → ((y : ℕ) → Z y → X y) → ((y : ℕ) → X y → Y y ⊎ Z y) → Adds n X X a c
+pub adds-both : {n : ℕ} {Y Z X : ℕ → Type 0} {a b c : Board} → Adds n Y Y a b → Adds n Z Z b c → ((y : ℕ) → Y y → X y) → ((y : ℕ) → Z y → X y)
+    → ((y : ℕ) → X y → Y y ⊎ Z y) → Adds n X X a c
 adds-both {n} {Y} {Z} {X} d e f g h =
     adds-as {S = X} {Y = λ y. Y y ⊎ Z y} (adds-then (adds-as {S′ = X} {Y′ = Y} d f (λ y x. x)) (adds-as {S′ = X} {Y′ = Z} e g (λ y x. x))) (λ y x. x) h
 
@@ -102,7 +104,8 @@ adds-left {n} {S} {Y} {a} {b} d = sum-same (todo b) (todo a) (n * 64) (λ x l. g
 
 -- ---- a turn: (n * 64) are taken, and more are marked
 
-module _ {n : ℕ} {T : ℕ → Type 0} {marked waiting stack waiting′ : List ℕ} {top top′ : ℕ} (t : Table n (board marked waiting stack top)) (k : Takes n T waiting stack waiting′ top′) where
+module _ {n : ℕ} {T : ℕ → Type 0} {marked waiting stack waiting′ : List ℕ} {top top′ : ℕ} (t : Table n (board marked waiting stack top))
+    (k : Takes n T waiting stack waiting′ top′) where
   pub turn-table : Table n (board marked waiting′ stack top′)
   turn-table = record { long = t .long; stacked = k .after; within = λ x l e. t .within x l (k .less x e) }
 
@@ -121,7 +124,8 @@ module _ {n : ℕ} {T : ℕ → Type 0} {marked waiting stack waiting′ : List 
   -- Fewer are left.
   taken-left : left n (board marked waiting′ stack top′) < left n (board marked waiting stack top)
   taken-left = sum-less (todo (board marked waiting′ stack top′)) (todo (board marked waiting stack top)) (n * 64) (k .some) (k .inside (k .some) (k .some-is))
-      (let a = turn-marked (k .some) (k .some-is) in let b = k .was (k .some) (k .some-is) in let c = k .gone (k .some) (k .some-is) in omega arith) (λ x l. fewer x (ℕ-discrete (mark waiting′ x) 1))
+      (let a = turn-marked (k .some) (k .some-is) in let b = k .was (k .some) (k .some-is) in let c = k .gone (k .some) (k .some-is) in omega arith)
+      (λ x l. fewer x (ℕ-discrete (mark waiting′ x) 1))
     where
       fewer : (x : ℕ) → Dec (Marked waiting′ x) → todo (board marked waiting′ stack top′) x ≤ todo (board marked waiting stack top) x
       fewer x (yes p) = let a = k .less x p in omega arith
@@ -157,7 +161,8 @@ module _ {n : ℕ} {S : ℕ → Type 0} {R : ℕ → ℕ → Type 0} {w bits : �
         let e : (w * 64 + trailingZeros 64 rest) % 64 ≡ trailingZeros 64 rest = omega arith in
         record { word = omega arith; is = ap (λ t. bit t bits) e ∙ g .within (trailingZeros 64 rest) (lowest 64 rest l f .member) }
 
-    pub sweep-again : {Y : ℕ → Type 0} {c : Board} → 0 < rest → bits < 2 ^ 64 → Adds n S Y b c → ((y : ℕ) → R (w * 64 + trailingZeros 64 rest) y → Y y) → Sweeping n S R w bits a c (cleared rest)
+    pub sweep-again : {Y : ℕ → Type 0} {c : Board} → 0 < rest → bits < 2 ^ 64 → Adds n S Y b c
+        → ((y : ℕ) → R (w * 64 + trailingZeros 64 rest) y → Y y) → Sweeping n S R w bits a c (cleared rest)
     sweep-again {Y} {c} l h d f = record {
       within = λ t e. g .within t (cleared-member t rest e);
       small = let p = cleared-le rest in let q = g .small in omega arith;
@@ -186,7 +191,8 @@ pub all-looked : {n : ℕ} {b : Board} → Table n b → b .top ≡ 0 → (x : �
 all-looked {n} {b} t z x l e = record { is = e; waits-not = mark-zero (b .waiting) x (λ h. let (k, g, p) = t .stacked .listed (x / 64) (omega arith) (marked-word (b .waiting) x h) in omega arith) }
 
 -- Buffers of zeros.
-pub zeros-unmarked : {n : ℕ} {marked waiting stack : List ℕ} (m f : ℕ) → marked ≡ replicate m 0 → waiting ≡ replicate f 0 → n < 2 ^ 16 → n ≤ m → n ≤ f → n ≤ length marked → n ≤ length waiting
+pub zeros-unmarked : {n : ℕ} {marked waiting stack : List ℕ} (m f : ℕ) → marked ≡ replicate m 0 → waiting ≡ replicate f 0 → n < 2 ^ 16 → n ≤ m
+    → n ≤ f → n ≤ length marked → n ≤ length waiting
     → n ≤ length stack → Unmarked n marked waiting stack
 zeros-unmarked {n} {marked} {waiting} {stack} m f p q s a b c d e = record {
   long = c;

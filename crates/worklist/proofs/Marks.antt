@@ -1,11 +1,8 @@
 -- A state put into a table, taken out of it, and looked up. Assumes nothing.
-use borrow.Author.Tests.{eq-eqb, eqb-true}
 use lib.Bits.{bitOr}
 use lib.Count.{trailingZeros}
-use lib.Dec.{eqb}
 use lib.ListN.{getD, length, set}
 use lib.Seq.{getD-set-other, getD-set-same}
-use mathlib.Core.Bool.{Bool, false, true}
 use mathlib.Core.List.{List, [], _∷_}
 use mathlib.Core.Logic.{_↔_, _≢_}
 use mathlib.Core.Path.{ap, refl, subst, sym, _∙_, _≡_}
@@ -34,13 +31,6 @@ mark-zero table x h = go (ℕ-discrete (mark table x) 1)
 pub mark-read : (table : List ℕ) (x : ℕ) → getD table (x / 64) 0 / 2 ^ (x % 64) % 2 ≡ mark table x
 unfolding mark
 mark-read table x = sym (bit-shift (x % 64) (getD table (x / 64) 0))
-
--- What the answer says.
-pub has-yes : {r : Bool} {x : ℕ} → r ≡ eqb x 1 → r ≡ true → x ≡ 1
-has-yes {r} {x} e h = eqb-true x 1 (sym e ∙ h)
-
-pub has-no : {r : Bool} {x : ℕ} → r ≡ eqb x 1 → r ≡ false → x ≡ 1 → ⊥
-has-no {r} {x} e h p = let q : true ≡ false = sym (eq-eqb x 1 p) ∙ sym e ∙ h in let z : _≡_ {A = ℕ} 0 1 = cc in omega arith
 
 -- A word without states has none.
 pub zero-word : (table : List ℕ) (x : ℕ) → getD table (x / 64) 0 ≡ 0 → mark table x ≡ 0

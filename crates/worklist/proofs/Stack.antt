@@ -18,7 +18,8 @@ pub busy-most : (n : ℕ) (table : List ℕ) → busy n table ≤ n
 busy-most n table = sum-most (one table) n (λ w l. omega arith)
 
 -- Nothing waits.
-pub stacked-none : {n : ℕ} {waiting stack : List ℕ} → n < 2 ^ 16 → n ≤ length waiting → n ≤ length stack → ((w : ℕ) → w < n → getD waiting w 0 ≡ 0) → Stacked n waiting stack 0
+pub stacked-none : {n : ℕ} {waiting stack : List ℕ} → n < 2 ^ 16 → n ≤ length waiting → n ≤ length stack → ((w : ℕ) → w < n → getD waiting w 0 ≡ 0)
+    → Stacked n waiting stack 0
 stacked-none {n} {waiting} {stack} s l r z = record {
   small = s;
   long = l;

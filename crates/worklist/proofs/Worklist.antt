@@ -157,16 +157,19 @@ module _ {n : ℕ} {waiting stack : List ℕ} {top : ℕ} (d : Stacked n waiting
         less x h (yes e) = absurd (let y = ap (mark (cut waiting (getD stack (top - 1) 0))) e ∙ out in omega arith)
         less x h (no n) = sym (cut-other waiting (getD stack (top - 1) 0) in-list top-waits fits x n) ∙ h
 
-        which : (x : ℕ) → Marked waiting x → mark (cut waiting (getD stack (top - 1) 0)) x ≡ 0 → Dec (x ≡ firstIn waiting (getD stack (top - 1) 0)) → x ≡ firstIn waiting (getD stack (top - 1) 0)
+        which : (x : ℕ) → Marked waiting x → mark (cut waiting (getD stack (top - 1) 0)) x ≡ 0 → Dec (x ≡ firstIn waiting (getD stack (top - 1) 0))
+            → x ≡ firstIn waiting (getD stack (top - 1) 0)
         which x h g (yes e) = e
         which x h g (no n) = absurd (let y = cut-other waiting (getD stack (top - 1) 0) in-list top-waits fits x n in omega arith)
 
     -- It was the last of its word.
-    pub take-last : cleared (getD waiting (getD stack (top - 1) 0) 0) ≡ 0 → Takes n (λ x. x ≡ firstIn waiting (getD stack (top - 1) 0)) waiting stack (cut waiting (getD stack (top - 1) 0)) (top - 1)
+    pub take-last : cleared (getD waiting (getD stack (top - 1) 0) 0) ≡ 0
+        → Takes n (λ x. x ≡ firstIn waiting (getD stack (top - 1) 0)) waiting stack (cut waiting (getD stack (top - 1) 0)) (top - 1)
     take-last z = takes (stacked-pop d (cut waiting (getD stack (top - 1) 0)) cut-long some (now-word ∙ z) other-word)
 
     -- Others of its word wait.
-    pub take-one : (cleared (getD waiting (getD stack (top - 1) 0) 0) ≡ 0 → ⊥) → Takes n (λ x. x ≡ firstIn waiting (getD stack (top - 1) 0)) waiting stack (cut waiting (getD stack (top - 1) 0)) top
+    pub take-one : (cleared (getD waiting (getD stack (top - 1) 0) 0) ≡ 0 → ⊥)
+        → Takes n (λ x. x ≡ firstIn waiting (getD stack (top - 1) 0)) waiting stack (cut waiting (getD stack (top - 1) 0)) top
     take-one z = takes (stacked-same d (cut waiting (getD stack (top - 1) 0)) cut-long (λ v l. go v (ℕ-discrete v (getD stack (top - 1) 0))))
       where
         go : (v : ℕ) → Dec (v ≡ getD stack (top - 1) 0) → min 1 (getD waiting v 0) ≡ min 1 (getD (cut waiting (getD stack (top - 1) 0)) v 0)

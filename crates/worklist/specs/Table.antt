@@ -88,7 +88,7 @@ AddsOnly n Y = Adds n Y Y
 abbrev pub left : ℕ → Board → ℕ
 left n b = sum (λ x. 1 - (mark (b .marked) x - mark (b .waiting) x)) (n * 64)
 
--- ---- what the functions ask and answer: some number of words, above those of Q; what is answered is true of each
+-- ---- what the functions ask and answer: a table of some number of words, above w; what is answered is true of each such number
 
 abbrev pub SomeTable : ℕ → Board → Type 0
 SomeTable w b = (n : ℕ) × (w < n) × Table n b

@@ -41,5 +41,6 @@ fixed pack query = record {
 pub answers-once : (pack query : Text) (r s : YesNo) (nodes nodes₂ triples triples₂ rows rows₂ heads heads₂ alive alive₂ waiting waiting₂ stack stack₂ : Contents)
     → SameLengths (graphLists nodes triples) (graphLists nodes₂ triples₂) → SameLengths (buffers rows heads alive waiting stack) (buffers rows₂ heads₂ alive₂ waiting₂ stack₂)
     → YesNoAnswers pack query r nodes triples rows heads alive waiting stack → YesNoAnswers pack query s nodes₂ triples₂ rows₂ heads₂ alive₂ waiting₂ stack₂
-    → Same (Refuses pack query) (Gives pack query) r s (graphLists nodes triples) (graphLists nodes₂ triples₂) (buffers rows heads alive waiting stack) (buffers rows₂ heads₂ alive₂ waiting₂ stack₂)
+    → Same (Refuses pack query) (Gives pack query) r s (graphLists nodes triples) (graphLists nodes₂ triples₂)
+    (buffers rows heads alive waiting stack) (buffers rows₂ heads₂ alive₂ waiting₂ stack₂)
 answers-once pack query r s nodes nodes₂ triples triples₂ rows rows₂ heads heads₂ alive alive₂ waiting waiting₂ stack stack₂ = call-once (fixed pack query)
