@@ -4,21 +4,35 @@ use second::encode::encode;
 use second::generate::{
     full_pack, many_starts_pack, most_triples_pack, sample, stars_query, zigzag_pack, Random,
 };
-use second::pack::{well_formed, Dependency, Head, Pack, Rule};
-use second::records::{atom, constructor, numbered, row, rule, shape, term, typed};
+use second::pack::{well_formed, Dependency, Head, Pack, Rule, LITERAL};
+use second::records::{self, atom, constructor, numbered, row, rule, shape, term, typed};
 use std::path::Path;
 
 pub struct Input {
     pub name: String,
     pub pack: Vec<u8>,
-    pub queries: Vec<Vec<u8>>,
+    pub queries: Vec<Query>,
+}
+
+#[derive(Default)]
+pub struct Query {
+    /// What kind of query it is, where that is not plain from the text.
+    pub kind: &'static str,
+    pub text: Vec<u8>,
+}
+
+fn query(text: impl Into<Vec<u8>>) -> Query {
+    Query {
+        kind: "",
+        text: text.into(),
+    }
 }
 
 fn input(name: &str, pack: Vec<u8>, queries: &[&str]) -> Input {
     Input {
         name: name.to_string(),
         pack,
-        queries: queries.iter().map(|q| q.as_bytes().to_vec()).collect(),
+        queries: queries.iter().map(|text| query(*text)).collect(),
     }
 }
 
@@ -76,10 +90,10 @@ fn plain(foundry: Vec<u8>) -> Vec<Input> {
 fn hard(vectors: &Path, place: &str) -> std::io::Result<Input> {
     let file = |ending: &str| std::fs::read(vectors.join(format!("{place}.{ending}")));
     let (_, name) = place.split_once('/').expect("a folder and a name");
-    let mut queries = vec![file("query")?];
+    let mut queries = vec![query(file("query")?)];
     match name {
-        "most-triples" => queries.push(b"aa/ab".to_vec()),
-        "nested-stars" => queries.push(stars_query()),
+        "most-triples" => queries.push(query("aa/ab")),
+        "nested-stars" => queries.push(query(stars_query())),
         _ => {}
     }
     Ok(Input {
@@ -89,14 +103,89 @@ fn hard(vectors: &Path, place: &str) -> std::io::Result<Input> {
     })
 }
 
-/// 4,864 nodes, invented ones of all 4,095 sets among them.
-fn largest() -> Vec<Input> {
-    let stars = String::from_utf8(stars_query()).expect("a text");
-    let asked = ["pa/pb", "[pa/pb]/pa*", &stars];
+/// Graphs of 10,000 triples or more. But for the last they have invented nodes
+/// of all 4,095 sets.
+pub fn largest() -> Vec<Input> {
+    let any = starred();
+    // From each of a dense core's nodes to each would be over 4,096 pairs.
+    let to_label = |(kind, text): &(_, String)| (*kind, with_label(text));
+    let labelled: Vec<_> = any.iter().map(to_label).collect();
     vec![
-        input("56,305 triples", encode(&most_triples_pack()), &asked),
-        input("768 starts", encode(&many_starts_pack()), &asked),
+        large("56,305 triples", most_triples_pack(), &any),
+        large("768 starts", many_starts_pack(), &any),
+        large("dense core", dense_core(12), &labelled),
+        large("dense core, 9 types", dense_core(9), &labelled),
     ]
+}
+
+/// A pack with a plain query and these of some kind.
+fn large(name: &str, pack: Pack, queries: &[(&'static str, String)]) -> Input {
+    let mut input = input(name, encode(&pack), &["pa/pb"]);
+    let queries = queries.iter().map(|(kind, text)| Query {
+        kind,
+        text: text.as_bytes().to_vec(),
+    });
+    input.queries.extend(queries);
+    input
+}
+
+/// Starred queries, by kind.
+fn starred() -> Vec<(&'static str, String)> {
+    let stars = |count: usize| vec!["_*"; count].join("/");
+    let steps = vec!["_"; 120].join("|");
+    let kinds = [
+        ("one star", "_*"),
+        ("alternation", "(pa|pb|pc)*"),
+        ("nested stars", "((pa*/pb)*|pc)*"),
+        ("star before label", "pa*/<a:v5>"),
+        ("star after label", "<a:v5>/pa*"),
+        ("label between stars", "_*/<a:v5>/_*"),
+        ("test", "[_*/<a:v5>]/pa*"),
+        ("nested tests", "[_*/[pa*/[(pa|pb)*/<a:v5>]/_*]]/pa*"),
+        ("85 stars", &stars(85)),
+        ("83 stars to label", &with_label(&stars(83))),
+        ("120 steps under star", &format!("({steps})*")),
+    ];
+    kinds.map(|(kind, text)| (kind, text.to_string())).into()
+}
+
+/// The query with a label at its end, if it has none and there is room.
+fn with_label(query: &str) -> String {
+    let longer = format!("{query}/<a:v5>");
+    if query.ends_with('>') || longer.len() > 256 {
+        return query.to_string();
+    }
+    longer
+}
+
+/// 512 IRIs with all of so many types, which 1,024 triples connect, each with
+/// each: one ring of all by pa, one of all a(x) and one of all b(x) by pb.
+fn dense_core(types: u8) -> Pack {
+    let mut pack = many_starts_pack();
+    pack.types.truncate(types.into());
+    pack.shapes.retain(|shape| shape.type_number < types);
+    for shape in &mut pack.shapes {
+        if shape.target != LITERAL {
+            shape.target %= types;
+        }
+    }
+    pack.rules.retain(|rule| match rule.head {
+        Head::Typed { type_number, .. } => type_number < types,
+        _ => false,
+    });
+    pack.relations.push(2);
+    pack.rows
+        .extend((0..=255u8).map(|x| row(1, &[x, x.wrapping_add(1)])));
+    let (a, b) = (|x| term(0, &[x]), |x| term(1, &[x]));
+    let heads = [
+        records::edge(a(0), 0, b(0)),
+        records::edge(b(0), 0, a(1)),
+        records::edge(a(0), 1, a(1)),
+        records::edge(b(0), 1, b(1)),
+    ];
+    pack.rules
+        .extend(heads.map(|head| rule(&[atom(1, &[0, 1])], head)));
+    pack
 }
 
 /// Packs on which some step is as slow as it is known to be.

@@ -23,6 +23,7 @@ pub type Outcome = Result<[usize; 3], u8>;
 pub struct Lent {
     pub nodes: Vec<u16>,
     pub triples: Vec<u16>,
+    pub index: Vec<u16>,
     pub pairs: Vec<u16>,
     pub rows: Vec<u16>,
     pub heads: Vec<u64>,
@@ -32,6 +33,7 @@ pub struct Lent {
     pub seen: Vec<u64>,
     pub own_nodes: Vec<u16>,
     pub own_triples: Vec<u16>,
+    pub own_index: Vec<u16>,
 }
 
 impl Default for Lent {
@@ -39,6 +41,7 @@ impl Default for Lent {
         Lent {
             nodes: vec![7; ciravehy::NODE_LIST_LENGTH],
             triples: vec![7; ciravehy::TRIPLE_LIST_LENGTH],
+            index: vec![7; ciravehy::INDEX_LENGTH],
             pairs: vec![7; ciravehy::PAIR_LIST_LENGTH],
             rows: vec![7; ciravehy::ROWS_LENGTH],
             heads: vec![7; ciravehy::HEADS_LENGTH],
@@ -48,6 +51,7 @@ impl Default for Lent {
             seen: vec![7; ciravehy::SEEN_WORDS],
             own_nodes: vec![7; ciravehy::NODE_LIST_LENGTH],
             own_triples: vec![7; ciravehy::TRIPLE_LIST_LENGTH],
+            own_index: vec![7; ciravehy::INDEX_LENGTH],
         }
     }
 }
@@ -64,6 +68,7 @@ impl Lent {
         let Lent {
             nodes,
             triples,
+            index,
             pairs,
             rows,
             heads,
@@ -73,11 +78,12 @@ impl Lent {
             seen,
             own_nodes,
             own_triples,
+            own_index,
         } = self;
         let outcome = match call {
-            Call::Build => lent::build(pack, nodes, triples, rows, heads).map(|c| (0, c)),
+            Call::Build => lent::build(pack, nodes, triples, index, rows, heads).map(|c| (0, c)),
             Call::YesNo => lent::yes_no(
-                pack, query, nodes, triples, rows, heads, alive, waiting, stack,
+                pack, query, nodes, triples, index, rows, heads, alive, waiting, stack,
             )
             .map(|(yes, c)| (yes as usize, c)),
             Call::Pairs => lent::pairs(
@@ -85,6 +91,7 @@ impl Lent {
                 query,
                 nodes,
                 triples,
+                index,
                 pairs,
                 rows,
                 heads,
@@ -94,6 +101,7 @@ impl Lent {
                 seen,
                 own_nodes,
                 own_triples,
+                own_index,
             ),
         };
         outcome
@@ -105,6 +113,7 @@ impl Lent {
         let Lent {
             nodes,
             triples,
+            index,
             pairs,
             rows,
             heads,
@@ -114,13 +123,14 @@ impl Lent {
             seen,
             own_nodes,
             own_triples,
+            own_index,
         } = self;
         let outcome = match call {
             Call::Build => {
-                ordinary::build(checks, pack, nodes, triples, rows, heads).map(|c| (0, c))
+                ordinary::build(checks, pack, nodes, triples, index, rows, heads).map(|c| (0, c))
             }
             Call::YesNo => ordinary::yes_no(
-                checks, pack, query, nodes, triples, rows, heads, alive, waiting, stack,
+                checks, pack, query, nodes, triples, index, rows, heads, alive, waiting, stack,
             )
             .map(|(yes, c)| (yes as usize, c)),
             Call::Pairs => ordinary::pairs(
@@ -129,6 +139,7 @@ impl Lent {
                 query,
                 nodes,
                 triples,
+                index,
                 pairs,
                 rows,
                 heads,
@@ -138,6 +149,7 @@ impl Lent {
                 seen,
                 own_nodes,
                 own_triples,
+                own_index,
             ),
         };
         outcome
@@ -147,6 +159,9 @@ impl Lent {
 
     /// Whether the lists are those of another run.
     pub fn same_lists(&self, other: &Lent) -> bool {
-        self.nodes == other.nodes && self.triples == other.triples && self.pairs == other.pairs
+        self.nodes == other.nodes
+            && self.triples == other.triples
+            && self.index == other.index
+            && self.pairs == other.pairs
     }
 }

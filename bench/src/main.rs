@@ -4,7 +4,7 @@
 //!
 //!     bench FOUNDRY_PACK VECTORS_FOLDER [PART_OF_A_NAME]
 
-use bench::inputs::{all, Input};
+use bench::inputs::{all, Input, Query};
 use bench::lent::{Call, Lent, Outcome, Program};
 use bench::ordinary::Checks;
 use std::path::Path;
@@ -12,7 +12,7 @@ use std::time::{Duration, Instant};
 
 /// Each call is repeated so often, unless this time has passed before.
 const RUNS: usize = 200;
-const ENOUGH: Duration = Duration::from_millis(1_500);
+const ENOUGH: Duration = Duration::from_millis(800);
 const LEAST_RUNS: usize = 2;
 
 const PROGRAMS: [Program; 3] = [
@@ -41,26 +41,20 @@ fn main() {
 }
 
 fn measure(input: &Input) {
-    if input.queries.is_empty() {
-        line(input, Call::Build, b"");
-    }
-    for (number, query) in input.queries.iter().enumerate() {
-        if number == 0 {
-            line(input, Call::Build, b"");
-        }
+    line(input, Call::Build, &Query::default());
+    for query in &input.queries {
         line(input, Call::YesNo, query);
         line(input, Call::Pairs, query);
     }
 }
 
-fn line(input: &Input, call: Call, query: &[u8]) {
-    let outcome = same(input, call, query);
-    let [ours, ordinary, sorting] = least(input, call, query);
-    let query = String::from_utf8_lossy(query);
+fn line(input: &Input, call: Call, query: &Query) {
+    let outcome = same(input, call, &query.text);
+    let [ours, ordinary, sorting] = least(input, call, &query.text);
     let shown = match call {
         Call::Build => "build".to_string(),
-        Call::YesNo => format!("yes/no `{}`", short(&query)),
-        Call::Pairs => format!("pairs `{}`", short(&query)),
+        Call::YesNo => format!("yes/no {}", told(query)),
+        Call::Pairs => format!("pairs {}", told(query)),
     };
     println!(
         "| {} | {shown} | {} | {} | {} | {:.2} | {} |",
@@ -119,13 +113,21 @@ fn came_to(call: Call, outcome: Outcome) -> String {
     }
 }
 
-fn short(query: &str) -> String {
-    let text = query.replace('|', "\\|");
-    if text.chars().count() <= 30 {
-        return text;
+fn told(query: &Query) -> String {
+    let text = short(&String::from_utf8_lossy(&query.text));
+    match query.kind {
+        "" => format!("`{text}`"),
+        kind => format!("`{text}`, {kind}"),
     }
-    let front: String = text.chars().take(27).collect();
-    format!("{front}...")
+}
+
+fn short(query: &str) -> String {
+    let text = if query.chars().count() <= 30 {
+        query.to_string()
+    } else {
+        query.chars().take(27).chain("...".chars()).collect()
+    };
+    text.replace('|', "\\|")
 }
 
 fn micros(time: Duration) -> String {

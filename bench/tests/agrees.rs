@@ -1,6 +1,7 @@
 //! The ordinary program agrees with the second program, which is written from
 //! the definitions: so what the benchmark measures against is right.
 
+use bench::inputs::largest;
 use bench::lent::{Call, Lent, Program};
 use bench::ordinary::{self, Checks, Counts, Refused};
 use second::encode::encode;
@@ -21,10 +22,11 @@ fn holds(lent: &Lent, counts: Counts, graph: &Graph) {
     assert_eq!(counts.triples, graph.triples.len());
     same_front(&lent.nodes, graph.nodes.iter().flatten().copied());
     same_front(&lent.triples, graph.triples.iter().flatten().copied());
+    same_front(&lent.index, graph.index.iter().flatten().copied());
 }
 
 fn untouched(lent: &Lent) {
-    let lists = [&lent.nodes, &lent.triples, &lent.pairs];
+    let lists = [&lent.nodes, &lent.triples, &lent.index, &lent.pairs];
     assert!(lists.into_iter().flatten().all(|n| *n == 7));
 }
 
@@ -45,6 +47,7 @@ fn check_build(checks: Checks, pack: &[u8]) {
         pack,
         &mut lent.nodes,
         &mut lent.triples,
+        &mut lent.index,
         &mut lent.rows,
         &mut lent.heads,
     );
@@ -66,6 +69,7 @@ fn check_yes_no(checks: Checks, pack: &[u8], query: &[u8]) {
         query,
         &mut lent.nodes,
         &mut lent.triples,
+        &mut lent.index,
         &mut lent.rows,
         &mut lent.heads,
         &mut lent.alive,
@@ -93,6 +97,7 @@ fn check_pairs(checks: Checks, pack: &[u8], query: &[u8]) {
         query,
         &mut lent.nodes,
         &mut lent.triples,
+        &mut lent.index,
         &mut lent.pairs,
         &mut lent.rows,
         &mut lent.heads,
@@ -102,6 +107,7 @@ fn check_pairs(checks: Checks, pack: &[u8], query: &[u8]) {
         &mut lent.seen,
         &mut lent.own_nodes,
         &mut lent.own_triples,
+        &mut lent.own_index,
     );
     match (ours, second::pairs(pack, query)) {
         (Ok((count, counts)), Ok((pairs, graph))) => {
@@ -115,7 +121,13 @@ fn check_pairs(checks: Checks, pack: &[u8], query: &[u8]) {
         }
         (ours, _) => panic!("pairs: {ours:?}"),
     }
-    let short = [&lent.rows, &lent.stack, &lent.own_nodes, &lent.own_triples];
+    let short = [
+        &lent.rows,
+        &lent.stack,
+        &lent.own_nodes,
+        &lent.own_triples,
+        &lent.own_index,
+    ];
     assert!(short.into_iter().flatten().all(|n| *n == 0));
     let long = [&lent.heads, &lent.alive, &lent.waiting, &lent.seen];
     assert!(long.into_iter().flatten().all(|n| *n == 0));
@@ -159,6 +171,17 @@ fn it_agrees_on_the_largest() {
     for pack in [most_triples_pack(), many_starts_pack()] {
         for query in [stars_query(), tests.clone()] {
             check(Checks::Sorted, &encode(&pack), &query, "the largest");
+        }
+    }
+}
+
+/// The largest graphs and those with a dense core, by starred queries.
+#[test]
+fn it_agrees_on_starred_queries() {
+    for input in largest() {
+        for query in input.queries {
+            let title = format!("{}, {:?}", input.name, query.kind);
+            check(Checks::Sorted, &input.pack, &query.text, &title);
         }
     }
 }

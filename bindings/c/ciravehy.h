@@ -24,10 +24,11 @@ extern "C" {
 
 /* ---- lengths, or more */
 
-/* Lists: 4,864 nodes of seven numbers, 56,308 triples of three, 4,096 pairs of two. The working buffers own_nodes and
- * own_triples are as long as the lists nodes and triples. */
+/* Lists: 4,864 nodes of seven numbers, 56,308 triples of three, an index of two numbers for each node, 4,096 pairs of two. The
+ * working buffers own_nodes, own_triples and own_index are as long as the lists nodes, triples and index. */
 #define CIRAVEHY_NODE_LIST_LENGTH 34048
 #define CIRAVEHY_TRIPLE_LIST_LENGTH 168924
+#define CIRAVEHY_INDEX_LENGTH 9728
 #define CIRAVEHY_PAIR_LIST_LENGTH 8192
 
 /* The other working buffers: rows, heads; each of alive, waiting and stack; seen. */
@@ -62,13 +63,22 @@ extern "C" {
  *
  * A node: kind (0 IRI, 1 literal, 2 invented literal, 3 invented other), constructor or value or 0, type set (type t has the
  * weight 2 to the power t), four arguments, 65,535 where unused. A triple: subject, predicate, object; nodes by their place
- * in the node list. A pair: start and end, in the same way. */
+ * in the node list. A pair: start and end, in the same way.
+ *
+ * The index: for each node, in the order of the node list, the place of its first triple as subject in the triple list and how
+ * many it has, 0 and 0 where none. They stand one after another, so the triples of node n are
+ *
+ *     const uint16_t *triple = triples + 3 * index[2 * n];
+ *     for (size_t left = index[2 * n + 1]; left > 0; left--, triple += 3)
+ *         ... n is triple[0]; predicate triple[1], object triple[2]
+ */
 
-/* The graph of a pack, at the front of nodes and triples. Refusals 1 and 3 to 11. */
+/* The graph of a pack, at the front of nodes, triples and index. Refusals 1 and 3 to 11. */
 uint8_t ciravehy_build(
     const uint8_t *pack, size_t pack_length,
     uint16_t *nodes, size_t nodes_length,
     uint16_t *triples, size_t triples_length,
+    uint16_t *index, size_t index_length,
     uint16_t *rows, size_t rows_length,
     uint64_t *heads, size_t heads_length,
     uint16_t *report);
@@ -79,6 +89,7 @@ uint8_t ciravehy_yes_no(
     const uint8_t *query, size_t query_length,
     uint16_t *nodes, size_t nodes_length,
     uint16_t *triples, size_t triples_length,
+    uint16_t *index, size_t index_length,
     uint16_t *rows, size_t rows_length,
     uint64_t *heads, size_t heads_length,
     uint64_t *alive, size_t alive_length,
@@ -87,13 +98,14 @@ uint8_t ciravehy_yes_no(
     uint16_t *report);
 
 /* The pairs of named nodes that the query joins in every finite graph that obeys the pack, at the front of pairs; its
- * graph, as by build. Refusals 1 to 12. The working buffers own_nodes and own_triples hold the graph until it is known that
- * there are not too many pairs. */
+ * graph, as by build. Refusals 1 to 12. The working buffers own_nodes, own_triples and own_index hold the graph until it is
+ * known that there are not too many pairs. */
 uint8_t ciravehy_pairs(
     const uint8_t *pack, size_t pack_length,
     const uint8_t *query, size_t query_length,
     uint16_t *nodes, size_t nodes_length,
     uint16_t *triples, size_t triples_length,
+    uint16_t *index, size_t index_length,
     uint16_t *pairs, size_t pairs_length,
     uint16_t *rows, size_t rows_length,
     uint64_t *heads, size_t heads_length,
@@ -103,6 +115,7 @@ uint8_t ciravehy_pairs(
     uint64_t *seen, size_t seen_length,
     uint16_t *own_nodes, size_t own_nodes_length,
     uint16_t *own_triples, size_t own_triples_length,
+    uint16_t *own_index, size_t own_index_length,
     uint16_t *report);
 
 /* What an IRI's text is spelled from: the constructor and four values in argument order, 65,535 where unused or refused, in

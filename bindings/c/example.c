@@ -1,4 +1,4 @@
-/* Each call once: the graph of a pack, a query's answer and pairs, what an IRI is spelled from.
+/* Each call once: the graph of a pack, each node with its triples, a query's answer and pairs, what an IRI is spelled from.
  *
  *     example catalogue.pack '[family/lead]/name' sty:r1
  *
@@ -10,6 +10,7 @@
 static uint8_t pack[65537]; /* one more than a pack may have: a longer file is refused too */
 static uint16_t nodes[CIRAVEHY_NODE_LIST_LENGTH];
 static uint16_t triples[CIRAVEHY_TRIPLE_LIST_LENGTH];
+static uint16_t node_index[CIRAVEHY_INDEX_LENGTH]; /* `index` is a function of <strings.h> */
 static uint16_t pairs[CIRAVEHY_PAIR_LIST_LENGTH];
 static uint16_t rows[CIRAVEHY_ROWS_LENGTH];
 static uint64_t heads[CIRAVEHY_HEADS_LENGTH];
@@ -19,6 +20,7 @@ static uint16_t stack[CIRAVEHY_STATE_WORDS];
 static uint64_t seen[CIRAVEHY_SEEN_WORDS];
 static uint16_t own_nodes[CIRAVEHY_NODE_LIST_LENGTH];
 static uint16_t own_triples[CIRAVEHY_TRIPLE_LIST_LENGTH];
+static uint16_t own_index[CIRAVEHY_INDEX_LENGTH];
 static uint16_t report[CIRAVEHY_REPORT_LENGTH];
 
 static void print_numbers(const char *what, const uint16_t *numbers, size_t count)
@@ -38,27 +40,36 @@ static int refused(const char *call, unsigned number)
     return number != 0;
 }
 
+/* A node and the triples that have it as subject. */
+static void show_node(size_t n)
+{
+    print_numbers("node", nodes + 7 * n, 7);
+    const uint16_t *triple = triples + 3 * node_index[2 * n];
+    for (size_t left = node_index[2 * n + 1]; left > 0; left--, triple += 3)
+        print_numbers("triple", triple, 3);
+}
+
 static void show_graph(size_t size)
 {
     if (refused("build", ciravehy_build(pack, size, nodes, CIRAVEHY_NODE_LIST_LENGTH, triples, CIRAVEHY_TRIPLE_LIST_LENGTH,
-            rows, CIRAVEHY_ROWS_LENGTH, heads, CIRAVEHY_HEADS_LENGTH, report)))
+            node_index, CIRAVEHY_INDEX_LENGTH, rows, CIRAVEHY_ROWS_LENGTH, heads, CIRAVEHY_HEADS_LENGTH, report)))
         return;
-    for (size_t i = 0; i < report[CIRAVEHY_NODES]; i++)
-        print_numbers("node", nodes + 7 * i, 7);
-    for (size_t i = 0; i < report[CIRAVEHY_TRIPLES]; i++)
-        print_numbers("triple", triples + 3 * i, 3);
+    for (size_t n = 0; n < report[CIRAVEHY_NODES]; n++)
+        show_node(n);
 }
 
 static void show_answer(size_t size, const uint8_t *query, size_t length)
 {
     if (!refused("yes/no", ciravehy_yes_no(pack, size, query, length, nodes, CIRAVEHY_NODE_LIST_LENGTH, triples,
-            CIRAVEHY_TRIPLE_LIST_LENGTH, rows, CIRAVEHY_ROWS_LENGTH, heads, CIRAVEHY_HEADS_LENGTH, alive,
-            CIRAVEHY_STATE_WORDS, waiting, CIRAVEHY_STATE_WORDS, stack, CIRAVEHY_STATE_WORDS, report)))
+            CIRAVEHY_TRIPLE_LIST_LENGTH, node_index, CIRAVEHY_INDEX_LENGTH, rows, CIRAVEHY_ROWS_LENGTH, heads,
+            CIRAVEHY_HEADS_LENGTH, alive, CIRAVEHY_STATE_WORDS, waiting, CIRAVEHY_STATE_WORDS, stack, CIRAVEHY_STATE_WORDS,
+            report)))
         printf("certain %s\n", report[CIRAVEHY_ANSWER] ? "yes" : "no");
     if (refused("pairs", ciravehy_pairs(pack, size, query, length, nodes, CIRAVEHY_NODE_LIST_LENGTH, triples,
-            CIRAVEHY_TRIPLE_LIST_LENGTH, pairs, CIRAVEHY_PAIR_LIST_LENGTH, rows, CIRAVEHY_ROWS_LENGTH, heads,
-            CIRAVEHY_HEADS_LENGTH, alive, CIRAVEHY_STATE_WORDS, waiting, CIRAVEHY_STATE_WORDS, stack, CIRAVEHY_STATE_WORDS,
-            seen, CIRAVEHY_SEEN_WORDS, own_nodes, CIRAVEHY_NODE_LIST_LENGTH, own_triples, CIRAVEHY_TRIPLE_LIST_LENGTH, report)))
+            CIRAVEHY_TRIPLE_LIST_LENGTH, node_index, CIRAVEHY_INDEX_LENGTH, pairs, CIRAVEHY_PAIR_LIST_LENGTH, rows,
+            CIRAVEHY_ROWS_LENGTH, heads, CIRAVEHY_HEADS_LENGTH, alive, CIRAVEHY_STATE_WORDS, waiting, CIRAVEHY_STATE_WORDS,
+            stack, CIRAVEHY_STATE_WORDS, seen, CIRAVEHY_SEEN_WORDS, own_nodes, CIRAVEHY_NODE_LIST_LENGTH, own_triples,
+            CIRAVEHY_TRIPLE_LIST_LENGTH, own_index, CIRAVEHY_INDEX_LENGTH, report)))
         return;
     for (size_t i = 0; i < report[CIRAVEHY_ANSWER]; i++)
         print_numbers("pair", pairs + 2 * i, 2);

@@ -1,4 +1,5 @@
-//! From the core to the graph in its two lists. Refusals 10 and 11.
+//! From the core to the graph in its lists: nodes, triples, and where those of
+//! each node stand. Refusals 10 and 11.
 
 use super::bits::{members, Worklist};
 use super::core::{parts, Core, Shapes, FIRST_LITERAL, LITERAL_WEIGHT};
@@ -116,6 +117,7 @@ pub fn write(
     shapes: &Shapes,
     nodes: &mut [u16],
     triples: &mut [u16],
+    index: &mut [u16],
 ) -> Result<Counts, Refused> {
     if let Some(clash) = clash(pack, core, shapes) {
         return Err(Refused { number: 10, clash });
@@ -126,11 +128,14 @@ pub fn write(
         return Err(Refused::new(11));
     }
     let (nodes, places) = write_nodes(pack, core, &invented, nodes.as_chunks_mut().0);
+    let index = &mut index.as_chunks_mut().0[..nodes];
+    index.fill([0, 0]);
     let mut edges = Edges {
         shapes,
         places: &places,
         out: triples.as_chunks_mut().0,
         count: 0,
+        index,
     };
     edges.of_core(core, &with_edge);
     for set in type_sets(&invented) {
@@ -171,6 +176,8 @@ struct Edges<'a> {
     places: &'a [u16; LITERAL_SET + 1],
     out: &'a mut [[u16; 3]],
     count: usize,
+    /// The first edge of each node and how many it has; zeros until it has one.
+    index: &'a mut [[u16; 2]],
 }
 
 impl Edges<'_> {
@@ -185,10 +192,18 @@ impl Edges<'_> {
         self.put(subject, p, self.places[set]);
     }
 
+    /// Notes that a subject's edges are those from the first one on.
+    fn note(&mut self, subject: usize, first: usize) {
+        if first < self.count {
+            self.index[subject] = [first as u16, (self.count - first) as u16];
+        }
+    }
+
     fn of_core(&mut self, core: &Core, with_edge: &[u16]) {
         let mut rest = core.triples.iter().copied().peekable();
         let iris = core.types[..core.iris].iter().zip(with_edge);
         for (s, (&types, &present)) in iris.enumerate() {
+            let first = self.count;
             for p in members(present | self.shapes.required(types)) {
                 if present >> p & 1 == 0 {
                     self.put_invented(s, types, p);
@@ -199,13 +214,17 @@ impl Edges<'_> {
                     self.put(s, p, (triple & 1_023) as u16);
                 }
             }
+            self.note(s, first);
         }
     }
 
     fn of_invented(&mut self, set: usize) {
         let types = set as u16;
+        let subject = self.places[set] as usize;
+        let first = self.count;
         for p in members(self.shapes.required(types)) {
-            self.put_invented(self.places[set] as usize, types, p);
+            self.put_invented(subject, types, p);
         }
+        self.note(subject, first);
     }
 }

@@ -17,6 +17,7 @@ pub use pack::Checks;
 /// The least lengths of what is lent.
 const NODES: usize = 34_048;
 const TRIPLES: usize = 168_924;
+const INDEX: usize = 9_728;
 const PAIRS: usize = 8_192;
 const ROWS: usize = 9_216;
 const HEADS: usize = 32_768;
@@ -45,7 +46,7 @@ impl Refused {
     }
 }
 
-/// A graph that stands in the two lists.
+/// A graph that stands in the lists.
 struct Built<'a> {
     pack: pack::Pack<'a>,
     /// The keys of the core's nodes, which are the named ones.
@@ -58,12 +59,13 @@ fn construct<'a>(
     bytes: &'a [u8],
     nodes: &mut [u16],
     triples: &mut [u16],
+    index: &mut [u16],
     heads: &mut [u64],
 ) -> Result<Built<'a>, Refused> {
     let pack = pack::read(bytes, checks).map_err(Refused::new)?;
     let shapes = core::Shapes::new(&pack);
     let core = core::core(&pack, &shapes, heads).ok_or(Refused::new(9))?;
-    let counts = graph::write(&pack, &core, &shapes, nodes, triples)?;
+    let counts = graph::write(&pack, &core, &shapes, nodes, triples, index)?;
     Ok(Built {
         pack,
         named: core.nodes,
@@ -76,13 +78,19 @@ pub fn build(
     pack: &[u8],
     nodes: &mut [u16],
     triples: &mut [u16],
+    index: &mut [u16],
     rows: &mut [u16],
     heads: &mut [u64],
 ) -> Result<Counts, Refused> {
-    if nodes.len() < NODES || triples.len() < TRIPLES || rows.len() < ROWS || heads.len() < HEADS {
+    if nodes.len() < NODES
+        || triples.len() < TRIPLES
+        || index.len() < INDEX
+        || rows.len() < ROWS
+        || heads.len() < HEADS
+    {
         return Err(Refused::new(1));
     }
-    let built = construct(checks, pack, nodes, triples, heads);
+    let built = construct(checks, pack, nodes, triples, index, heads);
     rows.fill(0);
     heads.fill(0);
     built.map(|built| built.counts)
@@ -95,6 +103,7 @@ pub fn yes_no(
     query: &[u8],
     nodes: &mut [u16],
     triples: &mut [u16],
+    index: &mut [u16],
     rows: &mut [u16],
     heads: &mut [u64],
     alive: &mut [u64],
@@ -103,6 +112,7 @@ pub fn yes_no(
 ) -> Result<(bool, Counts), Refused> {
     if nodes.len() < NODES
         || triples.len() < TRIPLES
+        || index.len() < INDEX
         || rows.len() < ROWS
         || heads.len() < HEADS
         || alive.len() < STATE_WORDS
@@ -116,7 +126,7 @@ pub fn yes_no(
         waiting,
         stack,
     };
-    let answer = yes(checks, pack, query, nodes, triples, heads, tables);
+    let answer = yes(checks, pack, query, nodes, triples, index, heads, tables);
     rows.fill(0);
     heads.fill(0);
     alive.fill(0);
@@ -125,21 +135,23 @@ pub fn yes_no(
     answer
 }
 
+#[allow(clippy::too_many_arguments)]
 fn yes(
     checks: Checks,
     pack: &[u8],
     query: &[u8],
     nodes: &mut [u16],
     triples: &mut [u16],
+    index: &mut [u16],
     heads: &mut [u64],
     tables: Tables,
 ) -> Result<(bool, Counts), Refused> {
     let parts = query::read(query).ok_or(Refused::new(2))?;
-    let built = construct(checks, pack, nodes, triples, heads)?;
+    let built = construct(checks, pack, nodes, triples, index, heads)?;
     tables.alive.fill(0);
     tables.waiting.fill(0);
     let wanted = resolve::resolve(&built.pack, &built.named, &parts);
-    let problem = problem(&parts, &wanted, built.counts, triples);
+    let problem = problem(&parts, &wanted, built.counts, triples, index);
     Ok((answers::some_joined(&problem, tables), built.counts))
 }
 
@@ -148,6 +160,7 @@ fn problem<'a>(
     wanted: &'a [u16],
     counts: Counts,
     triples: &'a [u16],
+    index: &'a [u16],
 ) -> Problem<'a> {
     Problem {
         next: answers::thread(parts),
@@ -155,6 +168,7 @@ fn problem<'a>(
         wanted,
         nodes: counts.nodes,
         triples: &triples.as_chunks().0[..counts.triples],
+        index: &index.as_chunks().0[..counts.nodes],
     }
 }
 
@@ -165,6 +179,7 @@ pub fn pairs(
     query: &[u8],
     nodes: &mut [u16],
     triples: &mut [u16],
+    index: &mut [u16],
     pairs: &mut [u16],
     rows: &mut [u16],
     heads: &mut [u64],
@@ -174,9 +189,11 @@ pub fn pairs(
     seen: &mut [u64],
     own_nodes: &mut [u16],
     own_triples: &mut [u16],
+    own_index: &mut [u16],
 ) -> Result<(usize, Counts), Refused> {
     if nodes.len() < NODES
         || triples.len() < TRIPLES
+        || index.len() < INDEX
         || pairs.len() < PAIRS
         || rows.len() < ROWS
         || heads.len() < HEADS
@@ -186,6 +203,7 @@ pub fn pairs(
         || seen.len() < SEEN_WORDS
         || own_nodes.len() < NODES
         || own_triples.len() < TRIPLES
+        || own_index.len() < INDEX
     {
         return Err(Refused::new(1));
     }
@@ -201,6 +219,7 @@ pub fn pairs(
         query,
         own_nodes,
         own_triples,
+        own_index,
         heads,
         tables,
         seen,
@@ -209,11 +228,12 @@ pub fn pairs(
         let counts = found.counts;
         copy_front(own_nodes, 7 * counts.nodes, nodes);
         copy_front(own_triples, 3 * counts.triples, triples);
+        copy_front(own_index, 2 * counts.nodes, index);
         let list = found.pairs.as_flattened();
         copy_front(list, list.len(), pairs);
         (found.pairs.len(), counts)
     });
-    for numbers in [rows, stack, own_nodes, own_triples] {
+    for numbers in [rows, stack, own_nodes, own_triples, own_index] {
         numbers.fill(0);
     }
     for numbers in [heads, alive, waiting, seen] {
@@ -238,17 +258,18 @@ fn joined(
     query: &[u8],
     nodes: &mut [u16],
     triples: &mut [u16],
+    index: &mut [u16],
     heads: &mut [u64],
     tables: Tables,
     seen: &mut [u64],
 ) -> Result<Found, Refused> {
     let parts = query::read(query).ok_or(Refused::new(2))?;
-    let built = construct(checks, pack, nodes, triples, heads)?;
+    let built = construct(checks, pack, nodes, triples, index, heads)?;
     tables.alive.fill(0);
     tables.waiting.fill(0);
     seen.fill(0);
     let wanted = resolve::resolve(&built.pack, &built.named, &parts);
-    let problem = problem(&parts, &wanted, built.counts, triples);
+    let problem = problem(&parts, &wanted, built.counts, triples, index);
     let pairs =
         answers::joined_pairs(&problem, built.named.len(), tables, seen).ok_or(Refused::new(12))?;
     Ok(Found {

@@ -16,6 +16,7 @@ extern "C" {
         pack: *const u8, pack_length: usize,
         nodes: *mut u16, nodes_length: usize,
         triples: *mut u16, triples_length: usize,
+        index: *mut u16, index_length: usize,
         rows: *mut u16, rows_length: usize,
         heads: *mut u64, heads_length: usize,
         report: *mut Report,
@@ -26,6 +27,7 @@ extern "C" {
         query: *const u8, query_length: usize,
         nodes: *mut u16, nodes_length: usize,
         triples: *mut u16, triples_length: usize,
+        index: *mut u16, index_length: usize,
         rows: *mut u16, rows_length: usize,
         heads: *mut u64, heads_length: usize,
         alive: *mut u64, alive_length: usize,
@@ -39,6 +41,7 @@ extern "C" {
         query: *const u8, query_length: usize,
         nodes: *mut u16, nodes_length: usize,
         triples: *mut u16, triples_length: usize,
+        index: *mut u16, index_length: usize,
         pairs: *mut u16, pairs_length: usize,
         rows: *mut u16, rows_length: usize,
         heads: *mut u64, heads_length: usize,
@@ -48,6 +51,7 @@ extern "C" {
         seen: *mut u64, seen_length: usize,
         own_nodes: *mut u16, own_nodes_length: usize,
         own_triples: *mut u16, own_triples_length: usize,
+        own_index: *mut u16, own_index_length: usize,
         report: *mut Report,
     ) -> u8;
 
@@ -58,7 +62,14 @@ extern "C" {
     ) -> u8;
 }
 
-pub fn build(pack: &[u8], nodes: &mut [u16], triples: &mut [u16], rows: &mut [u16], heads: &mut [u64]) -> (u8, Report) {
+pub fn build(
+    pack: &[u8],
+    nodes: &mut [u16],
+    triples: &mut [u16],
+    index: &mut [u16],
+    rows: &mut [u16],
+    heads: &mut [u64],
+) -> (u8, Report) {
     let mut report = [0; 25];
     // SAFETY: each pointer and length is a slice's own; `report` is an array of 25. See the module's text.
     let refusal = unsafe {
@@ -66,6 +77,7 @@ pub fn build(pack: &[u8], nodes: &mut [u16], triples: &mut [u16], rows: &mut [u1
             pack.as_ptr(), pack.len(),
             nodes.as_mut_ptr(), nodes.len(),
             triples.as_mut_ptr(), triples.len(),
+            index.as_mut_ptr(), index.len(),
             rows.as_mut_ptr(), rows.len(),
             heads.as_mut_ptr(), heads.len(),
             &mut report,
@@ -80,6 +92,7 @@ pub fn yes_no(
     query: &[u8],
     nodes: &mut [u16],
     triples: &mut [u16],
+    index: &mut [u16],
     rows: &mut [u16],
     heads: &mut [u64],
     alive: &mut [u64],
@@ -94,6 +107,7 @@ pub fn yes_no(
             query.as_ptr(), query.len(),
             nodes.as_mut_ptr(), nodes.len(),
             triples.as_mut_ptr(), triples.len(),
+            index.as_mut_ptr(), index.len(),
             rows.as_mut_ptr(), rows.len(),
             heads.as_mut_ptr(), heads.len(),
             alive.as_mut_ptr(), alive.len(),
@@ -111,6 +125,7 @@ pub fn pairs(
     query: &[u8],
     nodes: &mut [u16],
     triples: &mut [u16],
+    index: &mut [u16],
     pairs: &mut [u16],
     rows: &mut [u16],
     heads: &mut [u64],
@@ -120,6 +135,7 @@ pub fn pairs(
     seen: &mut [u64],
     own_nodes: &mut [u16],
     own_triples: &mut [u16],
+    own_index: &mut [u16],
 ) -> (u8, Report) {
     let mut report = [0; 25];
     // SAFETY: as in `build`.
@@ -129,6 +145,7 @@ pub fn pairs(
             query.as_ptr(), query.len(),
             nodes.as_mut_ptr(), nodes.len(),
             triples.as_mut_ptr(), triples.len(),
+            index.as_mut_ptr(), index.len(),
             pairs.as_mut_ptr(), pairs.len(),
             rows.as_mut_ptr(), rows.len(),
             heads.as_mut_ptr(), heads.len(),
@@ -138,6 +155,7 @@ pub fn pairs(
             seen.as_mut_ptr(), seen.len(),
             own_nodes.as_mut_ptr(), own_nodes.len(),
             own_triples.as_mut_ptr(), own_triples.len(),
+            own_index.as_mut_ptr(), own_index.len(),
             &mut report,
         )
     };

@@ -69,6 +69,15 @@ pub struct Triple {
     pub object: u16,
 }
 
+/// Where the triples of a node stand in [`Graph::triples`]: those that have it as subject, one after another.
+#[derive(Clone, Copy, Debug, PartialEq, Eq)]
+pub struct Span {
+    /// The place of the first, 0 where there is none.
+    pub first: u16,
+    /// How many there are.
+    pub count: u16,
+}
+
 /// Two nodes that a query joins, by number.
 #[derive(Clone, Copy, Debug, PartialEq, Eq)]
 pub struct Pair {
@@ -85,4 +94,23 @@ pub struct Graph {
     pub nodes: Vec<Node>,
     /// Its triples, ascending.
     pub triples: Vec<Triple>,
+    /// For each node, in node order, where its triples stand.
+    pub index: Vec<Span>,
+}
+
+impl Graph {
+    /// The triples that have this node as subject, ascending; none where the graph has no such node.
+    ///
+    /// ```
+    /// let pack = include_bytes!("../../../crates/certain/data/catalogue.pack");
+    /// let graph = ciravehy::Service::new().build(pack)?;
+    /// let predicates: Vec<u16> = graph.triples_of(0).iter().map(|triple| triple.predicate).collect();
+    /// assert_eq!(predicates, [0, 1]);
+    /// # Ok::<(), ciravehy::Refusal>(())
+    /// ```
+    pub fn triples_of(&self, node: u16) -> &[Triple] {
+        let Some(span) = self.index.get(usize::from(node)) else { return &[] };
+        let first = usize::from(span.first);
+        &self.triples[first..first + usize::from(span.count)]
+    }
 }

@@ -1,30 +1,34 @@
 //! The four calls on lists and working buffers that the caller lends, of any length and any content.
 //!
 //! Too short a one is refusal 1, which touches nothing. After any other return the working buffers (`rows`, `heads`, `alive`,
-//! `waiting`, `stack`, `seen`, `own_nodes`, `own_triples`) are zero. A refusal leaves the lists as they were; entries past the
-//! counts keep theirs.
+//! `waiting`, `stack`, `seen`, `own_nodes`, `own_triples`, `own_index`) are zero. A refusal leaves the lists as they were;
+//! entries past the counts keep theirs.
 use crate::foreign::{self, Report};
 use crate::{Counts, Refusal, Term};
 
-/// The pack's graph, at the front of `nodes` (seven numbers a node) and `triples` (three numbers a triple).
+/// The pack's graph, at the front of `nodes` (seven numbers a node), `triples` (three numbers a triple) and `index` (two numbers
+/// a node: the place of its first triple as subject in `triples`, and how many it has; 0 and 0 where none).
 ///
 /// ```
-/// use ciravehy::{lent, HEADS_LENGTH, NODE_LIST_LENGTH, ROWS_LENGTH, TRIPLE_LIST_LENGTH};
+/// use ciravehy::{lent, HEADS_LENGTH, INDEX_LENGTH, NODE_LIST_LENGTH, ROWS_LENGTH, TRIPLE_LIST_LENGTH};
 /// let pack = include_bytes!("../../../crates/certain/data/catalogue.pack");
 /// let (mut nodes, mut triples) = (vec![0; NODE_LIST_LENGTH], vec![0; TRIPLE_LIST_LENGTH]);
+/// let mut index = vec![0; INDEX_LENGTH];
 /// let (mut rows, mut heads) = (vec![0; ROWS_LENGTH], vec![0; HEADS_LENGTH]);
-/// let counts = lent::build(pack, &mut nodes, &mut triples, &mut rows, &mut heads)?;
+/// let counts = lent::build(pack, &mut nodes, &mut triples, &mut index, &mut rows, &mut heads)?;
 /// assert_eq!((counts.nodes, counts.triples), (5, 5));
+/// assert_eq!(index[..10], [0, 2, 0, 0, 0, 0, 2, 2, 4, 1]);
 /// # Ok::<(), ciravehy::Refusal>(())
 /// ```
 pub fn build(
     pack: &[u8],
     nodes: &mut [u16],
     triples: &mut [u16],
+    index: &mut [u16],
     rows: &mut [u16],
     heads: &mut [u64],
 ) -> Result<Counts, Refusal> {
-    let (refusal, report) = foreign::build(pack, nodes, triples, rows, heads);
+    let (refusal, report) = foreign::build(pack, nodes, triples, index, rows, heads);
     Ok(answer(refusal, &report)?.1)
 }
 
@@ -35,26 +39,28 @@ pub fn yes_no(
     query: &[u8],
     nodes: &mut [u16],
     triples: &mut [u16],
+    index: &mut [u16],
     rows: &mut [u16],
     heads: &mut [u64],
     alive: &mut [u64],
     waiting: &mut [u64],
     stack: &mut [u16],
 ) -> Result<(bool, Counts), Refusal> {
-    let (refusal, report) = foreign::yes_no(pack, query, nodes, triples, rows, heads, alive, waiting, stack);
+    let (refusal, report) = foreign::yes_no(pack, query, nodes, triples, index, rows, heads, alive, waiting, stack);
     let (said, counts) = answer(refusal, &report)?;
     Ok((said == 1, counts))
 }
 
 /// How many pairs of named nodes the query joins in every finite graph that obeys the pack. They stand at the front of
-/// `pairs` (two numbers a pair: the places of its nodes in `nodes`); the pack's graph is left as by [`build`]. `own_nodes` and
-/// `own_triples` hold it until it is known that there are not too many pairs.
+/// `pairs` (two numbers a pair: the places of its nodes in `nodes`); the pack's graph is left as by [`build`]. `own_nodes`,
+/// `own_triples` and `own_index` hold it until it is known that there are not too many pairs.
 #[allow(clippy::too_many_arguments)]
 pub fn pairs(
     pack: &[u8],
     query: &[u8],
     nodes: &mut [u16],
     triples: &mut [u16],
+    index: &mut [u16],
     pairs: &mut [u16],
     rows: &mut [u16],
     heads: &mut [u64],
@@ -64,9 +70,10 @@ pub fn pairs(
     seen: &mut [u64],
     own_nodes: &mut [u16],
     own_triples: &mut [u16],
+    own_index: &mut [u16],
 ) -> Result<(usize, Counts), Refusal> {
     let (refusal, report) = foreign::pairs(
-        pack, query, nodes, triples, pairs, rows, heads, alive, waiting, stack, seen, own_nodes, own_triples,
+        pack, query, nodes, triples, index, pairs, rows, heads, alive, waiting, stack, seen, own_nodes, own_triples, own_index,
     );
     let (count, counts) = answer(refusal, &report)?;
     Ok((usize::from(count), counts))

@@ -19,7 +19,7 @@ pub mod lent;
 mod refusal;
 mod service;
 
-pub use graph::{Graph, Kind, Node, Pair, Triple};
+pub use graph::{Graph, Kind, Node, Pair, Span, Triple};
 pub use refusal::{Clash, Refusal};
 pub use service::{Pairs, Service};
 
@@ -27,6 +27,8 @@ pub use service::{Pairs, Service};
 pub const NODE_LIST_LENGTH: usize = 34048;
 /// How many numbers a lent triple list has, or more: 56,308 triples. The length of the working buffer `own_triples` too.
 pub const TRIPLE_LIST_LENGTH: usize = 168924;
+/// How many numbers a lent index has, or more: two for each of 4,864 nodes. The length of the working buffer `own_index` too.
+pub const INDEX_LENGTH: usize = 9728;
 /// How many numbers a lent pair list has, or more: 4,096 pairs.
 pub const PAIR_LIST_LENGTH: usize = 8192;
 /// The length of the working buffer `rows`, or more.

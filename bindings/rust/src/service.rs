@@ -6,6 +6,7 @@ use crate::*;
 pub struct Service {
     nodes: Vec<u16>,
     triples: Vec<u16>,
+    index: Vec<u16>,
     pairs: Vec<u16>,
     rows: Vec<u16>,
     heads: Vec<u64>,
@@ -15,6 +16,7 @@ pub struct Service {
     seen: Vec<u64>,
     own_nodes: Vec<u16>,
     own_triples: Vec<u16>,
+    own_index: Vec<u16>,
 }
 
 /// The certain pairs, and the graph whose nodes they number.
@@ -32,6 +34,7 @@ impl Service {
         Service {
             nodes: vec![0; NODE_LIST_LENGTH],
             triples: vec![0; TRIPLE_LIST_LENGTH],
+            index: vec![0; INDEX_LENGTH],
             pairs: vec![0; PAIR_LIST_LENGTH],
             rows: vec![0; ROWS_LENGTH],
             heads: vec![0; HEADS_LENGTH],
@@ -41,6 +44,7 @@ impl Service {
             seen: vec![0; SEEN_WORDS],
             own_nodes: vec![0; NODE_LIST_LENGTH],
             own_triples: vec![0; TRIPLE_LIST_LENGTH],
+            own_index: vec![0; INDEX_LENGTH],
         }
     }
 
@@ -53,7 +57,14 @@ impl Service {
     /// # Ok::<(), ciravehy::Refusal>(())
     /// ```
     pub fn build(&mut self, pack: &[u8]) -> Result<Graph, Refusal> {
-        let counts = lent::build(pack, &mut self.nodes, &mut self.triples, &mut self.rows, &mut self.heads)?;
+        let counts = lent::build(
+            pack,
+            &mut self.nodes,
+            &mut self.triples,
+            &mut self.index,
+            &mut self.rows,
+            &mut self.heads,
+        )?;
         Ok(self.graph(counts))
     }
 
@@ -72,6 +83,7 @@ impl Service {
             query,
             &mut self.nodes,
             &mut self.triples,
+            &mut self.index,
             &mut self.rows,
             &mut self.heads,
             &mut self.alive,
@@ -97,6 +109,7 @@ impl Service {
             query,
             &mut self.nodes,
             &mut self.triples,
+            &mut self.index,
             &mut self.pairs,
             &mut self.rows,
             &mut self.heads,
@@ -106,6 +119,7 @@ impl Service {
             &mut self.seen,
             &mut self.own_nodes,
             &mut self.own_triples,
+            &mut self.own_index,
         )?;
         let pairs = self.pairs[..2 * count].chunks_exact(2).map(|p| Pair { start: p[0], end: p[1] }).collect();
         Ok(Pairs { graph: self.graph(counts), pairs })
@@ -127,9 +141,11 @@ impl Service {
     fn graph(&self, counts: Counts) -> Graph {
         let nodes = self.nodes[..7 * counts.nodes].chunks_exact(7);
         let triples = self.triples[..3 * counts.triples].chunks_exact(3);
+        let index = self.index[..2 * counts.nodes].chunks_exact(2);
         Graph {
             nodes: nodes.map(|n| Node::of(n.try_into().expect("seven numbers"))).collect(),
             triples: triples.map(|t| Triple { subject: t[0], predicate: t[1], object: t[2] }).collect(),
+            index: index.map(|s| Span { first: s[0], count: s[1] }).collect(),
         }
     }
 }

@@ -1,4 +1,4 @@
-//! The sample of document 01, typed; its clash; short buffers; damaged packs.
+//! The sample of document 01, typed; its clash; short buffers; damaged packs. The index of large graphs.
 use ciravehy::*;
 
 const SAMPLE: &[u8] = include_bytes!("../../../crates/certain/data/catalogue.pack");
@@ -14,6 +14,10 @@ fn triple(subject: u16, predicate: u16, object: u16) -> Triple {
     Triple { subject, predicate, object }
 }
 
+fn span(first: u16, count: u16) -> Span {
+    Span { first, count }
+}
+
 fn sample_graph() -> Graph {
     Graph {
         nodes: vec![
@@ -24,6 +28,7 @@ fn sample_graph() -> Graph {
             node(Kind::Invented, 0, 2, [U; 4]),
         ],
         triples: vec![triple(0, 0, 1), triple(0, 1, 4), triple(3, 0, 2), triple(3, 1, 4), triple(4, 2, 3)],
+        index: vec![span(0, 2), span(0, 0), span(0, 0), span(2, 2), span(4, 1)],
     }
 }
 
@@ -35,6 +40,30 @@ fn the_sample_graph() {
     let style = sample_graph().nodes[0];
     assert!(style.has_type(0) && !style.has_type(1));
     assert_eq!(style.arguments(), [0]);
+}
+
+/// The index gives each node the triples that a filter finds, and 0 and 0 where there are none.
+fn the_index_is_true(graph: &Graph) {
+    assert_eq!(graph.index.len(), graph.nodes.len());
+    for (node, span) in (0..).zip(&graph.index) {
+        let found = graph.triples.iter().filter(|triple| triple.subject == node);
+        assert!(graph.triples_of(node).iter().eq(found), "node {node}");
+        assert!(span.count > 0 || span.first == 0, "node {node}");
+    }
+    assert_eq!(graph.triples_of(graph.nodes.len() as u16), []);
+}
+
+#[test]
+fn the_triples_of_a_node() {
+    let mut service = Service::new();
+    let closure = include_bytes!("../../../tests/vectors/adversarial-14/closure-most-triples.pack");
+    let most = include_bytes!("../../../tests/vectors/adversarial/most-triples.pack");
+    for pack in [&closure[..], most, SAMPLE] {
+        let graph = service.build(pack).unwrap();
+        the_index_is_true(&graph);
+        assert_eq!(service.pairs(pack, b"<a:none>").unwrap().graph, graph);
+    }
+    assert_eq!(service.build(SAMPLE).unwrap().triples_of(3), [triple(3, 0, 2), triple(3, 1, 4)]);
 }
 
 #[test]
@@ -55,7 +84,7 @@ fn the_sample_answers() {
 #[test]
 fn an_empty_pack() {
     let mut service = Service::new();
-    assert_eq!(service.build(&[0; 36]), Ok(Graph { nodes: vec![], triples: vec![] }));
+    assert_eq!(service.build(&[0; 36]), Ok(Graph { nodes: vec![], triples: vec![], index: vec![] }));
     assert_eq!(service.yes_no(&[0; 36], b"()"), Ok(false));
     assert_eq!(service.build(&[]).unwrap_err().number, 3);
     assert_eq!(service.build(&SAMPLE[..143]).unwrap_err().number, 3);
@@ -113,20 +142,23 @@ fn with_short(short: usize) -> (Result<(usize, Counts), Refusal>, bool) {
     let length = |i: usize, full: usize| if i == short { full - 1 } else { full };
     let mut nodes = vec![7; length(0, NODE_LIST_LENGTH)];
     let mut triples = vec![7; length(1, TRIPLE_LIST_LENGTH)];
-    let mut pairs = vec![7; length(2, PAIR_LIST_LENGTH)];
-    let mut rows = vec![7; length(3, ROWS_LENGTH)];
-    let mut heads = vec![7; length(4, HEADS_LENGTH)];
-    let mut alive = vec![7; length(5, STATE_WORDS)];
-    let mut waiting = vec![7; length(6, STATE_WORDS)];
-    let mut stack = vec![7; length(7, STATE_WORDS)];
-    let mut seen = vec![7; length(8, SEEN_WORDS)];
-    let mut own_nodes = vec![7; length(9, NODE_LIST_LENGTH)];
-    let mut own_triples = vec![7; length(10, TRIPLE_LIST_LENGTH)];
+    let mut index = vec![7; length(2, INDEX_LENGTH)];
+    let mut pairs = vec![7; length(3, PAIR_LIST_LENGTH)];
+    let mut rows = vec![7; length(4, ROWS_LENGTH)];
+    let mut heads = vec![7; length(5, HEADS_LENGTH)];
+    let mut alive = vec![7; length(6, STATE_WORDS)];
+    let mut waiting = vec![7; length(7, STATE_WORDS)];
+    let mut stack = vec![7; length(8, STATE_WORDS)];
+    let mut seen = vec![7; length(9, SEEN_WORDS)];
+    let mut own_nodes = vec![7; length(10, NODE_LIST_LENGTH)];
+    let mut own_triples = vec![7; length(11, TRIPLE_LIST_LENGTH)];
+    let mut own_index = vec![7; length(12, INDEX_LENGTH)];
     let answer = lent::pairs(
         SAMPLE,
         QUERY,
         &mut nodes,
         &mut triples,
+        &mut index,
         &mut pairs,
         &mut rows,
         &mut heads,
@@ -136,39 +168,44 @@ fn with_short(short: usize) -> (Result<(usize, Counts), Refusal>, bool) {
         &mut seen,
         &mut own_nodes,
         &mut own_triples,
+        &mut own_index,
     );
-    let all_7 = [nodes, triples, pairs, rows, stack, own_nodes, own_triples].concat().iter().all(|&x| x == 7)
-        && [heads, alive, waiting, seen].concat().iter().all(|&x| x == 7);
+    let narrow = [nodes, triples, index, pairs, rows, stack, own_nodes, own_triples, own_index];
+    let all_7 = narrow.concat().iter().all(|&x| x == 7) && [heads, alive, waiting, seen].concat().iter().all(|&x| x == 7);
     (answer, !all_7)
 }
 
 #[test]
 fn refusal_1_touches_nothing() {
-    for short in 0..11 {
+    for short in 0..13 {
         assert_eq!(with_short(short), (Err(Refusal { number: 1, clash: None }), false), "buffer {short}");
     }
-    assert_eq!(with_short(11), (Ok((1, Counts { nodes: 5, triples: 5 })), true), "none is short");
+    assert_eq!(with_short(13), (Ok((1, Counts { nodes: 5, triples: 5 })), true), "none is short");
 }
 
 #[test]
 fn empty_buffers() {
     let refusal = Refusal { number: 1, clash: None };
-    assert_eq!(lent::build(SAMPLE, &mut [], &mut [], &mut [], &mut []), Err(refusal.clone()));
-    assert_eq!(lent::yes_no(SAMPLE, b"", &mut [], &mut [], &mut [], &mut [], &mut [], &mut [], &mut []), Err(refusal));
+    assert_eq!(lent::build(SAMPLE, &mut [], &mut [], &mut [], &mut [], &mut []), Err(refusal.clone()));
+    let answer = lent::yes_no(SAMPLE, b"", &mut [], &mut [], &mut [], &mut [], &mut [], &mut [], &mut [], &mut []);
+    assert_eq!(answer, Err(refusal));
 }
 
 #[test]
 fn what_is_left_behind() {
     let mut nodes = vec![9; NODE_LIST_LENGTH + 2];
     let mut triples = vec![9; TRIPLE_LIST_LENGTH];
+    let mut index = vec![9; INDEX_LENGTH + 1];
     let (mut rows, mut heads) = (vec![9; ROWS_LENGTH + 1], vec![9; HEADS_LENGTH]);
-    let refusal = lent::build(&clashing(false), &mut nodes, &mut triples, &mut rows, &mut heads).unwrap_err();
+    let refusal = lent::build(&clashing(false), &mut nodes, &mut triples, &mut index, &mut rows, &mut heads).unwrap_err();
     assert_eq!(refusal.number, 10);
-    assert!(nodes.iter().chain(&triples).all(|&x| x == 9), "a refusal keeps the lists");
+    assert!(nodes.iter().chain(&triples).chain(&index).all(|&x| x == 9), "a refusal keeps the lists");
     assert!(rows.iter().all(|&x| x == 0) && heads.iter().all(|&x| x == 0), "and clears the working buffers");
-    lent::build(SAMPLE, &mut nodes, &mut triples, &mut rows, &mut heads).unwrap();
+    lent::build(SAMPLE, &mut nodes, &mut triples, &mut index, &mut rows, &mut heads).unwrap();
     assert_eq!(nodes[..7], [0, 0, 1, 0, U, U, U]);
-    assert!(nodes[35..].iter().chain(&triples[15..]).all(|&x| x == 9), "entries past the counts keep theirs");
+    assert_eq!(index[..10], [0, 2, 0, 0, 0, 0, 2, 2, 4, 1]);
+    let rest = nodes[35..].iter().chain(&triples[15..]).chain(&index[10..]);
+    assert!(rest.copied().all(|x| x == 9), "entries past the counts keep theirs");
 }
 
 #[test]

@@ -9,14 +9,13 @@ use mathlib.Core.Logic.{inl, inr, ⊎-elim, _↔_, _⊎_}
 use mathlib.Core.Path.{ap, subst, sym, _∙_, _≡_}
 use native.Mathlib.Omega.{arith}
 use Prim.Native.Nat.{ℕ, _%_, _*_, _+_, _-_, _/_, _<_, _^_, _≤_}
-use Rattle.alive.specs.Steps.{FromWord, LeafBack, Led, PartBack, SubjectAt, SubjectOn, Turned, labels, leaves, stays, steps, turns}
-use Rattle.index.proofs.Chains.{met-first, met-later, met-none, met-split}
-use Rattle.index.specs.Index.{Met}
-use Rattle.index.specs.Triples.{predicateAt, subjectAt}
+use Rattle.alive.specs.Steps.{FromWord, LeafBack, Led, PartBack, SubjectAt, SubjectOn, SubjectTo, Turned, labels, leaves, stays, steps, turns}
+use Rattle.index.proofs.Stands.{stands-first, stands-none, stands-split}
+use Rattle.index.specs.Index.{Stands}
 use Rattle.meaning.proofs.Cases.{true-false}
 use Rattle.meaning.proofs.Lists.Lowest.{cleared}
 use Rattle.meaning.proofs.Lists.Masks.{intersection-member, union-member}
-use Rattle.meaning.specs.Limits.{maxNodes, nodeWords, stateWords}
+use Rattle.meaning.specs.Limits.{maxNodes, maxPredicates, nodeWords, stateWords}
 use Rattle.meaning.specs.TypeSet.{bit}
 use Rattle.query.specs.Tree.{firstNumber, kindOf}
 use Rattle.states.proofs.Numbers.{in-node, in-part, state-is, word-mark, word-state}
@@ -31,48 +30,44 @@ use Rattle.worklist.specs.Table.{Adds, AddsOnly, Board, InWord, Marked, Table}
 
 -- ---- one triple
 
-module _ {triples : List ℕ} {k kind want i : ℕ} {b₁ : Board} where
-  pub subject-none : (b : Bool) → not b ≡ true → b ≡ takes kind want (predicateAt triples k) → Table stateWords b₁ → AddsOnly stateWords (SubjectAt triples k kind want i) b₁ b₁
+module _ {x kind want i : ℕ} {b₁ : Board} where
+  pub subject-none : (b : Bool) → not b ≡ true → b ≡ takes kind want (x % maxPredicates) → Table stateWords b₁ → AddsOnly stateWords (SubjectAt x kind want i) b₁ b₁
   subject-none b n e t = adds-none t (λ y s. true-false (e ∙ s .taken) (not-true b n))
 
-  pub subject-one : {b₂ : Board} → takes kind want (predicateAt triples k) ≡ true → AddsOnly stateWords (λ y. y ≡ i * maxNodes + subjectAt triples k) b₁ b₂
-      → AddsOnly stateWords (SubjectAt triples k kind want i) b₁ b₂
+  pub subject-one : {b₂ : Board} → takes kind want (x % maxPredicates) ≡ true → AddsOnly stateWords (λ y. y ≡ i * maxNodes + x / maxPredicates) b₁ b₂
+      → AddsOnly stateWords (SubjectAt x kind want i) b₁ b₂
   unfolding state
   subject-one e a = adds-same a (λ y p. record { taken = e; state = p }) (λ y s. s .state)
 
--- ---- a chain of triples
+-- ---- the triples from lo on, before hi
 
--- What is left of the chain that begins at x begins at `at`.
-pub record Following (triples earlier : List ℕ) (x kind want i : ℕ) (b₁ b₂ : Board) (at : ℕ) : Type 0 where
-  pub adds : Adds stateWords (SubjectOn triples earlier x kind want i) (λ y. ⊥) b₁ b₂
-  pub inside : (k : ℕ) → Met earlier at k → Met earlier x k
-  pub left : (y : ℕ) → SubjectOn triples earlier x kind want i y → Marked (b₂ .marked) y ⊎ SubjectOn triples earlier at kind want i y
+-- Those from j on are left.
+pub record Following (into : List ℕ) (lo hi kind want i : ℕ) (b₁ b₂ : Board) (j : ℕ) : Type 0 where
+  pub from : lo ≤ j
+  pub adds : Adds stateWords (SubjectOn into lo hi kind want i) (λ y. ⊥) b₁ b₂
+  pub left : (y : ℕ) → SubjectOn into lo hi kind want i y → Marked (b₂ .marked) y ⊎ SubjectOn into j hi kind want i y
 
-module _ {triples earlier : List ℕ} {x kind want i : ℕ} {b₁ : Board} where
-  pub follow-start : Table stateWords b₁ → Following triples earlier x kind want i b₁ b₁ x
-  follow-start t = record { adds = adds-none t (λ y h. h); inside = λ k m. m; left = λ y s. inr s }
+module _ {into : List ℕ} {lo hi kind want i : ℕ} {b₁ : Board} where
+  pub follow-start : Table stateWords b₁ → Following into lo hi kind want i b₁ b₁ lo
+  follow-start t = record { from = omega arith; adds = adds-none t (λ y h. h); left = λ y s. inr s }
 
-  module _ {b₂ : Board} {at : ℕ} (f : Following triples earlier x kind want i b₁ b₂ at) where
-    -- the first triple of what is left
-    pub at-first : 0 < at → Met earlier x (at - 1)
-    at-first l = f .inside (at - 1) (met-first at l)
-
-    pub follow-again : {b₃ : Board} → 0 < at → AddsOnly stateWords (SubjectAt triples (at - 1) kind want i) b₂ b₃
-        → Following triples earlier x kind want i b₁ b₃ (getD earlier (at - 1) 0)
+  module _ {b₂ : Board} {j : ℕ} (f : Following into lo hi kind want i b₁ b₂ j) where
+    pub follow-again : {b₃ : Board} → j < hi → AddsOnly stateWords (SubjectAt (getD into j 0) kind want i) b₂ b₃
+        → Following into lo hi kind want i b₁ b₃ (j + 1)
     follow-again {b₃} l a = record {
-      adds = adds-as {Y′ = λ y. ⊥} (adds-then (f .adds) (adds-as {S′ = SubjectOn triples earlier x kind want i} {Y′ = SubjectAt triples (at - 1) kind want i} a
-          (λ y s. record { at = at - 1; met = at-first l; taken = s .taken; state = s .state }) (λ y s. s))) (λ y s. s) (λ y h. absurd h);
-      inside = λ k m. f .inside k (met-later at l m);
-      left = λ y s. ⊎-elim (λ e. inl (a .more y e)) (λ r. split y r (met-split (r .met))) (f .left y s);
+      from = let h = f .from in omega arith;
+      adds = adds-as {Y′ = λ y. ⊥} (adds-then (f .adds) (adds-as {S′ = SubjectOn into lo hi kind want i} {Y′ = SubjectAt (getD into j 0) kind want i} a
+          (λ y s. record { number = getD into j 0; stands = stands-first (f .from) l; subject = s }) (λ y s. s))) (λ y s. s) (λ y h. absurd h);
+      left = λ y s. ⊎-elim (λ e. inl (a .more y e)) (λ r. split y r (stands-split (r .stands))) (f .left y s);
     }
       where
-        split : (y : ℕ) → (r : SubjectOn triples earlier at kind want i y) → (r .at ≡ at - 1) ⊎ Met earlier (getD earlier (at - 1) 0) (r .at)
-            → Marked (b₃ .marked) y ⊎ SubjectOn triples earlier (getD earlier (at - 1) 0) kind want i y
-        split y r (inl e) = inl (a .all y (subst (λ k. SubjectAt triples k kind want i y) e (record { taken = r .taken; state = r .state })))
-        split y r (inr m) = inr (record { at = r .at; met = m; taken = r .taken; state = r .state })
+        split : (y : ℕ) → (r : SubjectOn into j hi kind want i y) → (getD into j 0 ≡ r .number) ⊎ Stands into (j + 1) hi (r .number)
+            → Marked (b₃ .marked) y ⊎ SubjectOn into (j + 1) hi kind want i y
+        split y r (inl e) = inl (a .all y (subst (λ x. SubjectAt x kind want i y) (sym e) (r .subject)))
+        split y r (inr m) = inr (record { number = r .number; stands = m; subject = r .subject })
 
-    pub follow-done : at ≡ 0 → AddsOnly stateWords (SubjectOn triples earlier x kind want i) b₁ b₂
-    follow-done e = adds-for (f .adds) (λ y s. s) (λ y s. ⊎-elim (λ p. p) (λ r. absurd (met-none e (r .met))) (f .left y s))
+    pub follow-done : hi ≤ j → AddsOnly stateWords (SubjectOn into lo hi kind want i) b₁ b₂
+    follow-done l = adds-for (f .adds) (λ y s. s) (λ y s. ⊎-elim (λ p. p) (λ r. absurd (stands-none l (r .stands))) (f .left y s))
 
 -- ---- the nodes of a block that the bits say
 
@@ -102,53 +97,53 @@ at-nodes i {block} {bits} l a = adds-same a
 
 -- ---- a leaf
 
-abbrev Leads : (triples earlier last : List ℕ) (kind want i block bits : ℕ) → ℕ → Type 0
-Leads triples earlier last kind want i block bits = FromWord block bits (λ m. LeafBack triples earlier (getD last m 0) kind want i m)
+abbrev Leads : (starts into : List ℕ) (kind want i block bits : ℕ) → ℕ → Type 0
+Leads starts into kind want i block bits = FromWord block bits (LeafBack starts into kind want i)
 
-module _ {triples earlier : List ℕ} (last : List ℕ) {kind want i block bits : ℕ} {b₁ : Board} where
+module _ {starts into : List ℕ} {kind want i block bits : ℕ} {b₁ : Board} where
   -- No node of the block has the label.
-  pub leaf-none : 3 ≤ kind → (want / 64 ≡ block → ⊥) → Table stateWords b₁ → AddsOnly stateWords (Leads triples earlier last kind want i block bits) b₁ b₁
+  pub leaf-none : 3 ≤ kind → (want / 64 ≡ block → ⊥) → Table stateWords b₁ → AddsOnly stateWords (Leads starts into kind want i block bits) b₁ b₁
   leaf-none k n t = adds-none t none
     where
-      none : (y : ℕ) → Leads triples earlier last kind want i block bits y → ⊥
+      none : (y : ℕ) → Leads starts into kind want i block bits y → ⊥
       none y (m, x, stays e s) = omega arith
       none y (m, x, steps g h s) = omega arith
       none y (m, x, labels g h e s) = n (ap (λ z. z / 64) e ∙ x .word)
 
   module _ {b₂ : Board} where
     pub leaf-stay : kind ≡ 0 → block < nodeWords → AddsOnly stateWords (InWord (i * nodeWords + block) bits) b₁ b₂
-        → AddsOnly stateWords (Leads triples earlier last kind want i block bits) b₁ b₂
+        → AddsOnly stateWords (Leads starts into kind want i block bits) b₁ b₂
     leaf-stay e l a = adds-same (at-nodes i l a) (λ y (m, x, p). (m, x, stays e p)) back
       where
-        back : (y : ℕ) → Leads triples earlier last kind want i block bits y → FromWord block bits (λ m y. y ≡ state i m) y
+        back : (y : ℕ) → Leads starts into kind want i block bits y → FromWord block bits (λ m y. y ≡ state i m) y
         back y (m, x, stays f p) = (m, x, p)
         back y (m, x, steps g h s) = absurd (omega arith)
         back y (m, x, labels g h f p) = (m, x, p)
 
-    pub leaf-step : (kind ≡ 0 → ⊥) → kind < 3 → AddsOnly stateWords (FromWord block bits (λ m. SubjectOn triples earlier (getD last m 0) kind want i)) b₁ b₂
-        → AddsOnly stateWords (Leads triples earlier last kind want i block bits) b₁ b₂
+    pub leaf-step : (kind ≡ 0 → ⊥) → kind < 3 → AddsOnly stateWords (FromWord block bits (SubjectTo starts into kind want i)) b₁ b₂
+        → AddsOnly stateWords (Leads starts into kind want i block bits) b₁ b₂
     leaf-step z l a = adds-same a (λ y (m, x, s). (m, x, steps (omega arith) (omega arith) s)) back
       where
-        back : (y : ℕ) → Leads triples earlier last kind want i block bits y → FromWord block bits (λ m. SubjectOn triples earlier (getD last m 0) kind want i) y
+        back : (y : ℕ) → Leads starts into kind want i block bits y → FromWord block bits (SubjectTo starts into kind want i) y
         back y (m, x, stays f p) = absurd (z f)
         back y (m, x, steps g h s) = (m, x, s)
         back y (m, x, labels g h f p) = absurd (omega arith)
 
     -- w is the node's bit as code makes it
     pub leaf-label : 3 ≤ kind → kind < 5 → block < nodeWords → want / 64 ≡ block → (w : ℕ) → w ≡ 2 ^ (want % 64)
-        → AddsOnly stateWords (InWord (i * nodeWords + block) (bitAnd bits w)) b₁ b₂ → AddsOnly stateWords (Leads triples earlier last kind want i block bits) b₁ b₂
+        → AddsOnly stateWords (InWord (i * nodeWords + block) (bitAnd bits w)) b₁ b₂ → AddsOnly stateWords (Leads starts into kind want i block bits) b₁ b₂
     leaf-label k h l e w p a = adds-same (at-nodes i l a) forth back
       where
         only : {m : ℕ} → InWord block w m → want ≡ m
         only {m} x = sym (one-in want m .0 (record { word = x .word ∙ sym e; is = ap (bit (m % 64)) (sym p) ∙ x .is }))
 
-        forth : (y : ℕ) → FromWord block (bitAnd bits w) (λ m y. y ≡ state i m) y → Leads triples earlier last kind want i block bits y
+        forth : (y : ℕ) → FromWord block (bitAnd bits w) (λ m y. y ≡ state i m) y → Leads starts into kind want i block bits y
         forth y (m, x, q) = let (u, v) = in-both block bits w m .0 x in (m, u, labels k (omega arith) (only v) q)
 
         is : {m : ℕ} → InWord block bits m → want ≡ m → InWord block w m
         is {m} x f = let z = one-in want m .1 (sym f) in record { word = x .word; is = ap (bit (m % 64)) p ∙ z .is }
 
-        back : (y : ℕ) → Leads triples earlier last kind want i block bits y → FromWord block (bitAnd bits w) (λ m y. y ≡ state i m) y
+        back : (y : ℕ) → Leads starts into kind want i block bits y → FromWord block (bitAnd bits w) (λ m y. y ≡ state i m) y
         back y (m, x, stays f q) = absurd (omega arith)
         back y (m, x, steps g r s) = absurd (omega arith)
         back y (m, x, labels g r f q) = (m, in-both block bits w m .1 (x, is x f), q)
@@ -194,7 +189,7 @@ module _ (tree table : List ℕ) (i block after : ℕ) where
 
 -- ---- any part
 
-leaf-kind : {triples earlier : List ℕ} {x kind want i m y : ℕ} → LeafBack triples earlier x kind want i m y → kind < 5
+leaf-kind : {starts into : List ℕ} {kind want i m y : ℕ} → LeafBack starts into kind want i m y → kind < 5
 leaf-kind (stays e s) = omega arith
 leaf-kind (steps g h s) = omega arith
 leaf-kind (labels g h e s) = omega arith
@@ -202,33 +197,33 @@ leaf-kind (labels g h e s) = omega arith
 led-no-leaf : (tree : List ℕ) (i : ℕ) (B : ℕ → Type 0) (after : ℕ) → Led B after (partOf tree i) → kindOf tree i < 5 → ⊥
 led-no-leaf tree i B after x l = subst (λ p. Led B after p) (is-leaf tree i l) x
 
-module _ {triples earlier last tree next wanted : List ℕ} {i j block bits : ℕ} {b₁ : Board} where
+module _ {starts into tree next wanted : List ℕ} {i j block bits : ℕ} {b₁ : Board} where
   pub part-turns : {b₂ : Board} → 5 ≤ kindOf tree i → block < nodeWords → (r : ℕ) → Turned r (b₁ .marked) block (getD next i 0) (partOf tree i)
       → AddsOnly stateWords (InWord (i * nodeWords + block) (bitAnd r bits)) b₁ b₂
-      → AddsOnly stateWords (FromWord block bits (PartBack triples earlier last tree next wanted (b₁ .marked) i j)) b₁ b₂
+      → AddsOnly stateWords (FromWord block bits (PartBack starts into tree next wanted (b₁ .marked) i j)) b₁ b₂
   part-turns k l r t a = adds-same (at-nodes i l a) forth back
     where
-      forth : (y : ℕ) → FromWord block (bitAnd r bits) (λ m y. y ≡ state i m) y → FromWord block bits (PartBack triples earlier last tree next wanted (b₁ .marked) i j) y
+      forth : (y : ℕ) → FromWord block (bitAnd r bits) (λ m y. y ≡ state i m) y → FromWord block bits (PartBack starts into tree next wanted (b₁ .marked) i j) y
       forth y (m, x, e) = let (u, v) = in-both block r bits m .0 x in (m, v, turns (t m (block-node l u) (u .word) .0 (u .is)) e)
 
-      back : (y : ℕ) → FromWord block bits (PartBack triples earlier last tree next wanted (b₁ .marked) i j) y → FromWord block (bitAnd r bits) (λ m y. y ≡ state i m) y
+      back : (y : ℕ) → FromWord block bits (PartBack starts into tree next wanted (b₁ .marked) i j) y → FromWord block (bitAnd r bits) (λ m y. y ≡ state i m) y
       back y (m, x, leaves e b) = absurd (let z = leaf-kind b in omega arith)
       back y (m, x, turns d e) = (m, in-both block r bits m .1 (record { word = x .word; is = t m (block-node l x) (x .word) .1 d }, x), e)
 
   pub part-none : kindOf tree i < 5 → (getD next i 0 ≡ j → ⊥) → Table stateWords b₁
-      → AddsOnly stateWords (FromWord block bits (PartBack triples earlier last tree next wanted (b₁ .marked) i j)) b₁ b₁
+      → AddsOnly stateWords (FromWord block bits (PartBack starts into tree next wanted (b₁ .marked) i j)) b₁ b₁
   part-none k n t = adds-none t none
     where
-      none : (y : ℕ) → FromWord block bits (PartBack triples earlier last tree next wanted (b₁ .marked) i j) y → ⊥
+      none : (y : ℕ) → FromWord block bits (PartBack starts into tree next wanted (b₁ .marked) i j) y → ⊥
       none y (m, x, leaves e b) = n e
       none y (m, x, turns d e) = led-no-leaf tree i (AliveAt (b₁ .marked) m) (getD next i 0) d k
 
   pub part-leaf : {b₂ : Board} → (kind : ℕ) → kind ≡ kindOf tree i → kind < 5 → getD next i 0 ≡ j
-      → AddsOnly stateWords (Leads triples earlier last kind (getD wanted i 0) i block bits) b₁ b₂
-      → AddsOnly stateWords (FromWord block bits (PartBack triples earlier last tree next wanted (b₁ .marked) i j)) b₁ b₂
+      → AddsOnly stateWords (Leads starts into kind (getD wanted i 0) i block bits) b₁ b₂
+      → AddsOnly stateWords (FromWord block bits (PartBack starts into tree next wanted (b₁ .marked) i j)) b₁ b₂
   part-leaf {b₂} kind k l e a =
-      adds-same (subst (λ x. AddsOnly stateWords (Leads triples earlier last x (getD wanted i 0) i block bits) b₁ b₂) k a) (λ y (m, x, b). (m, x, leaves e b)) back
+      adds-same (subst (λ x. AddsOnly stateWords (Leads starts into x (getD wanted i 0) i block bits) b₁ b₂) k a) (λ y (m, x, b). (m, x, leaves e b)) back
     where
-      back : (y : ℕ) → FromWord block bits (PartBack triples earlier last tree next wanted (b₁ .marked) i j) y → Leads triples earlier last (kindOf tree i) (getD wanted i 0) i block bits y
+      back : (y : ℕ) → FromWord block bits (PartBack starts into tree next wanted (b₁ .marked) i j) y → Leads starts into (kindOf tree i) (getD wanted i 0) i block bits y
       back y (m, x, leaves f b) = (m, x, b)
       back y (m, x, turns d f) = absurd (led-no-leaf tree i (AliveAt (b₁ .marked) m) (getD next i 0) d (omega arith))

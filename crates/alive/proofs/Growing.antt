@@ -3,14 +3,14 @@ use lib.ListN.{getD}
 use mathlib.Core.Bool.{Bool, false, true}
 use mathlib.Core.List.{List}
 use mathlib.Core.Logic.{inl, inr, ⊎-elim, _⊎_}
-use mathlib.Core.Path.{ap, refl, subst, sym, _∙_, _≡_}
+use mathlib.Core.Path.{ap, refl, subst, sym, _≡_}
 use native.Mathlib.Omega.{arith}
-use Prim.Native.Nat.{ℕ, _%_, _*_, _-_, _/_, _<_, _≤_}
+use Prim.Native.Nat.{ℕ, _%_, _*_, _+_, _-_, _/_, _<_, _≤_}
 use Rattle.alive.specs.Links.{Caused}
 use Rattle.alive.specs.Steps.{AllAlive, AllMarked, BackAt, BackTo, BackToWord, EndAt, FromWord, Led, PartBack, StateAlive, Touches, leads, turns}
-use Rattle.index.proofs.Chains.{met-first, met-later, met-none, met-split}
-use Rattle.index.specs.Index.{ByObject, Met}
-use Rattle.meaning.specs.Limits.{nodeWords, stateWords}
+use Rattle.index.proofs.Stands.{stands-first, stands-none, stands-split}
+use Rattle.index.specs.Index.{ByObject, Stands}
+use Rattle.meaning.specs.Limits.{maxPredicates, nodeWords, stateWords}
 use Rattle.meaning.specs.Query.{Joins}
 use Rattle.states.proofs.Leaves.{leaf-says, leaf-to}
 use Rattle.states.proofs.Numbers.{in-node, in-part, state-inside, state-node, state-part, word-is, word-part}
@@ -29,12 +29,12 @@ use Rattle.alive.proofs.States.{alive-at, back-part, led-more, part-ali
 
 -- ---- one word, part by part
 
--- The states that the states of a word make alive are marked, but for parts that are met on what is left of a chain, which
--- begins at `at`.
-pub record Backing (L : Lists) (rest : List ℕ) (w bits : ℕ) (b₁ b₂ : Board) (at : ℕ) : Type 0 where
+-- The states that the states of a word make alive are marked, but for parts that stand in the list of links from e on.
+pub record Backing (L : Lists) (heads links : List ℕ) (w bits : ℕ) (b₁ b₂ : Board) (e : ℕ) : Type 0 where
+  pub from : getD heads (w / nodeWords) 0 ≤ e
   pub adds : Adds stateWords (StateAlive L) (λ y. ⊥) b₁ b₂
-  pub inside : (e : ℕ) → Met rest at e → e < L .parts * 3
-  pub left : (s i y : ℕ) → InWord w bits s → i < L .parts → BackAt L (b₁ .marked) s i y → Marked (b₂ .marked) y ⊎ ((e : ℕ) × Met rest at e × (e / 3 ≡ i))
+  pub left : (s i y : ℕ) → InWord w bits s → i < L .parts → BackAt L (b₁ .marked) s i y
+      → Marked (b₂ .marked) y ⊎ Stands links e (getD heads (w / nodeWords + 1) 0) (i * maxPredicates)
 
 -- A part that s makes alive is one that the part of s can make alive.
 back-touches : {L : Lists} {table : List ℕ} {s i y : ℕ} → BackAt L table s i y → Touches (getD (L .next) i 0) (partOf (L .tree) i) (partAt s)
@@ -52,59 +52,57 @@ module _ (w bits s : ℕ) (h : InWord w bits s) where
   of-block : InWord (w % nodeWords) bits (nodeAt s)
   of-block = in-node (w / nodeWords) (w % nodeWords) bits s (omega arith) at-word
 
-pub back-start : {L : Lists} {heads rest : List ℕ} {w bits : ℕ} {b : Board} → Caused L heads rest → w < stateWords → Table stateWords b
-    → Backing L rest w bits b b (getD heads (w / nodeWords) 0)
-back-start {L} {heads} {rest} {w} {bits} c l t =
+pub back-start : {L : Lists} {heads links : List ℕ} {w bits : ℕ} {b : Board} → Caused L heads links → w < stateWords → Table stateWords b
+    → Backing L heads links w bits b b (getD heads (w / nodeWords) 0)
+back-start {L} {heads} {links} {w} {bits} c l t =
     let a = word-part w l in
     record {
+      from = omega arith;
       adds = adds-none t (λ y h. h);
-      inside = λ e m. c .inside (w / nodeWords) e (omega arith) m;
       left = λ s i y h g x. inr (c .causes i (w / nodeWords) g (omega arith) (subst (Touches (getD (L .next) i 0) (partOf (L .tree) i)) (of-word w bits s h) (back-touches x)));
     }
 
-module _ {L : Lists} {rest : List ℕ} {w bits : ℕ} {b₁ b₂ : Board} {at : ℕ} (g : Backing L rest w bits b₁ b₂ at) where
-  -- the first link of what is left
-  pub link-first : 0 < at → at - 1 < L .parts * 3
-  link-first l = g .inside (at - 1) (met-first at l)
+module _ {L : Lists} {heads links : List ℕ} {w bits : ℕ} {b₁ b₂ : Board} {e : ℕ} (g : Backing L heads links w bits b₁ b₂ e) (c : Caused L heads links)
+    (lw : w < stateWords) (l : e < getD heads (w / nodeWords + 1) 0) where
+  -- the part of the next link
+  pub link-part : getD links e 0 / maxPredicates < L .parts
+  link-part = let a = word-part w lw in c .parts (w / nodeWords) (getD links e 0) (omega arith) (stands-first (g .from) l)
 
-  pub back-again : {last earlier : List ℕ} {b₃ : Board} → ListsFit L → ByObject (L .triples) (L .nodes) (L .edges) last earlier → AllAlive L (b₁ .marked)
-      → AllMarked (b₁ .marked) w bits → w < stateWords → 0 < at
-      → AddsOnly stateWords (FromWord (w % nodeWords) bits (PartBack (L .triples) earlier last (L .tree) (L .next) (L .wanted) (b₂ .marked) ((at - 1) / 3) (w / nodeWords))) b₂ b₃
-      → Backing L rest w bits b₁ b₃ (getD rest (at - 1) 0)
-  back-again {last} {earlier} {b₃} f b a k lw l d = record {
+  pub back-again : {starts into : List ℕ} {b₃ : Board} → ListsFit L → ByObject (L .triples) (L .nodes) (L .edges) starts into → AllAlive L (b₁ .marked)
+      → AllMarked (b₁ .marked) w bits
+      → AddsOnly stateWords (FromWord (w % nodeWords) bits (PartBack starts into (L .tree) (L .next) (L .wanted) (b₂ .marked) (getD links e 0 / maxPredicates) (w / nodeWords))) b₂ b₃
+      → Backing L heads links w bits b₁ b₃ (e + 1)
+  back-again {starts} {into} {b₃} f b a k d = record {
+    from = let h = g .from in omega arith;
     adds =
         adds-as {Y′ = λ y. ⊥} (adds-then (g .adds) (adds-as {S′ = StateAlive L} {Y′ = λ y. ⊥} d sound (λ y x. absurd x))) (λ y x. x) (λ y x. absurd x);
-    inside = λ e m. g .inside e (met-later at l m);
-    left = λ s i y h r x. by s i y h r x (g .left s i y h r x);
+    left = λ s i y h r x. ⊎-elim (λ z. inl (d .more y z)) (λ m. split s i y h x (stands-split m)) (g .left s i y h r x);
   }
     where
-      part : (at - 1) / 3 < L .parts
-      part = let z = link-first l in omega arith
+      part : ℕ
+      part = getD links e 0 / maxPredicates
 
-      sound : (y : ℕ) → FromWord (w % nodeWords) bits (PartBack (L .triples) earlier last (L .tree) (L .next) (L .wanted) (b₂ .marked) ((at - 1) / 3) (w / nodeWords)) y → StateAlive L y
+      sound : (y : ℕ) → FromWord (w % nodeWords) bits (PartBack starts into (L .tree) (L .next) (L .wanted) (b₂ .marked) part (w / nodeWords)) y → StateAlive L y
       sound y (m, h, x) =
           let (p, n, v) = word-alive f (b₁ .marked) a k lw m h in
-          part-alive f b (adds-sound (g .adds) (StateAlive L) a (λ x h. h)) (w / nodeWords) m n v ((at - 1) / 3) y part x
+          part-alive f b (adds-sound (g .adds) (StateAlive L) a (λ x h. h)) (w / nodeWords) m n v part y link-part x
 
-      one : (s i y : ℕ) → InWord w bits s → BackAt L (b₁ .marked) s i y → (at - 1) / 3 ≡ i → Marked (b₃ .marked) y
+      one : (s i y : ℕ) → InWord w bits s → BackAt L (b₁ .marked) s i y → part ≡ i → Marked (b₃ .marked) y
       one s i y h x p =
           let m = of-block w bits s h in
           let n = word-alive f (b₁ .marked) a k lw (nodeAt s) m .1 in
-          let t = back-part f b (g .adds .more) s ((at - 1) / 3) y n part (subst (λ z. BackAt L (b₁ .marked) s z y) (sym p) x) in
-          d .all y (nodeAt s, m, subst (λ j. PartBack (L .triples) earlier last (L .tree) (L .next) (L .wanted) (b₂ .marked) ((at - 1) / 3) j (nodeAt s) y) (of-word w bits s h) t)
+          let t = back-part f b (g .adds .more) s part y n link-part (subst (λ z. BackAt L (b₁ .marked) s z y) (sym p) x) in
+          d .all y (nodeAt s, m, subst (λ j. PartBack starts into (L .tree) (L .next) (L .wanted) (b₂ .marked) part j (nodeAt s) y) (of-word w bits s h) t)
 
-      split : (s i y : ℕ) → InWord w bits s → BackAt L (b₁ .marked) s i y → (e : ℕ) → e / 3 ≡ i → (e ≡ at - 1) ⊎ Met rest (getD rest (at - 1) 0) e → Marked (b₃ .marked) y
-          ⊎ ((e : ℕ) × Met rest (getD rest (at - 1) 0) e × (e / 3 ≡ i))
-      split s i y h x e p (inl q) = inl (one s i y h x (ap (λ z. z / 3) (sym q) ∙ p))
-      split s i y h x e p (inr m) = inr (e, m, p)
+      split : (s i y : ℕ) → InWord w bits s → BackAt L (b₁ .marked) s i y
+          → (getD links e 0 ≡ i * maxPredicates) ⊎ Stands links (e + 1) (getD heads (w / nodeWords + 1) 0) (i * maxPredicates)
+          → Marked (b₃ .marked) y ⊎ Stands links (e + 1) (getD heads (w / nodeWords + 1) 0) (i * maxPredicates)
+      split s i y h x (inl q) = inl (one s i y h x (omega arith))
+      split s i y h x (inr m) = inr m
 
-      by : (s i y : ℕ) → InWord w bits s → i < L .parts → BackAt L (b₁ .marked) s i y → Marked (b₂ .marked) y ⊎ ((e : ℕ) × Met rest at e × (e / 3 ≡ i))
-          → Marked (b₃ .marked) y ⊎ ((e : ℕ) × Met rest (getD rest (at - 1) 0) e × (e / 3 ≡ i))
-      by s i y h r x (inl z) = inl (d .more y z)
-      by s i y h r x (inr (e, m, p)) = split s i y h x e p (met-split m)
-
-  pub back-done : at ≡ 0 → Adds stateWords (StateAlive L) (BackToWord L (b₁ .marked) w bits) b₁ b₂
-  back-done z = adds-for (g .adds) (λ y x. x) (λ y (s, h, b). ⊎-elim (λ e. e) (λ (e, m, p). absurd (met-none z m)) (g .left s (b .part) y h (b .is) (b .back)))
+pub back-done : {L : Lists} {heads links : List ℕ} {w bits : ℕ} {b₁ b₂ : Board} {e : ℕ} → Backing L heads links w bits b₁ b₂ e → getD heads (w / nodeWords + 1) 0 ≤ e
+    → Adds stateWords (StateAlive L) (BackToWord L (b₁ .marked) w bits) b₁ b₂
+back-done g z = adds-for (g .adds) (λ y x. x) (λ y (s, h, b). ⊎-elim (λ e. e) (λ m. absurd (stands-none z m)) (g .left s (b .part) y h (b .is) (b .back)))
 
 -- ---- word by word
 

@@ -4,9 +4,10 @@ use mathlib.Core.List.{List}
 use mathlib.Core.Logic.{inl, inr}
 use mathlib.Core.Path.{refl, subst, sym, _≡_}
 use native.Mathlib.Omega.{arith}
-use Prim.Native.Nat.{ℕ, _%_, _/_, _<_, _≤_}
-use Rattle.alive.specs.Steps.{AllAlive, AllMarked, BackAt, Chain, Chains, Led, PartBack, StateAlive, leads, leaves, turns}
-use Rattle.index.specs.Index.{ByObject, Met}
+use Prim.Native.Nat.{ℕ, _%_, _+_, _/_, _<_, _≤_}
+use Rattle.alive.specs.Steps.{AllAlive, AllMarked, BackAt, Led, PartBack, Range, Ranges, StateAlive, leads, leaves, turns}
+use Rattle.index.proofs.Stands.{stands-triple}
+use Rattle.index.specs.Index.{ByObject}
 use Rattle.meaning.specs.Limits.{maxNodes, nodeWords, stateWords}
 use Rattle.query.specs.Tree.{kindOf}
 use Rattle.states.proofs.Leaves.{LeafJoins, leaf-from, leaf-says, says-leaf}
@@ -22,17 +23,18 @@ use Rattle.worklist.specs.Table.{InWord, Marked}
 use Rattle.alive.proofs.Leaves.{back-joins, joins-back}
 
 module _ {L : Lists} (f : ListsFit L) where
-  -- The chain of the triples that end at m.
-  chain-ready : {last earlier : List ℕ} → ByObject (L .triples) (L .nodes) (L .edges) last earlier → (m : ℕ) → m < L .nodes → Chain (L .triples) earlier (getD last m 0)
-  chain-ready {last} {earlier} b m l = record {
-    listed = λ k x. let g = inside k x in let h = b .links in omega arith;
-    whole = λ k x. let g = inside k x in let h = f .graph .whole in omega arith;
-    nodes = λ k x. let g = f .graph .subjects k (inside k x) in let h = f .graph .few-nodes in omega arith;
-    falls = λ k x. b .falls k (inside k x);
+  -- The triples that end at m.
+  range-ready : {starts into : List ℕ} → ByObject (L .triples) (L .nodes) (L .edges) starts into → (m : ℕ) → m < L .nodes
+      → Range into (getD starts m 0) (getD starts (m + 1) 0)
+  range-ready b m l = record {
+    inside = b .inside m l;
+    nodes = λ x s.
+        let t = stands-triple b m l s in
+        let e = t .subject in
+        let g = f .graph .subjects (t .at) (t .inside) in
+        let h = f .graph .few-nodes in
+        omega arith;
   }
-    where
-      inside : (k : ℕ) → Met earlier (getD last m 0) k → k < L .edges
-      inside k x = b .exactly m k l .0 x .0
 
   -- ---- a part at a node, by what is alive there
 
@@ -90,16 +92,16 @@ module _ {L : Lists} (f : ListsFit L) where
         let r = s .word in
         alive-state (w / nodeWords) m n (a (state (w / nodeWords) m) (omega arith) (k (state (w / nodeWords) m) s))
 
-    pub chains-ready : {last earlier : List ℕ} → ByObject (L .triples) (L .nodes) (L .edges) last earlier → Chains (L .triples) earlier last (w % nodeWords) bits
-    chains-ready b = record {
-      heads = λ m h. let p = word-alive m h .1 in let q = b .heads in omega arith;
-      chain = λ m h. chain-ready b m (word-alive m h .1);
+    pub ranges-ready : {starts into : List ℕ} → ByObject (L .triples) (L .nodes) (L .edges) starts into → Ranges starts into (w % nodeWords) bits
+    ranges-ready b = record {
+      long = λ m h. let p = word-alive m h .1 in let q = b .long in omega arith;
+      range = λ m h. range-ready b m (word-alive m h .1);
     }
 
   -- SOUND: what a part adds is alive.
-  pub part-alive : {last earlier table : List ℕ} → ByObject (L .triples) (L .nodes) (L .edges) last earlier → AllAlive L table → (j m : ℕ) → m < L .nodes → AliveIn L j m
-      → (i y : ℕ) → i < L .parts → PartBack (L .triples) earlier last (L .tree) (L .next) (L .wanted) table i j m y → StateAlive L y
-  part-alive {last} {earlier} {table} b a j m h w i y l (leaves e x) =
+  pub part-alive : {starts into table : List ℕ} → ByObject (L .triples) (L .nodes) (L .edges) starts into → AllAlive L table → (j m : ℕ) → m < L .nodes → AliveIn L j m
+      → (i y : ℕ) → i < L .parts → PartBack starts into (L .tree) (L .next) (L .wanted) table i j m y → StateAlive L y
+  part-alive {starts} {into} {table} b a j m h w i y l (leaves e x) =
       let (n, p, g) = back-joins {L = L} b h x in
       state-alive i n y (omega arith) (leaf-from (f .graph) g) p
       (moves l (is-leaf (L .tree) i (small g)) (says-leaf L i n m g) (subst (λ x. AliveIn L x m) (sym e) w))
@@ -108,7 +110,7 @@ module _ {L : Lists} (f : ListsFit L) where
       small (LeafJoins.rests e h p) = omega arith
       small (LeafJoins.goes g h k lt u o t) = omega arith
       small (LeafJoins.is-at g h c u p) = omega arith
-  part-alive {last} {earlier} {table} b a j m h w i y l (turns x e) =
+  part-alive {starts} {into} {table} b a j m h w i y l (turns x e) =
       state-alive i m y (omega arith) h e (led-alive i m l h (AliveAt table m) (λ j r z. alive-at table a m j h r z) x)
 
   -- COMPLETE: what a part is to add, it adds; more may be marked by then.
@@ -121,9 +123,9 @@ module _ {L : Lists} (f : ListsFit L) where
   led-more B C up after (either a b) (inl x) = inl (up a x)
   led-more B C up after (either a b) (inr x) = inr (up b x)
 
-  pub back-part : {last earlier table table′ : List ℕ} → ByObject (L .triples) (L .nodes) (L .edges) last earlier
+  pub back-part : {starts into table table′ : List ℕ} → ByObject (L .triples) (L .nodes) (L .edges) starts into
       → ((x : ℕ) → Marked table x → Marked table′ x) → (s i y : ℕ) → nodeAt s < L .nodes → i < L .parts
-      → BackAt L table s i y → PartBack (L .triples) earlier last (L .tree) (L .next) (L .wanted) table′ i (partAt s) (nodeAt s) y
-  back-part {last} {earlier} {table} {table′} b up s i y d l (leads n e p j q) = leaves p (joins-back {L = L} b d (leaf-says L i n (nodeAt s) (leaf-kind f i l e) j) q)
-  back-part {last} {earlier} {table} {table′} b up s i y d l (BackAt.turns x w q) =
+      → BackAt L table s i y → PartBack starts into (L .tree) (L .next) (L .wanted) table′ i (partAt s) (nodeAt s) y
+  back-part {starts} {into} {table} {table′} b up s i y d l (leads n e p j q) = leaves p (joins-back {L = L} b d (leaf-says L i n (nodeAt s) (leaf-kind f i l e) j) q)
+  back-part {starts} {into} {table} {table′} b up s i y d l (BackAt.turns x w q) =
       turns (led-more (AliveAt table (nodeAt s)) (AliveAt table′ (nodeAt s)) (λ j h. up (state j (nodeAt s)) h) (getD (L .next) i 0) (partOf (L .tree) i) x) q

@@ -1,12 +1,12 @@
--- Which parts a part can make alive, and chains of them. Assumes nothing.
+-- Which parts a part can make alive, and lists of them. Assumes nothing.
 use lib.ListN.{getD, length}
 use mathlib.Core.List.{List}
 use mathlib.Core.Path.{_≡_}
 use Prim.Native.Nat.{ℕ, _%_, _*_, _+_, _-_, _/_, _<_, _≤_}
 use Rattle.alive.specs.Steps.{Touches}
-use Rattle.index.specs.Index.{Met}
-use Rattle.index.specs.Triples.{objectAt, subjectAt}
-use Rattle.meaning.specs.Limits.{maxParts}
+use Rattle.index.specs.Index.{Stands}
+use Rattle.index.specs.Triples.{objectAt, predicateAt, subjectAt}
+use Rattle.meaning.specs.Limits.{maxParts, maxPredicates}
 use Rattle.query.specs.Tree.{firstNumber, kindOf}
 use Rattle.states.specs.Lists.{Lists}
 use Rattle.states.specs.Parts.{PartReady}
@@ -31,16 +31,18 @@ pub record LinkReady (tree next : List ℕ) (parts : ℕ) : Type 0 where
   pub few : parts ≤ maxParts
   pub ready : (i : ℕ) → i < parts → PartReady tree next i
 
--- The first n links, each the object of a triple from node 0.
+-- The first n links, each a triple: its part, 0, and what it leads from.
 pub record LinksListed (tree next : List ℕ) (n : ℕ) (links : List ℕ) : Type 0 where
   pub whole : n * 3 ≤ length links
-  pub subjects : (e : ℕ) → e < n → subjectAt links e ≡ 0
+  pub subjects : (e : ℕ) → e < n → subjectAt links e ≡ e / 3
+  pub predicates : (e : ℕ) → e < n → predicateAt links e ≡ 0
   pub objects : (e : ℕ) → e < n → Link tree next e (objectAt links e)
 
--- The parts that the part j can make alive are met, as links, on the chain that begins at heads[j].
-pub record Caused (L : Lists) (heads rest : List ℕ) : Type 0 where
-  pub begins : maxCauses ≤ length heads
-  pub listed : L .parts * 3 ≤ length rest
-  pub inside : (j e : ℕ) → j < maxCauses → Met rest (getD heads j 0) e → e < L .parts * 3
-  pub falls : (e : ℕ) → e < L .parts * 3 → getD rest e 0 ≤ e
-  pub causes : (i j : ℕ) → i < L .parts → j < maxCauses → Touches (getD (L .next) i 0) (partOf (L .tree) i) j → (e : ℕ) × Met rest (getD heads j 0) e × (e / 3 ≡ i)
+-- The parts that the part j can make alive stand in the list from heads[j] on, before heads[j + 1], each as a subject with the
+-- predicate 0.
+pub record Caused (L : Lists) (heads links : List ℕ) : Type 0 where
+  pub long : maxCauses < length heads
+  pub inside : (j : ℕ) → j < maxCauses → getD heads (j + 1) 0 ≤ length links
+  pub parts : (j x : ℕ) → j < maxCauses → Stands links (getD heads j 0) (getD heads (j + 1) 0) x → x / maxPredicates < L .parts
+  pub causes : (i j : ℕ) → i < L .parts → j < maxCauses → Touches (getD (L .next) i 0) (partOf (L .tree) i) j
+      → Stands links (getD heads j 0) (getD heads (j + 1) 0) (i * maxPredicates)

@@ -1,15 +1,15 @@
 // The states from which a step leads to one of a word, a word at a time where nodes do not change.
 ghost use lib.ListN.{getD, length};
 ghost use mathlib.Core.Path.{_≡_};
-ghost use Prim.Native.Nat.{_*_, _+_, _<_, _≤_};
-ghost use Rattle.alive.specs.Steps.{Chain, Chains, FromWord, LeafBack, PartBack, SubjectAt, SubjectOn, Turned};
-ghost use Rattle.index.specs.Triples.{subjectAt};
-ghost use Rattle.meaning.specs.Limits.{maxNodes, maxParts, nodeWords, stateWords};
+ghost use Prim.Native.Nat.{_/_, _<_, _≤_};
+ghost use Rattle.alive.specs.Steps.{FromWord, LeafBack, PartBack, Range, Ranges, SubjectAt, SubjectOn, SubjectTo, Turned};
+ghost use Rattle.meaning.specs.Limits.{maxNodes, maxParts, maxPredicates, nodeWords, stateWords};
 ghost use Rattle.query.specs.Tree.{kindOf};
 ghost use Rattle.states.specs.Parts.{PartReady};
 ghost use Rattle.walk.specs.Parts.{partOf};
 ghost use Rattle.worklist.specs.Table.{AddsOnly, Table, board};
 use meaning::MAX_NODES;
+use meaning::MAX_PREDICATES;
 use meaning::NODE_WORDS;
 use meaning::WORD_BITS;
 use query::kinds;
@@ -19,34 +19,8 @@ use states::takes_predicate;
 use worklist::mark;
 use worklist::mark_word;
 
-// Marks the part i at the subject of the triple k, if the step takes it.
+// Marks the part i at the subject of a triple, if the step takes it; x is its subject and its predicate in one number.
 fn mark_subject(
-    triples: &[u16],
-    k: usize,
-    kind: usize,
-    want: u16,
-    i: usize,
-    alive: &mut [u64],
-    waiting: &mut [u64],
-    stack: &mut [u16],
-    top: usize,
-) -> usize
-    requires { ⌜ (k * 3 + 3 ≤ length (now triples)) × ((subjectAt (now triples) k < maxNodes)
-        × ((i < maxParts) × Table stateWords (board (now alive) (now waiting) (now stack) top))) ⌝ }
-    ensures { λ r. ⌜ AddsOnly stateWords (SubjectAt (now (triples .entry)) k kind want i)
-        (board (now (alive .entry)) (now (waiting .entry)) (now (stack .entry)) top) (board (now (alive .exit)) (now (waiting .exit)) (now (stack .exit)) r) ⌝ }
-{
-    if !takes_predicate(kind, want, triples[k * 3 + 1]) {
-        return top;
-    }
-    let subject = triples[k * 3] as usize;
-    mark(i * MAX_NODES + subject, alive, waiting, stack, top)
-}
-
-// Marks the part i at the subjects of the triples of a chain, which begins at x, that the step takes.
-fn mark_subjects(
-    triples: &[u16],
-    earlier: &[u16],
     x: usize,
     kind: usize,
     want: u16,
@@ -56,24 +30,50 @@ fn mark_subjects(
     stack: &mut [u16],
     top: usize,
 ) -> usize
-    requires { ⌜ Chain (now triples) (now earlier) x × ((i < maxParts) × Table stateWords (board (now alive) (now waiting) (now stack) top)) ⌝ }
-    ensures { λ r. ⌜ AddsOnly stateWords (SubjectOn (now (triples .entry)) (now (earlier .entry)) x kind want i)
+    requires { ⌜ (x / maxPredicates < maxNodes) × ((i < maxParts) × Table stateWords (board (now alive) (now waiting) (now stack) top)) ⌝ }
+    ensures { λ r. ⌜ AddsOnly stateWords (SubjectAt x kind want i)
+        (board (now (alive .entry)) (now (waiting .entry)) (now (stack .entry)) top) (board (now (alive .exit)) (now (waiting .exit)) (now (stack .exit)) r) ⌝ }
+{
+    if !takes_predicate(kind, want, (x % MAX_PREDICATES) as u16) {
+        return top;
+    }
+    mark(
+        i * MAX_NODES + x / MAX_PREDICATES,
+        alive,
+        waiting,
+        stack,
+        top,
+    )
+}
+
+// Marks the part i at the subjects of the triples from lo on, before hi, that the step takes.
+fn mark_subjects(
+    into: &[u16],
+    lo: usize,
+    hi: usize,
+    kind: usize,
+    want: u16,
+    i: usize,
+    alive: &mut [u64],
+    waiting: &mut [u64],
+    stack: &mut [u16],
+    top: usize,
+) -> usize
+    requires { ⌜ Range (now into) lo hi × ((i < maxParts) × Table stateWords (board (now alive) (now waiting) (now stack) top)) ⌝ }
+    ensures { λ r. ⌜ AddsOnly stateWords (SubjectOn (now (into .entry)) lo hi kind want i)
         (board (now (alive .entry)) (now (waiting .entry)) (now (stack .entry)) top) (board (now (alive .exit)) (now (waiting .exit)) (now (stack .exit)) r) ⌝ }
 {
     let mut end = top;
-    let mut at = x;
-    while 0 < at {
-        end = mark_subject(triples, at - 1, kind, want, i, alive, waiting, stack, end);
-        at = earlier[at - 1] as usize;
+    for j in lo..hi {
+        end = mark_subject(into[j] as usize, kind, want, i, alive, waiting, stack, end);
     }
     end
 }
 
 // Marks the step i, of this kind, at the nodes from which it leads to a node of a block that the bits say.
 fn mark_steps(
-    triples: &[u16],
-    earlier: &[u16],
-    last: &[u16],
+    starts: &[u16],
+    into: &[u16],
     kind: usize,
     want: u16,
     i: usize,
@@ -84,9 +84,9 @@ fn mark_steps(
     stack: &mut [u16],
     top: usize,
 ) -> usize
-    requires { ⌜ Chains (now triples) (now earlier) (now last) block bits × (((i < maxParts) × (block < nodeWords))
+    requires { ⌜ Ranges (now starts) (now into) block bits × (((i < maxParts) × (block < nodeWords))
         × Table stateWords (board (now alive) (now waiting) (now stack) top)) ⌝ }
-    ensures { λ r. ⌜ AddsOnly stateWords (FromWord block bits (λ m. SubjectOn (now (triples .entry)) (now (earlier .entry)) (getD (now (last .entry)) m 0) kind want i))
+    ensures { λ r. ⌜ AddsOnly stateWords (FromWord block bits (SubjectTo (now (starts .entry)) (now (into .entry)) kind want i))
         (board (now (alive .entry)) (now (waiting .entry)) (now (stack .entry)) top) (board (now (alive .exit)) (now (waiting .exit)) (now (stack .exit)) r) ⌝ }
 {
     let mut end = top;
@@ -95,9 +95,9 @@ fn mark_steps(
         let m = block * WORD_BITS + u64::trailing_zeros(left) as usize;
         left &= left - 1;
         end = mark_subjects(
-            triples,
-            earlier,
-            last[m] as usize,
+            into,
+            starts[m] as usize,
+            starts[m + 1] as usize,
             kind,
             want,
             i,
@@ -112,9 +112,8 @@ fn mark_steps(
 
 // Marks the leaf i, of this kind, at the nodes from which it leads to a node of a block that the bits say.
 fn mark_leaf(
-    triples: &[u16],
-    earlier: &[u16],
-    last: &[u16],
+    starts: &[u16],
+    into: &[u16],
     kind: usize,
     want: u16,
     i: usize,
@@ -125,9 +124,9 @@ fn mark_leaf(
     stack: &mut [u16],
     top: usize,
 ) -> usize
-    requires { ⌜ (Chains (now triples) (now earlier) (now last) block bits × (kind < 5)) × (((i < maxParts) × (block < nodeWords))
+    requires { ⌜ (Ranges (now starts) (now into) block bits × (kind < 5)) × (((i < maxParts) × (block < nodeWords))
         × Table stateWords (board (now alive) (now waiting) (now stack) top)) ⌝ }
-    ensures { λ r. ⌜ AddsOnly stateWords (FromWord block bits (λ m. LeafBack (now (triples .entry)) (now (earlier .entry)) (getD (now (last .entry)) m 0) kind want i m))
+    ensures { λ r. ⌜ AddsOnly stateWords (FromWord block bits (LeafBack (now (starts .entry)) (now (into .entry)) kind want i))
         (board (now (alive .entry)) (now (waiting .entry)) (now (stack .entry)) top) (board (now (alive .exit)) (now (waiting .exit)) (now (stack .exit)) r) ⌝ }
 {
     if kind == kinds::STAY {
@@ -135,9 +134,8 @@ fn mark_leaf(
     }
     if kind < kinds::AT_IRI {
         return mark_steps(
-            triples,
-            earlier,
-            last,
+            starts,
+            into,
             kind,
             want,
             i,
@@ -180,9 +178,8 @@ fn turned(tree: &[u32], next: &[u16], i: usize, kind: usize, block: usize, alive
 // Marks the part i at each node from which it leads to the part j at a node of a block that the bits say, or, if it has
 // parts, at each of these nodes at which they make it alive.
 pub fn mark_part(
-    triples: &[u16],
-    earlier: &[u16],
-    last: &[u16],
+    starts: &[u16],
+    into: &[u16],
     tree: &[u32],
     next: &[u16],
     wanted: &[u16],
@@ -195,10 +192,10 @@ pub fn mark_part(
     stack: &mut [u16],
     top: usize,
 ) -> usize
-    requires { ⌜ Chains (now triples) (now earlier) (now last) block bits × ((PartReady (now tree) (now next) i × (i < length (now wanted)))
+    requires { ⌜ Ranges (now starts) (now into) block bits × ((PartReady (now tree) (now next) i × (i < length (now wanted)))
         × ((block < nodeWords) × Table stateWords (board (now alive) (now waiting) (now stack) top))) ⌝ }
-    ensures { λ r. ⌜ AddsOnly stateWords (FromWord block bits (PartBack (now (triples .entry)) (now (earlier .entry)) (now (last .entry)) (now (tree .entry))
-        (now (next .entry)) (now (wanted .entry)) (now (alive .entry)) i j))
+    ensures { λ r. ⌜ AddsOnly stateWords (FromWord block bits (PartBack (now (starts .entry)) (now (into .entry)) (now (tree .entry)) (now (next .entry)) (now (wanted .entry))
+        (now (alive .entry)) i j))
         (board (now (alive .entry)) (now (waiting .entry)) (now (stack .entry)) top) (board (now (alive .exit)) (now (waiting .exit)) (now (stack .exit)) r) ⌝ }
 {
     let kind = kind_of(tree, i);
@@ -210,9 +207,8 @@ pub fn mark_part(
         return top;
     }
     mark_leaf(
-        triples,
-        earlier,
-        last,
+        starts,
+        into,
         kind,
         wanted[i],
         i,

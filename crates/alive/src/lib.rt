@@ -15,9 +15,11 @@ ghost use Rattle.states.specs.Living.{Living, SomeAt};
 ghost use Rattle.worklist.specs.Table.{Adds, AddsOnly, Stacked, Table, Unmarked, board};
 use crate::back::mark_part;
 use crate::links::link_parts;
-use index::chain_by_object;
+use index::objects::list_by_object;
 use meaning::MAX_PARTS;
+use meaning::MAX_PREDICATES;
 use meaning::NODE_WORDS;
+use meaning::TRIPLE_WIDTH;
 use meaning::WORD_BITS;
 use states::Sizes;
 use worklist::mark_word;
@@ -66,18 +68,18 @@ fn mark_ends(
     top
 }
 
-// Marks each state that one of the states of a word makes alive. The parts that a part can make alive are chained in `heads`
-// and `rest`.
+// Marks each state that one of the states of a word makes alive. The parts that a part can make alive are listed in `heads`
+// and `links`.
 fn mark_back(
     sizes: Sizes,
     triples: &[u16],
-    earlier: &[u16],
-    last: &[u16],
+    starts: &[u16],
+    into: &[u16],
     tree: &[u32],
     next: &[u16],
     wanted: &[u16],
     heads: &[u16],
-    rest: &[u16],
+    links: &[u16],
     w: usize,
     bits: u64,
     alive: &mut [u64],
@@ -86,8 +88,8 @@ fn mark_back(
     top: usize,
 ) -> usize
     requires { ⌜ (ListsFit (lists sizes (now triples) (now tree) (now next) (now wanted))
-        × (ByObject (now triples) (sizes .nodes) (sizes .edges) (now last) (now earlier)
-        × Caused (lists sizes (now triples) (now tree) (now next) (now wanted)) (now heads) (now rest)))
+        × (ByObject (now triples) (sizes .nodes) (sizes .edges) (now starts) (now into)
+        × Caused (lists sizes (now triples) (now tree) (now next) (now wanted)) (now heads) (now links)))
         × ((AllAlive (lists sizes (now triples) (now tree) (now next) (now wanted)) (now alive) × ((w < stateWords) × AllMarked (now alive) w bits))
         × Table stateWords (board (now alive) (now waiting) (now stack) top)) ⌝ }
     ensures { λ r. ⌜ Adds stateWords (StateAlive (lists sizes (now (triples .entry)) (now (tree .entry)) (now (next .entry)) (now (wanted .entry))))
@@ -96,18 +98,17 @@ fn mark_back(
 {
     let j = w / NODE_WORDS;
     let block = w % NODE_WORDS;
+    let lo = heads[j] as usize;
+    let hi = heads[j + 1] as usize;
     let mut end = top;
-    let mut at = heads[j] as usize;
-    while 0 < at {
-        let i = (at - 1) / 3;
+    for e in lo..hi {
         end = mark_part(
-            triples,
-            earlier,
-            last,
+            starts,
+            into,
             tree,
             next,
             wanted,
-            i,
+            links[e] as usize / MAX_PREDICATES,
             j,
             block,
             bits,
@@ -116,29 +117,28 @@ fn mark_back(
             stack,
             end,
         );
-        at = rest[at - 1] as usize;
     }
     end
 }
 
-// Marks the states from which the end is reached, by chains of the parts that each part can make alive.
+// Marks the states from which the end is reached, by lists of the parts that each part can make alive.
 fn mark_all(
     sizes: Sizes,
     triples: &[u16],
-    earlier: &[u16],
-    last: &[u16],
+    starts: &[u16],
+    into: &[u16],
     tree: &[u32],
     next: &[u16],
     wanted: &[u16],
     heads: &[u16],
-    rest: &[u16],
+    links: &[u16],
     alive: &mut [u64],
     waiting: &mut [u64],
     stack: &mut [u16],
 )
     requires { ⌜ (ListsFit (lists sizes (now triples) (now tree) (now next) (now wanted))
-        × (ByObject (now triples) (sizes .nodes) (sizes .edges) (now last) (now earlier)
-        × Caused (lists sizes (now triples) (now tree) (now next) (now wanted)) (now heads) (now rest)))
+        × (ByObject (now triples) (sizes .nodes) (sizes .edges) (now starts) (now into)
+        × Caused (lists sizes (now triples) (now tree) (now next) (now wanted)) (now heads) (now links)))
         × Unmarked stateWords (now alive) (now waiting) (now stack) ⌝ }
     ensures { λ _. ⌜ Living (lists sizes (now (triples .entry)) (now (tree .entry)) (now (next .entry)) (now (wanted .entry))) (now (alive .exit))
         × Stacked stateWords (now (waiting .exit)) (now (stack .exit)) 0 ⌝ }
@@ -149,13 +149,13 @@ fn mark_all(
         top = mark_back(
             sizes,
             triples,
-            earlier,
-            last,
+            starts,
+            into,
             tree,
             next,
             wanted,
             heads,
-            rest,
+            links,
             word.0,
             word.1,
             alive,
@@ -170,8 +170,8 @@ fn mark_all(
 pub fn mark_alive(
     sizes: Sizes,
     triples: &[u16],
-    earlier: &[u16],
-    last: &[u16],
+    starts: &[u16],
+    into: &[u16],
     tree: &[u32],
     next: &[u16],
     wanted: &[u16],
@@ -180,31 +180,31 @@ pub fn mark_alive(
     stack: &mut [u16],
 )
     requires { ⌜ (ListsFit (lists sizes (now triples) (now tree) (now next) (now wanted))
-        × ByObject (now triples) (sizes .nodes) (sizes .edges) (now last) (now earlier)) × Unmarked stateWords (now alive) (now waiting) (now stack) ⌝ }
+        × ByObject (now triples) (sizes .nodes) (sizes .edges) (now starts) (now into)) × Unmarked stateWords (now alive) (now waiting) (now stack) ⌝ }
     ensures { λ _. ⌜ Living (lists sizes (now (triples .entry)) (now (tree .entry)) (now (next .entry)) (now (wanted .entry))) (now (alive .exit))
         × Stacked stateWords (now (waiting .exit)) (now (stack .exit)) 0 ⌝ }
 {
-    let mut links = [0u16; MAX_LINKS * 3];
-    let mut heads = [0u16; MAX_CAUSES];
-    let mut rest = [0u16; MAX_LINKS];
-    link_parts(tree, next, sizes.parts, &mut links);
-    chain_by_object(
-        &links[..],
+    let mut causes = [0u16; MAX_LINKS * TRIPLE_WIDTH];
+    let mut heads = [0u16; MAX_CAUSES + 2];
+    let mut links = [0u16; MAX_LINKS];
+    link_parts(tree, next, sizes.parts, &mut causes);
+    list_by_object(
+        &causes[..],
         MAX_CAUSES,
         sizes.parts * 3,
         &mut heads,
-        &mut rest,
+        &mut links,
     );
     mark_all(
         sizes,
         triples,
-        earlier,
-        last,
+        starts,
+        into,
         tree,
         next,
         wanted,
         &heads[..],
-        &rest[..],
+        &links[..],
         alive,
         waiting,
         stack,

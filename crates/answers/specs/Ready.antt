@@ -3,18 +3,20 @@
 use lib.ListN.{length}
 use mathlib.Core.List.{List}
 use mathlib.Core.Path.{_≡_}
-use Prim.Native.Nat.{ℕ, _*_, _+_, _<_, _≤_}
-use Rattle.index.specs.Index.{ChainReady}
-use Rattle.index.specs.Triples.{SubjectsRise}
+use Prim.Native.Nat.{ℕ, _*_, _<_, _≤_}
+use Rattle.index.specs.Index.{ListReady}
+use Rattle.index.specs.Subjects.{BySubject}
+use Rattle.index.specs.Triples.{PredicatesFit}
 use Rattle.meaning.specs.Limits.{maxCoreNodes, maxPairs, seenWords, stateWords}
 use Rattle.reached.specs.Own.{Inward}
 use Rattle.states.specs.Fits.{ListsFit}
 use Rattle.states.specs.Lists.{Lists}
 use Rattle.worklist.specs.Table.{Unmarked, mark}
 
-pub record YesReady (L : Lists) (last earlier alive waiting stack : List ℕ) : Type 0 where
+pub record YesReady (L : Lists) (starts into alive waiting stack : List ℕ) : Type 0 where
   pub fits : ListsFit L
-  pub chains : ChainReady (L .nodes) (L .edges) last earlier
+  pub predicates : PredicatesFit (L .triples) (L .edges)
+  pub lists : ListReady (L .nodes) (L .edges) starts into
   pub unmarked : Unmarked stateWords alive waiting stack
 
 -- Nothing is marked in the table of the states at named nodes.
@@ -22,11 +24,11 @@ pub record Unseen (seen : List ℕ) : Type 0 where
   pub long : seenWords ≤ length seen
   pub none : (x : ℕ) → x < seenWords * 64 → mark seen x ≡ 0
 
-pub record PairsReady (L : Lists) (named : ℕ) (first seen pairs : List ℕ) : Type 0 where
-  pub rise : SubjectsRise (L .triples) (L .edges)
+-- For the pairs, besides: the named nodes come first, and what leads to one starts at one; the index has each node's triples.
+pub record PairsReady (L : Lists) (named : ℕ) (index seen pairs : List ℕ) : Type 0 where
+  pub by-subject : BySubject (L .triples) (L .nodes) (L .edges) index
   pub inward : Inward (L .triples) (L .edges) named
   pub nodes : named ≤ L .nodes
   pub few : named ≤ maxCoreNodes
-  pub starts : maxCoreNodes + 1 ≤ length first
   pub unseen : Unseen seen
   pub room : maxPairs ≤ length pairs

@@ -5,7 +5,7 @@ ghost use Rattle.states.specs.Lists.{lists};
 ghost use Rattle.states.specs.Living.{Yes};
 use alive::mark_alive;
 use alive::some_alive;
-use index::chain_by_object;
+use index::objects::list_by_object;
 use reached::own::own_by_subject;
 use reached::pairs::Pairs;
 use reached::pairs::list_pairs;
@@ -18,21 +18,21 @@ pub fn some_joined(
     tree: &[u32],
     next: &[u16],
     wanted: &[u16],
-    last: &mut [u16],
-    earlier: &mut [u16],
+    starts: &mut [u16],
+    into: &mut [u16],
     alive: &mut [u64],
     waiting: &mut [u64],
     stack: &mut [u16],
 ) -> bool
-    requires { ⌜ YesReady (lists sizes (now triples) (now tree) (now next) (now wanted)) (now last) (now earlier) (now alive) (now waiting) (now stack) ⌝ }
+    requires { ⌜ YesReady (lists sizes (now triples) (now tree) (now next) (now wanted)) (now starts) (now into) (now alive) (now waiting) (now stack) ⌝ }
     ensures { λ r. ⌜ Yes r (lists sizes (now (triples .entry)) (now (tree .entry)) (now (next .entry)) (now (wanted .entry))) ⌝ }
 {
-    chain_by_object(triples, sizes.nodes, sizes.edges, last, earlier);
+    list_by_object(triples, sizes.nodes, sizes.edges, starts, into);
     mark_alive(
         sizes,
         triples,
-        &earlier[..],
-        &last[..],
+        &starts[..],
+        &into[..],
         tree,
         next,
         wanted,
@@ -43,34 +43,34 @@ pub fn some_joined(
     some_alive(sizes.nodes, sizes.parts, &alive[..])
 }
 
-// Lists the pairs of named nodes, which are the first ones, that the query joins. The chains by object are of use no longer when
-// the walks begin, and their room is that of the triples between named nodes.
+// Lists the pairs of named nodes, which are the first ones, that the query joins. The list by object is of use no longer when
+// the walks begin, and its room is that of the triples between named nodes.
 pub fn joined_pairs(
     sizes: Sizes,
     named: usize,
     triples: &[u16],
+    index: &[u16],
     tree: &[u32],
     next: &[u16],
     wanted: &[u16],
-    last: &mut [u16],
-    earlier: &mut [u16],
-    first: &mut [u16],
+    starts: &mut [u16],
+    into: &mut [u16],
     alive: &mut [u64],
     waiting: &mut [u64],
     stack: &mut [u16],
     seen: &mut [u64],
     pairs: &mut [u32],
 ) -> Pairs
-    requires { ⌜ YesReady (lists sizes (now triples) (now tree) (now next) (now wanted)) (now last) (now earlier) (now alive) (now waiting) (now stack)
-        × PairsReady (lists sizes (now triples) (now tree) (now next) (now wanted)) named (now first) (now seen) (now pairs) ⌝ }
+    requires { ⌜ YesReady (lists sizes (now triples) (now tree) (now next) (now wanted)) (now starts) (now into) (now alive) (now waiting) (now stack)
+        × PairsReady (lists sizes (now triples) (now tree) (now next) (now wanted)) named (now index) (now seen) (now pairs) ⌝ }
     ensures { λ r. ⌜ PairsAre r (lists sizes (now (triples .entry)) (now (tree .entry)) (now (next .entry)) (now (wanted .entry))) named (now (pairs .exit)) ⌝ }
 {
-    chain_by_object(triples, sizes.nodes, sizes.edges, last, earlier);
+    list_by_object(triples, sizes.nodes, sizes.edges, starts, into);
     mark_alive(
         sizes,
         triples,
-        &earlier[..],
-        &last[..],
+        &starts[..],
+        &into[..],
         tree,
         next,
         wanted,
@@ -78,13 +78,13 @@ pub fn joined_pairs(
         waiting,
         stack,
     );
-    own_by_subject(triples, sizes.edges, named, earlier, first);
+    own_by_subject(triples, index, named, into);
     list_pairs(
         sizes,
         named,
         triples,
-        &earlier[..],
-        &first[..],
+        &into[..],
+        index,
         tree,
         next,
         wanted,

@@ -12,5 +12,5 @@ abbrev pub buffers : Contents → Contents → List Lent
 buffers rows heads = rows at-least rowsLength ∷ heads at-least headsLength ∷ []
 
 -- 1, 3 to 11, or the graph
-abbrev pub BuildAnswers : Text → Constructed → Contents → Contents → Contents → Contents → Type 0
-BuildAnswers pack r nodes triples rows heads = Call (refusedAs 1) (Refuses pack) (Gives pack) r (graphLists nodes triples) (buffers rows heads)
+abbrev pub BuildAnswers : Text → Constructed → Contents → Contents → Contents → Contents → Contents → Type 0
+BuildAnswers pack r nodes triples index rows heads = Call (refusedAs 1) (Refuses pack) (Gives pack) r (graphLists nodes triples index) (buffers rows heads)

@@ -13,6 +13,7 @@ use crate::outcome::say_small_graph;
 use crate::say::say_whether;
 use build::build;
 use meaning::HEADS_LENGTH;
+use meaning::INDEX_LENGTH;
 use meaning::NODE_LIST_LENGTH;
 use meaning::PAIR_LIST_LENGTH;
 use meaning::ROWS_LENGTH;
@@ -28,6 +29,8 @@ use yes_no::yes_no;
 const NODES: usize = NODE_LIST_LENGTH + 3;
 
 const TRIPLES: usize = TRIPLE_LIST_LENGTH + 3;
+
+const INDEX: usize = INDEX_LENGTH + 3;
 
 const PAIRS: usize = PAIR_LIST_LENGTH + 3;
 
@@ -57,35 +60,39 @@ fn call_build(
     pack: &[u8],
     nodes: &mut [u16],
     triples: &mut [u16],
+    index: &mut [u16],
     rows: &mut [u16],
     heads: &mut [u64],
 ) {
-    let r = build(pack, nodes, triples, rows, heads);
+    let r = build(pack, nodes, triples, index, rows, heads);
     let clash = r.clash;
     io::write_all(1, b"build:");
-    say_graph(r.refusal, nodes, r.nodes, triples, r.triples);
+    say_graph(r.refusal, nodes, r.nodes, triples, r.triples, index);
     say_buffers(
         build_buffers_are(0, rows, heads),
         build_buffers_are(FILLED, rows, heads),
     );
     say_clash(r.refusal, clash);
-    say_small_graph(nodes, r.nodes, triples, r.triples);
+    say_small_graph(nodes, r.nodes, triples, r.triples, index);
     io::write_all(1, b"\n");
 }
 
 pub fn ask_build(pack: &[u8], lending: u8) {
     let mut nodes = [165u16; NODES];
     let mut triples = [165u16; TRIPLES];
+    let mut index = [165u16; INDEX];
     let mut rows = [165u16; ROWS];
     let mut heads = [165u64; HEADS];
     let n = lent(lending, 1, NODES);
     let t = lent(lending, 2, TRIPLES);
-    let r = lent(lending, 4, ROWS);
-    let h = lent(lending, 5, HEADS);
+    let x = lent(lending, 3, INDEX);
+    let r = lent(lending, 5, ROWS);
+    let h = lent(lending, 6, HEADS);
     call_build(
         pack,
         &mut nodes[0..n],
         &mut triples[0..t],
+        &mut index[0..x],
         &mut rows[0..r],
         &mut heads[0..h],
     );
@@ -96,6 +103,7 @@ fn say_yes_no(
     answer: YesNo,
     nodes: &[u16],
     triples: &[u16],
+    index: &[u16],
     rows: &[u16],
     heads: &[u64],
     alive: &[u64],
@@ -108,7 +116,14 @@ fn say_yes_no(
     if graph.refusal == 0 {
         say_whether(answer.yes, b" yes,", b" no,");
     }
-    say_graph(graph.refusal, nodes, graph.nodes, triples, graph.triples);
+    say_graph(
+        graph.refusal,
+        nodes,
+        graph.nodes,
+        triples,
+        graph.triples,
+        index,
+    );
     say_buffers(
         yes_no_buffers_are(0, rows, heads, alive, waiting, stack),
         yes_no_buffers_are(FILLED, rows, heads, alive, waiting, stack),
@@ -123,6 +138,7 @@ fn call_yes_no(
     query: &[u8],
     nodes: &mut [u16],
     triples: &mut [u16],
+    index: &mut [u16],
     rows: &mut [u16],
     heads: &mut [u64],
     alive: &mut [u64],
@@ -134,18 +150,30 @@ fn call_yes_no(
         query,
         nodes,
         triples,
+        index,
         rows,
         heads,
         alive,
         waiting,
         stack,
     );
-    say_yes_no(answer, nodes, triples, rows, heads, alive, waiting, stack);
+    say_yes_no(
+        answer,
+        nodes,
+        triples,
+        index,
+        rows,
+        heads,
+        alive,
+        waiting,
+        stack,
+    );
 }
 
 pub fn ask_yes_no(pack: &[u8], query: &[u8], lending: u8) {
     let mut nodes = [165u16; NODES];
     let mut triples = [165u16; TRIPLES];
+    let mut index = [165u16; INDEX];
     let mut rows = [165u16; ROWS];
     let mut heads = [165u64; HEADS];
     let mut alive = [165u64; STATES];
@@ -153,16 +181,18 @@ pub fn ask_yes_no(pack: &[u8], query: &[u8], lending: u8) {
     let mut stack = [165u16; STATES];
     let n = lent(lending, 1, NODES);
     let t = lent(lending, 2, TRIPLES);
-    let r = lent(lending, 4, ROWS);
-    let h = lent(lending, 5, HEADS);
-    let a = lent(lending, 6, STATES);
-    let w = lent(lending, 7, STATES);
-    let k = lent(lending, 8, STATES);
+    let x = lent(lending, 3, INDEX);
+    let r = lent(lending, 5, ROWS);
+    let h = lent(lending, 6, HEADS);
+    let a = lent(lending, 7, STATES);
+    let w = lent(lending, 8, STATES);
+    let k = lent(lending, 9, STATES);
     call_yes_no(
         pack,
         query,
         &mut nodes[0..n],
         &mut triples[0..t],
+        &mut index[0..x],
         &mut rows[0..r],
         &mut heads[0..h],
         &mut alive[0..a],
@@ -176,6 +206,7 @@ fn say_pairs_call(
     answer: PairAnswer,
     nodes: &[u16],
     triples: &[u16],
+    index: &[u16],
     list: &[u16],
     rows: &[u16],
     heads: &[u64],
@@ -185,12 +216,20 @@ fn say_pairs_call(
     seen: &[u64],
     own_nodes: &[u16],
     own_triples: &[u16],
+    own_index: &[u16],
 ) {
     let graph = answer.graph;
     let clash = graph.clash;
     let count = answer.pairs;
     io::write_all(1, b"pairs:");
-    say_graph(graph.refusal, nodes, graph.nodes, triples, graph.triples);
+    say_graph(
+        graph.refusal,
+        nodes,
+        graph.nodes,
+        triples,
+        graph.triples,
+        index,
+    );
     say_pairs_kept(list, count);
     say_buffers(
         pairs_buffers_are(
@@ -203,6 +242,7 @@ fn say_pairs_call(
             seen,
             own_nodes,
             own_triples,
+            own_index,
         ),
         pairs_buffers_are(
             FILLED,
@@ -214,6 +254,7 @@ fn say_pairs_call(
             seen,
             own_nodes,
             own_triples,
+            own_index,
         ),
     );
     say_clash(graph.refusal, clash);
@@ -227,6 +268,7 @@ fn call_pairs(
     query: &[u8],
     nodes: &mut [u16],
     triples: &mut [u16],
+    index: &mut [u16],
     list: &mut [u16],
     rows: &mut [u16],
     heads: &mut [u64],
@@ -236,12 +278,14 @@ fn call_pairs(
     seen: &mut [u64],
     own_nodes: &mut [u16],
     own_triples: &mut [u16],
+    own_index: &mut [u16],
 ) {
     let answer = pairs(
         pack,
         query,
         nodes,
         triples,
+        index,
         list,
         rows,
         heads,
@@ -251,11 +295,13 @@ fn call_pairs(
         seen,
         own_nodes,
         own_triples,
+        own_index,
     );
     say_pairs_call(
         answer,
         nodes,
         triples,
+        index,
         list,
         rows,
         heads,
@@ -265,12 +311,14 @@ fn call_pairs(
         seen,
         own_nodes,
         own_triples,
+        own_index,
     );
 }
 
 pub fn ask_pairs(pack: &[u8], query: &[u8], lending: u8) {
     let mut nodes = [165u16; NODES];
     let mut triples = [165u16; TRIPLES];
+    let mut index = [165u16; INDEX];
     let mut list = [165u16; PAIRS];
     let mut rows = [165u16; ROWS];
     let mut heads = [165u64; HEADS];
@@ -280,22 +328,26 @@ pub fn ask_pairs(pack: &[u8], query: &[u8], lending: u8) {
     let mut seen = [165u64; SEEN];
     let mut own_nodes = [165u16; NODES];
     let mut own_triples = [165u16; TRIPLES];
+    let mut own_index = [165u16; INDEX];
     let n = lent(lending, 1, NODES);
     let t = lent(lending, 2, TRIPLES);
-    let l = lent(lending, 3, PAIRS);
-    let r = lent(lending, 4, ROWS);
-    let h = lent(lending, 5, HEADS);
-    let a = lent(lending, 6, STATES);
-    let w = lent(lending, 7, STATES);
-    let k = lent(lending, 8, STATES);
-    let s = lent(lending, 9, SEEN);
-    let p = lent(lending, 10, NODES);
-    let q = lent(lending, 11, TRIPLES);
+    let x = lent(lending, 3, INDEX);
+    let l = lent(lending, 4, PAIRS);
+    let r = lent(lending, 5, ROWS);
+    let h = lent(lending, 6, HEADS);
+    let a = lent(lending, 7, STATES);
+    let w = lent(lending, 8, STATES);
+    let k = lent(lending, 9, STATES);
+    let s = lent(lending, 10, SEEN);
+    let p = lent(lending, 11, NODES);
+    let q = lent(lending, 12, TRIPLES);
+    let y = lent(lending, 13, INDEX);
     call_pairs(
         pack,
         query,
         &mut nodes[0..n],
         &mut triples[0..t],
+        &mut index[0..x],
         &mut list[0..l],
         &mut rows[0..r],
         &mut heads[0..h],
@@ -305,5 +357,6 @@ pub fn ask_pairs(pack: &[u8], query: &[u8], lending: u8) {
         &mut seen[0..s],
         &mut own_nodes[0..p],
         &mut own_triples[0..q],
+        &mut own_index[0..y],
     );
 }

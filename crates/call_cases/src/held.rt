@@ -54,11 +54,13 @@ pub fn pairs_buffers_are(
     seen: &[u64],
     own_nodes: &[u16],
     own_triples: &[u16],
+    own_index: &[u16],
 ) -> bool {
     yes_no_buffers_are(x, rows, heads, alive, waiting, stack)
         && all_u64(x as u64, seen)
         && all_u16(x as u16, own_nodes)
         && all_u16(x as u16, own_triples)
+        && all_u16(x as u16, own_index)
 }
 
 // A count, so small that a multiple of it is a number too.
@@ -95,7 +97,7 @@ pub fn triple_end(list: &[u16], count: usize) -> usize
     within(list, 3 * small(count))
 }
 
-// Where the first pairs of a list end.
+// Where the first pairs of a list end, or the first entries of an index.
 pub fn pair_end(list: &[u16], count: usize) -> usize
     ensures { λ r. ⌜ r ≤ length (now (list .entry)) ⌝ }
 {

@@ -1,4 +1,4 @@
-// What is written of a call: the refusal, for 10 with the clash's 22 numbers, or the graph's counts and digests of both lists;
+// What is written of a call: the refusal, for 10 with the clash's 22 numbers, or the graph's counts and digests of its lists;
 // whether the lists kept what they held past the counts; what the working buffers hold; short lists in full.
 ghost use lib.ListN.{length};
 ghost use Prim.Native.Nat.{_≤_};
@@ -20,21 +20,22 @@ fn say_kept(list: &[u16], end: usize, good: &[u8], bad: &[u8])
 }
 
 // The refusal, or the graph's counts and digests of its lists.
-fn say_outcome(refusal: u8, nodes: &[u16], n: usize, triples: &[u16], t: usize) {
+fn say_outcome(refusal: u8, nodes: &[u16], n: usize, triples: &[u16], t: usize, index: &[u16]) {
     if refusal == 0 {
         say_count(b" graph", n);
         say_count(b"", t);
         io::write_all(1, b" digests");
         say_digest(&nodes[0..node_end(nodes, n)]);
         say_digest(&triples[0..triple_end(triples, t)]);
+        say_digest(&index[0..pair_end(index, n)]);
     } else {
         say_count(b" refused", refusal as usize);
     }
 }
 
 // The same, and whether the lists kept what they held past the counts.
-pub fn say_graph(refusal: u8, nodes: &[u16], n: usize, triples: &[u16], t: usize) {
-    say_outcome(refusal, nodes, n, triples, t);
+pub fn say_graph(refusal: u8, nodes: &[u16], n: usize, triples: &[u16], t: usize, index: &[u16]) {
+    say_outcome(refusal, nodes, n, triples, t, index);
     say_kept(
         nodes,
         node_end(nodes, n),
@@ -46,6 +47,12 @@ pub fn say_graph(refusal: u8, nodes: &[u16], n: usize, triples: &[u16], t: usize
         triple_end(triples, t),
         b", triples kept",
         b", triples changed",
+    );
+    say_kept(
+        index,
+        pair_end(index, n),
+        b", index kept",
+        b", index changed",
     );
 }
 
@@ -66,10 +73,11 @@ pub fn say_clash(refusal: u8, clash: [u16; 22]) {
 }
 
 // The records of a graph that has not many.
-pub fn say_small_graph(nodes: &[u16], n: usize, triples: &[u16], t: usize) {
+pub fn say_small_graph(nodes: &[u16], n: usize, triples: &[u16], t: usize, index: &[u16]) {
     if n <= 16 {
         say_records(b"node", &nodes[0..node_end(nodes, n)], 7);
         say_records(b"triple", &triples[0..triple_end(triples, t)], 3);
+        say_records(b"index", &index[0..pair_end(index, n)], 2);
     }
 }
 

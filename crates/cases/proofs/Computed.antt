@@ -33,12 +33,14 @@ use Rattle.cases.specs.Says.{
   spell,
   spelled,
 }
+use Rattle.cases.proofs.SubjectIndex.{index-computed, indexOf}
 use Rattle.construct.proofs.Accepted.{accepted-formed, none-obey, some-obeys}
 use Rattle.construct.specs.Outcome.{Gives, Refuses, counted, mixed-kinds, not-accepted, refusedAs, two-objects}
 use Rattle.construct.specs.declared.Constructed.{Constructed}
 use Rattle.grammar.proofs.Agree.{reading}
 use Rattle.grammar.specs.Grammar.{IsQuery}
 use Rattle.grammar.specs.Parse.{expressionOf}
+use Rattle.graph.specs.Fronts.{GraphListed}
 use Rattle.iris.specs.Read.{iriRead}
 use Rattle.meaning.proofs.Computed.Certain.{graph-there, pairRecords, pairs-listed, walkBuilt, yes-computed-certain}
 use Rattle.meaning.proofs.Computed.Evaluate.{answersYes}
@@ -148,8 +150,24 @@ module _ (s : Text) (P : Pack) (x : Passes s P) where
   abbrev answered : Constructed
   answered = counted (length (nodeRecords P)) (length (tripleRecords P))
 
+  abbrev entries : List (List ℕ)
+  entries = indexOf (length (nodeRecords P)) (tripleRecords P)
+
   abbrev fronts : List (List ℕ)
-  fronts = flatten (nodeRecords P) ∷ flatten (tripleRecords P) ∷ []
+  fronts = flatten (nodeRecords P) ∷ flatten (tripleRecords P) ∷ flatten entries ∷ []
+
+  abbrev in-lists : GraphListed P (length (nodeRecords P)) (length (tripleRecords P)) (flatten (nodeRecords P)) (flatten (tripleRecords P))
+  in-lists = record {
+    node-records = nodeRecords P;
+    triple-records = tripleRecords P;
+    lists = graph-listed P (wf s P (x .is));
+    node-count = refl;
+    triple-count = refl;
+    few-nodes = x .few-nodes;
+    few-triples = x .few-triples;
+    nodes-are = refl;
+    triples-are = refl;
+  }
 
   abbrev the-graph : Gives s answered fronts
   the-graph = record {
@@ -158,16 +176,7 @@ module _ (s : Text) (P : Pack) (x : Passes s P) where
       is = x .is;
       small = not-large P (wf s P (x .is)) (x .small);
       obeyed = some-obeys (formed s P (x .is)) (graph-there (plain P) (plain? P) P (formed s P (x .is) .named) (distinct s P (x .is)) (x .not-10) (x .not-11));
-      graph = record {
-        node-records = nodeRecords P;
-        triple-records = tripleRecords P;
-        lists = graph-listed P (wf s P (x .is));
-        node-count = refl;
-        triple-count = refl;
-        few-nodes = x .few-nodes;
-        few-triples = x .few-triples;
-        fronts-are = refl;
-      };
+      graph = record { nodes = _; triples = _; listed = in-lists; entries = entries; indexed = index-computed in-lists; fronts-are = refl };
     };
     counts = refl;
   }
@@ -221,7 +230,7 @@ module _ (s : Text) (c : Call) (says : Refused s c) where
 -- ---- the calls
 
 build-right : (s : Text) → Right s build (run build s)
-build-right s = with-graph s build (λ r x. build-refused x) listed λ P x. build-gives (the-graph s P x) refl refl
+build-right s = with-graph s build (λ r x. build-refused x) listed λ P x. build-gives (the-graph s P x) refl refl refl
 
 ask-right : (q s : Text) → Right s (ask q) (run (ask q) s)
 ask-right q s = go (expressionOf q) refl

@@ -3,4 +3,5 @@ pub mod Computed
 pub mod Encode
 pub mod Once
 pub mod Run
+pub mod SubjectIndex
 pub mod Table

@@ -25,7 +25,7 @@ use Rattle.cases.specs.Says.{
   spelled,
   term,
 }
-use Rattle.construct.proofs.Once.{not-given, one-records, one-refusal}
+use Rattle.construct.proofs.Once.{not-given, one-index, one-records, one-refusal}
 use Rattle.meaning.proofs.Lists.Places.{inside}
 use Rattle.meaning.specs.Limits.{unused}
 use Rattle.meaning.specs.Pack.{Text}
@@ -65,13 +65,14 @@ says-once (is-refused e) (is-fine f) = not-both e f
 says-once (is-fine e) (is-refused f) = not-both f e
 says-once (is-fine e) (is-fine f) = refl
 says-once (build-refused x) (build-refused y) = ap refuses (one-refusal x y)
-says-once (build-refused x) (build-gives G n t) = absurd (not-given x G)
-says-once (build-gives G n t) (build-refused y) = absurd (not-given y G)
-says-once (build-gives G n t) (build-gives H m u) =
+says-once (build-refused x) (build-gives G n t e) = absurd (not-given x G)
+says-once (build-gives G n t e) (build-refused y) = absurd (not-given y G)
+says-once (build-gives G n t e) (build-gives H m u f) =
     let l = one-records G H in
     let ns = sym n ∙ l .0 ∙ m in
     let ts = sym t ∙ l .1 ∙ u in
-    λ i. graph (ns i) (ts i)
+    let es = sym e ∙ one-index G H ∙ f in
+    λ i. graph (ns i) (ts i) (es i)
 says-once (ask-refused {q} x e z d) (ask-refused y f w c) = ap refuses (sym e ∙ ap (λ (a : YesNo). a .graph) (yes_no.fixed _ q .one-refusal x y) ∙ f)
 says-once (ask-refused {q} x e z d) (ask-gives Y f H u) = absurd (yes_no.fixed _ q .not-both x Y)
 says-once (ask-gives {q} X e G t) (ask-refused y f w c) = absurd (yes_no.fixed _ q .not-both y X)

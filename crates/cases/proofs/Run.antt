@@ -6,6 +6,7 @@ use mathlib.Core.Bool.{Bool, true, false, _&&_}
 use mathlib.Core.List.{List}
 use mathlib.Core.Option.{Option, none, some}
 use Prim.Native.Nat.{ℕ}
+use Rattle.cases.proofs.SubjectIndex.{indexOf}
 use Rattle.cases.specs.Says.{Call, Outcome, answer, ask, build, check, fine, graph, iri, read, refused, refuses, spell, term}
 use Rattle.construct.specs.Outcome.{clashing, refusedAs}
 use Rattle.construct.specs.declared.Constructed.{Constructed}
@@ -82,7 +83,7 @@ abbrev pub graphOf : Text → (Pack → Option Outcome) → Option Outcome
 graphOf s f = onPack refusesAs (firstRefusal s) (withGraph f)
 
 abbrev pub listed : Pack → Option Outcome
-listed P = some (graph (nodeRecords P) (tripleRecords P))
+listed P = some (graph (nodeRecords P) (tripleRecords P) (indexOf (length (nodeRecords P)) (tripleRecords P)))
 
 abbrev pub asked : Expr → Pack → Option Outcome
 asked e P =

@@ -2,7 +2,7 @@
 -- Assumes nothing.
 use lib.ListN.{replicate, set, take}
 use mathlib.Core.Bool.{true, false}
-use mathlib.Core.List.{List, [], _∷_, _++_, map}
+use mathlib.Core.List.{List, [], _∷_, _++_, flatten, map}
 use mathlib.Core.Option.{some}
 use mathlib.Core.Path.{_≡_, refl}
 use Prim.Native.Nat.{ℕ}
@@ -133,14 +133,18 @@ sampleNodes = iriNode₁ 0 1 0 ∷ plainNode 1 1 0 ∷ plainNode 2 0 0 ∷ plain
 abbrev sampleTriples : List (List ℕ)
 sampleTriples = (0 ∷ 0 ∷ 1 ∷ []) ∷ (0 ∷ 1 ∷ 4 ∷ []) ∷ (3 ∷ 0 ∷ 2 ∷ []) ∷ (3 ∷ 1 ∷ 4 ∷ []) ∷ (4 ∷ 2 ∷ 3 ∷ []) ∷ []
 
+-- card 13's list
+abbrev sampleIndex : List (List ℕ)
+sampleIndex = (0 ∷ 2 ∷ []) ∷ (0 ∷ 0 ∷ []) ∷ (0 ∷ 0 ∷ []) ∷ (2 ∷ 2 ∷ []) ∷ (4 ∷ 1 ∷ []) ∷ []
+
 abbrev pub cases : List Case
 cases =
     -- P: "36 zero bytes build an empty graph, and `()` is no."
-    case (replicate 36 0) build (graph [] []) ∷
+    case (replicate 36 0) build (graph [] [] []) ∷
     case (replicate 36 0) (query "()") (answer false []) ∷
     -- P: "the sample's graph; its row twice, same graph."
-    of sample build (graph sampleNodes sampleTriples) ∷
-    of rowTwice build (graph sampleNodes sampleTriples) ∷
+    of sample build (graph sampleNodes sampleTriples sampleIndex) ∷
+    of rowTwice build (graph sampleNodes sampleTriples sampleIndex) ∷
     -- P: "`family/lead/name` is yes with 0 pairs."
     of sample (query "family/lead/name") (answer true []) ∷
     -- P: "`(family/lead)*` lists (0,0) and (1,1)."
@@ -228,7 +232,7 @@ cases =
 computed : map (λ (c : Case). run (c .call) (c .pack)) cases ≡ map (λ (c : Case). some (c .outcome)) cases
 unfolding checking encode smallCore isTerm firstClash nodeNumbers mixedKinds? nodeRecords tripleRecords shapeOf walkBuilt answersYes pairRecords
     plain? spellingBy iriBy slashed joined unreserved hexDigit spelledByte segment split findBy findAllBy argumentsBy readFromBy readBackBy expressionOf
-    whole parse unionBy sequenceBy stepBy atomAt readAtom leaf name label closed withStars parts joinedParts readRun stars
+    whole parse unionBy sequenceBy stepBy atomAt readAtom leaf name label closed withStars parts joinedParts readRun stars flatten
 computed = refl
 
 -- Each case says what is so.

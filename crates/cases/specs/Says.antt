@@ -27,7 +27,7 @@ pub data Outcome : Type 0 where
   refused : ℕ → Outcome  -- by a check, or by read-back: the number
   refuses : Constructed → Outcome  -- all that a refusal answers, the clash of 10 too
   fine : Outcome  -- none of 3 to 8
-  graph : List (List ℕ) → List (List ℕ) → Outcome  -- its node records and its triple records
+  graph : List (List ℕ) → List (List ℕ) → List (List ℕ) → Outcome  -- its node records, its triple records and its index of subjects
   answer : Bool → List (List ℕ) → Outcome  -- yes or no, and the pair records
   term : List ℕ → Outcome  -- the constructor number and the four places
   iri : Text → Outcome
@@ -38,9 +38,10 @@ pub data Says (pack : Text) : Call → Outcome → Type 0 where
   is-fine : {P : Pack} → firstRefusal pack ≡ accepted P → Says pack check fine
   -- "A refusal gives its number": the first of 3 to 11, 10 with the first clash
   build-refused : {r : Constructed} → Graph.Refuses pack r → Says pack build (refuses r)
-  -- "Build turns a pack into a graph": these are its records, and their numbers stand in the two lists
-  build-gives : {r : Constructed} {nodes triples : List (List ℕ)} → (G : Graph.Gives pack r (flatten nodes ∷ flatten triples ∷ []))
-      → G .has .graph .node-records ≡ nodes → G .has .graph .triple-records ≡ triples → Says pack build (graph nodes triples)
+  -- "Build turns a pack into a graph": these are its records and their index, and their numbers stand in the lists
+  build-gives : {r : Constructed} {nodes triples index : List (List ℕ)} → (G : Graph.Gives pack r (flatten nodes ∷ flatten triples ∷ flatten index ∷ []))
+      → G .has .graph .listed .node-records ≡ nodes → G .has .graph .listed .triple-records ≡ triples → G .has .graph .entries ≡ index
+      → Says pack build (graph nodes triples index)
   -- "yes/no adds 2, pairs adds 12": both refuse, alike
   ask-refused : {q : Text} {y : answers.YesNo} {p : PairAnswer} {r : Constructed} → YesNo.Refuses pack q y → y .graph ≡ r
       → Pairs.Refuses pack q p → p .graph ≡ r → Says pack (ask q) (refuses r)

@@ -7,6 +7,7 @@ use crate::input::query_length;
 use crate::input::read_pack;
 use crate::spelled::say_pairs;
 use meaning::HEADS_LENGTH;
+use meaning::INDEX_LENGTH;
 use meaning::MAX_PACK_BYTES;
 use meaning::MAX_QUERY_BYTES;
 use meaning::NODE_LIST_LENGTH;
@@ -40,6 +41,7 @@ fn say_answer(yes: bool, count: usize) {
 fn answer(pack: &[u8], query: &[u8]) {
     let mut nodes = [0u16; NODE_LIST_LENGTH];
     let mut triples = [0u16; TRIPLE_LIST_LENGTH];
+    let mut index = [0u16; INDEX_LENGTH];
     let mut rows = [0u16; ROWS_LENGTH];
     let mut heads = [0u64; HEADS_LENGTH];
     let mut alive = [0u64; STATE_WORDS];
@@ -50,6 +52,7 @@ fn answer(pack: &[u8], query: &[u8]) {
         query,
         &mut nodes,
         &mut triples,
+        &mut index,
         &mut rows,
         &mut heads,
         &mut alive,
@@ -64,11 +67,13 @@ fn answer(pack: &[u8], query: &[u8]) {
     let mut seen = [0u64; SEEN_WORDS];
     let mut own_nodes = [0u16; NODE_LIST_LENGTH];
     let mut own_triples = [0u16; TRIPLE_LIST_LENGTH];
+    let mut own_index = [0u16; INDEX_LENGTH];
     let second = pairs(
         pack,
         query,
         &mut nodes,
         &mut triples,
+        &mut index,
         &mut list,
         &mut rows,
         &mut heads,
@@ -78,6 +83,7 @@ fn answer(pack: &[u8], query: &[u8]) {
         &mut seen,
         &mut own_nodes,
         &mut own_triples,
+        &mut own_index,
     );
     if second.graph.refusal != 0 {
         say_refused(second.graph.refusal);

@@ -38,7 +38,7 @@ module _ {pack : Text} {r : Constructed} where
   refused-small (mixed-kinds P a l n t m q) = subst Counts (sym q) (zero-small, zero-small)
 
   given-small : {fronts : List (List ℕ)} → Gives pack r fronts → Counts r
-  given-small G = let n = G .has .graph .few-nodes in let t = G .has .graph .few-triples in (omega arith, omega arith)
+  given-small G = let n = G .has .graph .listed .few-nodes in let t = G .has .graph .listed .few-triples in (omega arith, omega arith)
 
 unprepared-small : {pack query : Text} {g : Constructed} → Prepared.Refuses pack query g → Counts g
 unprepared-small (Prepared.no-query f q) = subst Counts (sym q) (zero-small, zero-small)
@@ -66,7 +66,7 @@ module _ {pack query : Text} {r : PairAnswer} where
   given-pairs fronts G =
       let (a, b) = given-small (G .asked .graph) in
       let P = G .asked .graph .of in
-      let l = G .asked .graph .has .graph .lists in
+      let l = G .asked .graph .has .graph .listed .lists in
       let h = few-pairs (plain P) P (G .asked .expression) (l .inOrder) (l .ordered) (G .records) (G .certain) (G .few) in
       (a, b, omega (arith, G .count))
 

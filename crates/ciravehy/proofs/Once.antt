@@ -33,45 +33,48 @@ same-report e d q p u v = (q ∙ ap (λ (x : Constructed). x .refusal) e ∙ sym
 
 -- ---- the calls
 
-module _ (pack : Text) (nodes nodes₂ triples triples₂ rows rows₂ heads heads₂ : Contents) {result result₂ : ℕ} {report report₂ : List ℕ} where
-  pub builds-once : SameLengths (graphLists nodes triples) (graphLists nodes₂ triples₂) → SameLengths (Build.buffers rows heads) (Build.buffers rows₂ heads₂)
-      → (x : Builds pack result nodes triples rows heads report) (y : Builds pack result₂ nodes₂ triples₂ rows₂ heads₂ report₂)
+module _ (pack : Text) (nodes nodes₂ triples triples₂ index index₂ rows rows₂ heads heads₂ : Contents) {result result₂ : ℕ} {report report₂ : List ℕ} where
+  pub builds-once : SameLengths (graphLists nodes triples index) (graphLists nodes₂ triples₂ index₂) → SameLengths (Build.buffers rows heads) (Build.buffers rows₂ heads₂)
+      → (x : Builds pack result nodes triples index rows heads report) (y : Builds pack result₂ nodes₂ triples₂ index₂ rows₂ heads₂ report₂)
       → SameReport result result₂ report report₂
-      × Same (Graph.Refuses pack) (Graph.Gives pack) (x .answer) (y .answer) (graphLists nodes triples) (graphLists nodes₂ triples₂) (Build.buffers rows heads) (Build.buffers rows₂ heads₂)
+      × Same (Graph.Refuses pack) (Graph.Gives pack) (x .answer) (y .answer) (graphLists nodes triples index) (graphLists nodes₂ triples₂ index₂)
+      (Build.buffers rows heads) (Build.buffers rows₂ heads₂)
   builds-once e f x y =
-      let s = build.answers-once pack (x .answer) (y .answer) nodes nodes₂ triples triples₂ rows rows₂ heads heads₂ e f (x .answers) (y .answers) in
+      let s = build.answers-once pack (x .answer) (y .answer) nodes nodes₂ triples triples₂ index index₂ rows rows₂ heads heads₂ e f (x .answers) (y .answers) in
       (same-report (s .answer) refl (x .refusal) (y .refusal) (x .report) (y .report), s)
 
 module _ (pack query : Text)
-    (nodes nodes₂ triples triples₂ rows rows₂ heads heads₂ alive alive₂ waiting waiting₂ stack stack₂ : Contents) {result result₂ : ℕ} {report report₂ : List ℕ} where
-  pub decides-once : SameLengths (graphLists nodes triples) (graphLists nodes₂ triples₂)
+    (nodes nodes₂ triples triples₂ index index₂ rows rows₂ heads heads₂ alive alive₂ waiting waiting₂ stack stack₂ : Contents)
+    {result result₂ : ℕ} {report report₂ : List ℕ} where
+  pub decides-once : SameLengths (graphLists nodes triples index) (graphLists nodes₂ triples₂ index₂)
       → SameLengths (YesOrNo.buffers rows heads alive waiting stack) (YesOrNo.buffers rows₂ heads₂ alive₂ waiting₂ stack₂)
-      → (x : Decides pack query result nodes triples rows heads alive waiting stack report)
-      (y : Decides pack query result₂ nodes₂ triples₂ rows₂ heads₂ alive₂ waiting₂ stack₂ report₂)
+      → (x : Decides pack query result nodes triples index rows heads alive waiting stack report)
+      (y : Decides pack query result₂ nodes₂ triples₂ index₂ rows₂ heads₂ alive₂ waiting₂ stack₂ report₂)
       → SameReport result result₂ report report₂
-      × Same (YesOrNo.Refuses pack query) (YesOrNo.Gives pack query) (x .answer) (y .answer) (graphLists nodes triples) (graphLists nodes₂ triples₂)
+      × Same (YesOrNo.Refuses pack query) (YesOrNo.Gives pack query) (x .answer) (y .answer) (graphLists nodes triples index) (graphLists nodes₂ triples₂ index₂)
       (YesOrNo.buffers rows heads alive waiting stack) (YesOrNo.buffers rows₂ heads₂ alive₂ waiting₂ stack₂)
   decides-once e f x y =
       let s = yes-no.answers-once pack query (x .answer)
-      (y .answer) nodes nodes₂ triples triples₂ rows rows₂ heads heads₂ alive alive₂ waiting waiting₂ stack stack₂ e f (x .answers) (y .answers) in
+      (y .answer) nodes nodes₂ triples triples₂ index index₂ rows rows₂ heads heads₂ alive alive₂ waiting waiting₂ stack stack₂ e f (x .answers) (y .answers) in
       (same-report (ap (λ (a : YesNo). a .graph) (s .answer)) (ap (λ (a : YesNo). number (a .yes)) (s .answer)) (x .refusal) (y .refusal) (x .report) (y .report), s)
 
 module _ (pack query : Text)
-    (nodes nodes₂ triples triples₂ list list₂ rows rows₂ heads heads₂ alive alive₂
-    waiting waiting₂ stack stack₂ seen seen₂ own-nodes own-nodes₂ own-triples own-triples₂ : Contents)
+    (nodes nodes₂ triples triples₂ index index₂ list list₂ rows rows₂ heads heads₂ alive alive₂
+    waiting waiting₂ stack stack₂ seen seen₂ own-nodes own-nodes₂ own-triples own-triples₂ own-index own-index₂ : Contents)
     {result result₂ : ℕ} {report report₂ : List ℕ} where
-  pub finds-once : SameLengths (Pairs.lists nodes triples list) (Pairs.lists nodes₂ triples₂ list₂)
-      → SameLengths (Pairs.buffers rows heads alive waiting stack seen own-nodes own-triples) (Pairs.buffers rows₂ heads₂ alive₂ waiting₂ stack₂ seen₂ own-nodes₂ own-triples₂)
-      → (x : Finds pack query result nodes triples list rows heads alive waiting stack seen own-nodes own-triples report)
-      (y : Finds pack query result₂ nodes₂ triples₂ list₂ rows₂ heads₂ alive₂ waiting₂ stack₂ seen₂ own-nodes₂ own-triples₂ report₂)
+  pub finds-once : SameLengths (Pairs.lists nodes triples index list) (Pairs.lists nodes₂ triples₂ index₂ list₂)
+      → SameLengths (Pairs.buffers rows heads alive waiting stack seen own-nodes own-triples own-index)
+      (Pairs.buffers rows₂ heads₂ alive₂ waiting₂ stack₂ seen₂ own-nodes₂ own-triples₂ own-index₂)
+      → (x : Finds pack query result nodes triples index list rows heads alive waiting stack seen own-nodes own-triples own-index report)
+      (y : Finds pack query result₂ nodes₂ triples₂ index₂ list₂ rows₂ heads₂ alive₂ waiting₂ stack₂ seen₂ own-nodes₂ own-triples₂ own-index₂ report₂)
       → SameReport result result₂ report report₂
-      × Same (Pairs.Refuses pack query) (Pairs.Gives pack query) (x .answer) (y .answer) (Pairs.lists nodes triples list)
-      (Pairs.lists nodes₂ triples₂ list₂) (Pairs.buffers rows heads alive waiting stack seen own-nodes own-triples)
-      (Pairs.buffers rows₂ heads₂ alive₂ waiting₂ stack₂ seen₂ own-nodes₂ own-triples₂)
+      × Same (Pairs.Refuses pack query) (Pairs.Gives pack query) (x .answer) (y .answer) (Pairs.lists nodes triples index list)
+      (Pairs.lists nodes₂ triples₂ index₂ list₂) (Pairs.buffers rows heads alive waiting stack seen own-nodes own-triples own-index)
+      (Pairs.buffers rows₂ heads₂ alive₂ waiting₂ stack₂ seen₂ own-nodes₂ own-triples₂ own-index₂)
   finds-once e f x y =
       let s =
-      pairs.answers-once pack query (x .answer) (y .answer) nodes nodes₂ triples triples₂ list list₂ rows rows₂ heads heads₂ alive alive₂ waiting waiting₂ stack stack₂
-      seen seen₂ own-nodes own-nodes₂ own-triples own-triples₂ e f (x .answers) (y .answers) in
+      pairs.answers-once pack query (x .answer) (y .answer) nodes nodes₂ triples triples₂ index index₂ list list₂ rows rows₂ heads heads₂ alive alive₂ waiting waiting₂ stack stack₂
+      seen seen₂ own-nodes own-nodes₂ own-triples own-triples₂ own-index own-index₂ e f (x .answers) (y .answers) in
       (same-report (ap (λ (a : PairAnswer). a .graph) (s .answer)) (ap (λ (a : PairAnswer). a .pairs) (s .answer)) (x .refusal) (y .refusal) (x .report) (y .report), s)
 
 pub reads-once : {pack text : Text} {result result₂ : ℕ} {report report₂ : List ℕ} → Reads pack text result report → Reads pack text result₂ report₂

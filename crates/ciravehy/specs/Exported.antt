@@ -16,23 +16,23 @@ use Rattle.yes_no.specs.Answer as YesOrNo
 use Rattle.yes_no.specs.declared.YesNo.{YesNo}
 
 -- Build: "Build reports both counts."
-pub record Builds (pack : Text) (result : ℕ) (nodes triples rows heads : Contents) (report′ : List ℕ) : Type 0 where
+pub record Builds (pack : Text) (result : ℕ) (nodes triples index rows heads : Contents) (report′ : List ℕ) : Type 0 where
   pub answer : Constructed
-  pub answers : Build.BuildAnswers pack answer nodes triples rows heads
+  pub answers : Build.BuildAnswers pack answer nodes triples index rows heads
   pub refusal : result ≡ answer .refusal
   pub report : report′ ≡ reported (answer .nodes) (answer .triples) 0 (answer .clash)
 
 -- Yes/no: the answer's number is 1 for yes, 0 for no.
-pub record Decides (pack query : Text) (result : ℕ) (nodes triples rows heads alive waiting stack : Contents) (report′ : List ℕ) : Type 0 where
+pub record Decides (pack query : Text) (result : ℕ) (nodes triples index rows heads alive waiting stack : Contents) (report′ : List ℕ) : Type 0 where
   pub answer : YesNo
-  pub answers : YesOrNo.YesNoAnswers pack query answer nodes triples rows heads alive waiting stack
+  pub answers : YesOrNo.YesNoAnswers pack query answer nodes triples index rows heads alive waiting stack
   pub refusal : result ≡ answer .graph .refusal
   pub report : report′ ≡ reported (answer .graph .nodes) (answer .graph .triples) (number (answer .yes)) (answer .graph .clash)
 
 -- Pairs: the answer's number is the pair count.
-pub record Finds (pack query : Text) (result : ℕ) (nodes triples pairs rows heads alive waiting stack seen own-nodes own-triples : Contents) (report′ : List ℕ) : Type 0 where
+pub record Finds (pack query : Text) (result : ℕ) (nodes triples index pairs rows heads alive waiting stack seen own-nodes own-triples own-index : Contents) (report′ : List ℕ) : Type 0 where
   pub answer : PairAnswer
-  pub answers : Pairs.PairsAnswers pack query answer nodes triples pairs rows heads alive waiting stack seen own-nodes own-triples
+  pub answers : Pairs.PairsAnswers pack query answer nodes triples index pairs rows heads alive waiting stack seen own-nodes own-triples own-index
   pub refusal : result ≡ answer .graph .refusal
   pub report : report′ ≡ reported (answer .graph .nodes) (answer .graph .triples) (answer .pairs) (answer .graph .clash)
 

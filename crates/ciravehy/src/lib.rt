@@ -17,13 +17,14 @@ pub extern "C" fn ciravehy_build(
     pack: &[u8],
     nodes: &mut [u16],
     triples: &mut [u16],
+    index: &mut [u16],
     rows: &mut [u16],
     heads: &mut [u64],
     report: &mut [u16; REPORT_LENGTH],
 ) -> u8
-    ensures { λ r. ⌜ Builds (now (pack .entry)) r (lent nodes) (lent triples) (lent rows) (lent heads) (now (report .exit)) ⌝ }
+    ensures { λ r. ⌜ Builds (now (pack .entry)) r (lent nodes) (lent triples) (lent index) (lent rows) (lent heads) (now (report .exit)) ⌝ }
 {
-    let built = build(pack, nodes, triples, rows, heads);
+    let built = build(pack, nodes, triples, index, rows, heads);
     let clash = built.clash;
     *report = numbers(built.nodes, built.triples, 0, clash);
     built.refusal
@@ -36,6 +37,7 @@ pub extern "C" fn ciravehy_yes_no(
     query: &[u8],
     nodes: &mut [u16],
     triples: &mut [u16],
+    index: &mut [u16],
     rows: &mut [u16],
     heads: &mut [u64],
     alive: &mut [u64],
@@ -43,7 +45,7 @@ pub extern "C" fn ciravehy_yes_no(
     stack: &mut [u16],
     report: &mut [u16; REPORT_LENGTH],
 ) -> u8
-    ensures { λ r. ⌜ Decides (now (pack .entry)) (now (query .entry)) r (lent nodes) (lent triples) (lent rows) (lent heads) (lent alive)
+    ensures { λ r. ⌜ Decides (now (pack .entry)) (now (query .entry)) r (lent nodes) (lent triples) (lent index) (lent rows) (lent heads) (lent alive)
         (lent waiting) (lent stack) (now (report .exit)) ⌝ }
 {
     let decided = yes_no(
@@ -51,6 +53,7 @@ pub extern "C" fn ciravehy_yes_no(
         query,
         nodes,
         triples,
+        index,
         rows,
         heads,
         alive,
@@ -70,6 +73,7 @@ pub extern "C" fn ciravehy_pairs(
     query: &[u8],
     nodes: &mut [u16],
     triples: &mut [u16],
+    index: &mut [u16],
     pairs: &mut [u16],
     rows: &mut [u16],
     heads: &mut [u64],
@@ -79,16 +83,18 @@ pub extern "C" fn ciravehy_pairs(
     seen: &mut [u64],
     own_nodes: &mut [u16],
     own_triples: &mut [u16],
+    own_index: &mut [u16],
     report: &mut [u16; REPORT_LENGTH],
 ) -> u8
-    ensures { λ r. ⌜ Finds (now (pack .entry)) (now (query .entry)) r (lent nodes) (lent triples) (lent pairs) (lent rows) (lent heads) (lent alive)
-        (lent waiting) (lent stack) (lent seen) (lent «own_nodes») (lent «own_triples») (now (report .exit)) ⌝ }
+    ensures { λ r. ⌜ Finds (now (pack .entry)) (now (query .entry)) r (lent nodes) (lent triples) (lent index) (lent pairs) (lent rows) (lent heads) (lent alive)
+        (lent waiting) (lent stack) (lent seen) (lent «own_nodes») (lent «own_triples») (lent «own_index») (now (report .exit)) ⌝ }
 {
     let found = find_pairs(
         pack,
         query,
         nodes,
         triples,
+        index,
         pairs,
         rows,
         heads,
@@ -98,6 +104,7 @@ pub extern "C" fn ciravehy_pairs(
         seen,
         own_nodes,
         own_triples,
+        own_index,
     );
     let constructed = found.graph;
     let clash = constructed.clash;

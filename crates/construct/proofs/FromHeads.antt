@@ -9,6 +9,7 @@ use mathlib.Core.Logic.{inl}
 use mathlib.Core.Path.{_≡_, sym, subst}
 use native.Mathlib.Omega.{arith}
 use Prim.Native.Nat.{ℕ, _≤_}
+use Rattle.calls.specs.Call.{Contents, Kept}
 use Rattle.construct.specs.Outcome.{refusedAs}
 use Rattle.construct.specs.Steps.{CoreGiven, FromCore, FromHeads, HeadsGiven, HeadsOf, OfCore, OfHeads, large, small}
 use Rattle.construct.specs.declared.Constructed.{Constructed}
@@ -22,6 +23,7 @@ use Rattle.core.specs.Outcomes.{CoreAnswer, CoreListed}
 use Rattle.core.specs.declared.Outcome.the-variants.{Held, TooLarge}
 use Rattle.core.specs.declared.Outcome.{Outcome}
 use Rattle.core_lists.specs.Input.{Input}
+use Rattle.graph.specs.Fronts.{graphLists}
 use Rattle.node_list.specs.Records.{Arities}
 use Rattle.meaning.specs.Limits.{firstLiteral, headsLength, maxCoreNodes, maxCoreTriples, maxIris}
 use Rattle.meaning.specs.NoGraph.{CoreIri}
@@ -73,10 +75,10 @@ module _ {counts numbers : List ℕ} {found : AllHeads} {heads : List ℕ} where
 module _ {counts numbers : List ℕ} {found : AllHeads} {heads : List ℕ} {table rules : List (List ℕ)} {nodes triples masks : List ℕ} {r : Outcome}
     (k : Cored counts numbers found heads table rules nodes triples masks r) where
   -- 9
-  pub large-answer : {out out′ edges edges′ : List ℕ} {a : Constructed} → r ≡ TooLarge → a ≡ refusedAs 9 → out′ ≡ out → edges′ ≡ edges
-      → OfHeads counts numbers found heads (λ P. FromHeads P a out out′ edges edges′)
-  large-answer e q x y P g =
-      large (subst (λ (o : Outcome). CoreAnswer o table rules (found .count) heads (found .counts) nodes triples masks) e (k .answer) P (heads-held (k .tables) g) (within g)) q x y
+  pub large-answer : {a : Constructed} {out edges index : Contents} → r ≡ TooLarge → a ≡ refusedAs 9 → Kept (graphLists out edges index)
+      → OfHeads counts numbers found heads (λ P. FromHeads P a out edges index)
+  large-answer e q x P g =
+      large (subst (λ (o : Outcome). CoreAnswer o table rules (found .count) heads (found .counts) nodes triples masks) e (k .answer) P (heads-held (k .tables) g) (within g)) q x
 
   module _ {n t rounds : ℕ} (e : r ≡ Held n t rounds) where
     listed : CoreListed n t rounds table rules (found .count) heads (found .counts) nodes triples masks
@@ -120,7 +122,6 @@ module _ {counts numbers : List ℕ} {found : AllHeads} {heads : List ℕ} {tabl
       pub core-given : HeadsGiven counts numbers found heads → CoreGiven table arities (take n nodes) (take t triples) masks
       core-given g = record { pack = g .pack; input = input (g .is); arity = are (g .pack) (g .is .given) }
 
-      pub small-answer : {out out′ edges edges′ : List ℕ} {a : Constructed}
-          → OfCore table arities (take n nodes) (take t triples) masks (λ P. FromCore P a out out′ edges edges′)
-          → OfHeads counts numbers found heads (λ P. FromHeads P a out out′ edges edges′)
+      pub small-answer : {a : Constructed} {out edges index : Contents} → OfCore table arities (take n nodes) (take t triples) masks (λ P. FromCore P a out edges index)
+          → OfHeads counts numbers found heads (λ P. FromHeads P a out edges index)
       small-answer o P g = small (listed .within P (heads-held (k .tables) g) (within g)) (o P (input g) (are P (g .given)))

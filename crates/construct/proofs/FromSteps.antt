@@ -9,10 +9,11 @@ use Rattle.checks.specs.Checked.{Accepted, CheckedAs, SettingLoaded}
 use Rattle.checks.specs.declared.Checked.{Checked}
 use Rattle.pack.proofs.Accepted.{WellFormed, keeps-dependencies, refused-8, refused-before, well-formed}
 use Rattle.construct.proofs.Accepted.{Accepts, none-obey, some-obeys}
-use Rattle.calls.specs.Call.{gives, refuses, _becomes_}
+use Rattle.calls.specs.Call.{Contents, Kept, gives, refuses}
 use Rattle.construct.specs.Outcome.{Constructs, Gives, HasGraph, counted, mixed-kinds, not-accepted, refusedAs, too-large, two-objects}
 use Rattle.construct.specs.Steps.{FromCore, FromHeads, FromRows, clash, dependency, graph, kept, large, mixed, small}
 use Rattle.construct.specs.declared.Constructed.{Constructed}
+use Rattle.graph.specs.Fronts.{graphLists}
 use Rattle.meaning.specs.NoGraph.{TooLarge}
 use Rattle.meaning.specs.Pack.{Pack, Text}
 use Rattle.meaning.specs.WellFormed.{broken}
@@ -54,47 +55,46 @@ module _ {pack : Text} {r : Constructed} where
             ∙ (λ i. counted (sym q i .nodes) (sym q i .triples));
       }
 
-module _ {pack : Text} {r : Constructed} {nodes nodes′ triples triples′ : List ℕ} where
+module _ {pack : Text} {r : Constructed} {nodes triples index : Contents} where
   -- 3 to 8
-  refused-answer : (k : ℕ) → k ≡ numberOf (firstRefusal pack) → (k ≡ 0 → ⊥) → r ≡ refusedAs k → nodes′ ≡ nodes → triples′ ≡ triples
-      → Constructs pack r (nodes becomes nodes′) (triples becomes triples′)
-  refused-answer k e n h x y = go (firstRefusal pack) refl e
+  refused-answer : (k : ℕ) → k ≡ numberOf (firstRefusal pack) → (k ≡ 0 → ⊥) → r ≡ refusedAs k → Kept (graphLists nodes triples index)
+      → Constructs pack r nodes triples index
+  refused-answer k e n h x = go (firstRefusal pack) refl e
     where
-      go : (c : Found) → firstRefusal pack ≡ c → k ≡ numberOf c → Constructs pack r (nodes becomes nodes′) (triples becomes triples′)
-      go (refused m) w q = refuses (not-accepted m w (h ∙ ap refusedAs q)) (x, (y, tt))
+      go : (c : Found) → firstRefusal pack ≡ c → k ≡ numberOf c → Constructs pack r nodes triples index
+      go (refused m) w q = refuses (not-accepted m w (h ∙ ap refusedAs q)) x
       go (accepted P) w q = absurd (n q)
 
   module _ (a : Accepts pack) where
     -- 9
-    large-heads : TooLarge (a .pack) → r ≡ refusedAs 9 → nodes′ ≡ nodes → triples′ ≡ triples → Constructs pack r (nodes becomes nodes′) (triples becomes triples′)
-    large-heads h q x y = refuses (too-large (a .pack) (a .all) h q) (x, (y, tt))
+    large-heads : TooLarge (a .pack) → r ≡ refusedAs 9 → Kept (graphLists nodes triples index) → Constructs pack r nodes triples index
+    large-heads h q x = refuses (too-large (a .pack) (a .all) h q) x
 
     -- 10, 11, or the graph
-    core-answer : ¬ TooLarge (a .pack) → FromCore (a .pack) r nodes nodes′ triples triples′ → Constructs pack r (nodes becomes nodes′) (triples becomes triples′)
-    core-answer n (clash s p f g c q x y) = refuses (two-objects (a .pack) (a .all) n (none-obey (formed a) (inl (c .clash))) s p f g c q) (x, (y, tt))
-    core-answer n (mixed m k q x y) = refuses (mixed-kinds (a .pack) (a .all) n (none-obey (formed a) (inr k)) m k q) (x, (y, tt))
+    core-answer : ¬ TooLarge (a .pack) → FromCore (a .pack) r nodes triples index → Constructs pack r nodes triples index
+    core-answer n (clash s p f g c q x) = refuses (two-objects (a .pack) (a .all) n (none-obey (formed a) (inl (c .clash))) s p f g c q) x
+    core-answer n (mixed m k q x) = refuses (mixed-kinds (a .pack) (a .all) n (none-obey (formed a) (inr k)) m k q) x
     core-answer n (graph k t w q) =
         let o = some-obeys (formed a) (λ h. ⊎-elim (w .not-10) (w .not-11) h) in
         gives (w .fronts) (counted-graph (a .pack) k t q (record { is = a .all; small = n; obeyed = o; graph = w .graph })) (w .written)
 
-    heads-answer : FromHeads (a .pack) r nodes nodes′ triples triples′ → Constructs pack r (nodes becomes nodes′) (triples becomes triples′)
-    heads-answer (large h q x y) = large-heads h q x y
+    heads-answer : FromHeads (a .pack) r nodes triples index → Constructs pack r nodes triples index
+    heads-answer (large h q x) = large-heads h q x
     heads-answer (small n c) = core-answer n c
 
   -- 3 to 7
   pub checked-answer : {c : Checked} {numbers rows : List ℕ} → CheckedAs pack c numbers rows → (c .refusal ≡ 0 → ⊥) → r ≡ refusedAs (c .refusal)
-      → nodes′ ≡ nodes → triples′ ≡ triples
-      → Constructs pack r (nodes becomes nodes′) (triples becomes triples′) × (r .refusal ≡ 0 → SettingLoaded pack (c .counts) numbers)
-  checked-answer {c} k n q x y = (
-    refused-answer (c .refusal) (refused-before pack (c .refusal) (k .first) n) n q x y,
+      → Kept (graphLists nodes triples index) → Constructs pack r nodes triples index × (r .refusal ≡ 0 → SettingLoaded pack (c .counts) numbers)
+  checked-answer {c} k n q x = (
+    refused-answer (c .refusal) (refused-before pack (c .refusal) (k .first) n) n q x,
     λ z. absurd (n (sym (ap (λ (a : Constructed). a .refusal) q) ∙ z)),
   )
 
   -- 8 to 11, or the graph
-  pub rows-answer : {counts numbers rows : List ℕ} → Accepted pack counts numbers rows → ForResolved counts numbers rows (λ P. FromRows P r nodes nodes′ triples triples′)
-      → Constructs pack r (nodes becomes nodes′) (triples becomes triples′) × (r .refusal ≡ 0 → SettingLoaded pack counts numbers)
+  pub rows-answer : {counts numbers rows : List ℕ} → Accepted pack counts numbers rows → ForResolved counts numbers rows (λ P. FromRows P r nodes triples index)
+      → Constructs pack r nodes triples index × (r .refusal ≡ 0 → SettingLoaded pack counts numbers)
   rows-answer a f = (go (f (a .pack) (resolved-of a)), λ z. setting-loaded a)
     where
-      go : FromRows (a .pack) r nodes nodes′ triples triples′ → Constructs pack r (nodes becomes nodes′) (triples becomes triples′)
-      go (dependency b q x y) = refused-answer 8 (refused-8 pack (a .pack) (pack-formed a) b) (λ z. omega arith) q x y
+      go : FromRows (a .pack) r nodes triples index → Constructs pack r nodes triples index
+      go (dependency b q x) = refused-answer 8 (refused-8 pack (a .pack) (pack-formed a) b) (λ z. omega arith) q x
       go (kept b h) = heads-answer (keeps a b) h

@@ -9,9 +9,9 @@ use Rattle.construct.specs.Outcome.{Gives, NoneObeys, Refuses, SomeObeys
 use Rattle.construct.specs.declared.Constructed.{Constructed}
 use Rattle.graph.specs.Fronts.{GraphFronts}
 use Rattle.meaning.proofs.Theory.OneClash.{clash-unique}
-use Rattle.meaning.proofs.Theory.OneGraph.{graph-unique}
+use Rattle.meaning.proofs.Theory.OneGraph.{graph-unique, index-unique}
 use Rattle.meaning.specs.Clash.{ClashGiven}
-use Rattle.meaning.specs.Listing.{GraphLists}
+use Rattle.meaning.specs.Listing.{GraphLists, SubjectIndex}
 use Rattle.meaning.specs.NoGraph.{TooLarge, TwoObjects}
 use Rattle.meaning.specs.Pack.{Pack, Text}
 use Rattle.pack.specs.Checked.{accepted, firstRefusal}
@@ -66,17 +66,26 @@ module _ {pack : Text} {r s : Constructed} {fs gs : List (List ℕ)} (g : Gives 
   abbrev H : GraphFronts (h .of) (s .nodes) (s .triples) gs
   H = h .has .graph
 
-  pub one-records : (G .node-records ≡ H .node-records) × (G .triple-records ≡ H .triple-records)
+  pub one-records : (G .listed .node-records ≡ H .listed .node-records) × (G .listed .triple-records ≡ H .listed .triple-records)
   one-records =
-      graph-unique (h .of) (G .node-records) (H .node-records) (G .triple-records) (H .triple-records)
-      (subst (λ X. GraphLists X (G .node-records) (G .triple-records)) (one-pack (g .has .is) (h .has .is)) (G .lists)) (H .lists)
+      graph-unique (h .of) (G .listed .node-records) (H .listed .node-records) (G .listed .triple-records) (H .listed .triple-records)
+      (subst (λ X. GraphLists X (G .listed .node-records) (G .listed .triple-records)) (one-pack (g .has .is) (h .has .is)) (G .listed .lists)) (H .listed .lists)
+
+  one-count : r .nodes ≡ s .nodes
+  one-count = G .listed .node-count ∙ ap length (one-records .0) ∙ sym (H .listed .node-count)
+
+  pub one-index : G .entries ≡ H .entries
+  one-index = index-unique (subst (λ (x : List (List ℕ) × ℕ). SubjectIndex (x .0) (x .1) (G .entries)) (λ i. (one-records .1 i, one-count i)) (G .indexed)) (H .indexed)
 
   pub one-graph : (r ≡ s) × (fs ≡ gs)
   one-graph =
-      let n : r .nodes ≡ s .nodes = G .node-count ∙ ap length (one-records .0) ∙ sym (H .node-count) in
-      let t : r .triples ≡ s .triples = G .triple-count ∙ ap length (one-records .1) ∙ sym (H .triple-count) in (
-        g .counts ∙ (λ i. counted (n i) (t i)) ∙ sym (h .counts),
-        G .fronts-are ∙ (λ i. flatten (one-records .0 i) ∷ flatten (one-records .1 i) ∷ []) ∙ sym (H .fronts-are),
+      let t : r .triples ≡ s .triples = G .listed .triple-count ∙ ap length (one-records .1) ∙ sym (H .listed .triple-count) in (
+        g .counts ∙ (λ i. counted (one-count i) (t i)) ∙ sym (h .counts),
+        G .fronts-are
+            ∙ (λ i. (G .listed .nodes-are ∙ ap flatten (one-records .0) ∙ sym (H .listed .nodes-are)) i
+            ∷ (G .listed .triples-are ∙ ap flatten (one-records .1) ∙ sym (H .listed .triples-are)) i
+            ∷ flatten (one-index i) ∷ [])
+            ∙ sym (H .fronts-are),
       )
 
 pub constructs-fixed : (pack : Text) → Fixed (Refuses pack) (Gives pack)

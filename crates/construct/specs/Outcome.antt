@@ -57,12 +57,12 @@ pub record HasGraph (pack : Text) (P : Pack) (n t : ℕ) (fronts : List (List �
   pub obeyed : SomeObeys P
   pub graph : GraphFronts P n t fronts
 
--- "Build reports both counts." The graph's numbers stand at the front of the two lists.
+-- "Build reports both counts." The graph's numbers stand at the front of the lists.
 pub record Gives (pack : Text) (r : Constructed) (fronts : List (List ℕ)) : Type 0 where
   pub of : Pack
   pub has : HasGraph pack of (r .nodes) (r .triples) fronts
   pub counts : r ≡ counted (r .nodes) (r .triples)
 
 -- Either; the lists are kept, or hold the graph.
-abbrev pub Constructs : Text → Constructed → Contents → Contents → Type 0
-Constructs pack r nodes triples = Outcome (Refuses pack) (Gives pack) r (graphLists nodes triples)
+abbrev pub Constructs : Text → Constructed → Contents → Contents → Contents → Type 0
+Constructs pack r nodes triples index = Outcome (Refuses pack) (Gives pack) r (graphLists nodes triples index)

@@ -5,6 +5,7 @@ use core::Outcome;
 use depends::is_broken;
 use graph::Built;
 use graph::build;
+use index::subjects::index_subjects;
 use meaning::Arities;
 use meaning::BODIES;
 use meaning::CANDIDATES_LENGTH;
@@ -24,7 +25,7 @@ ghost use Rattle.calls.specs.Call.{lent};
 ghost use Rattle.construct.specs.Loaded.{LoadedIf};
 ghost use Rattle.construct.specs.Outcome.{Constructs, refusedAs};
 ghost use Rattle.construct.specs.Steps.{CoreGiven, FromCore, FromHeads, FromRows, HeadsGiven, OfCore, OfHeads};
-ghost use Rattle.meaning.specs.Limits.{headsLength, nodeListLength, rowsLength, settingLength, tripleListLength};
+ghost use Rattle.meaning.specs.Limits.{headsLength, indexLength, nodeListLength, rowsLength, settingLength, tripleListLength};
 ghost use Rattle.names.specs.PackGiven.{ForResolved, IsResolved};
 
 // What a pack comes to: a refusal's number, with the clash of 10; or 0 and the two counts.
@@ -62,18 +63,23 @@ fn from_core(
     masks: &[u16],
     nodes: &mut [u16],
     triples: &mut [u16],
+    index: &mut [u16],
 ) -> Constructed
-    requires { ⌜ CoreGiven shapes arities (now keys) (now edges) (now masks) × (nodeListLength ≤ length (now nodes)) × (tripleListLength ≤ length (now triples)) ⌝ }
+    requires { ⌜ CoreGiven shapes arities (now keys) (now edges) (now masks) × (nodeListLength ≤ length (now nodes))
+        × (tripleListLength ≤ length (now triples)) × (indexLength ≤ length (now index)) ⌝ }
     ensures { λ r. ⌜ OfCore shapes arities (now (keys .entry)) (now (edges .entry)) (now (masks .entry))
-        (λ P. FromCore P r (now (nodes .entry)) (now (nodes .exit)) (now (triples .entry)) (now (triples .exit))) ⌝ }
+        (λ P. FromCore P r (lent nodes) (lent triples) (lent index)) ⌝ }
 {
     match build(shapes, arities, keys, edges, masks, nodes, triples) {
-        Built::Graph(n, t) => Constructed {
-            refusal: 0,
-            nodes: n,
-            triples: t,
-            clash: [0; CLASH_WIDTH],
-        },
+        Built::Graph(n, t) => {
+            index_subjects(&triples[..], n, t, index);
+            Constructed {
+                refusal: 0,
+                nodes: n,
+                triples: t,
+                clash: [0; CLASH_WIDTH],
+            }
+        }
         Built::Clash(i) => {
             let mut clash = [0u16; CLASH_WIDTH];
             clash_records(arities, keys, edges, masks, i, &mut clash);
@@ -96,11 +102,12 @@ fn from_heads(
     heads: &[u64],
     nodes: &mut [u16],
     triples: &mut [u16],
+    index: &mut [u16],
 ) -> Constructed
     requires { ⌜ HeadsGiven counts (now numbers) found (now heads) × (headsLength ≤ length (now heads)) × (nodeListLength ≤ length (now nodes))
-        × (tripleListLength ≤ length (now triples)) ⌝ }
+        × (tripleListLength ≤ length (now triples)) × (indexLength ≤ length (now index)) ⌝ }
     ensures { λ r. ⌜ OfHeads counts (now (numbers .entry)) found (now (heads .entry))
-        (λ P. FromHeads P r (now (nodes .entry)) (now (nodes .exit)) (now (triples .entry)) (now (triples .exit))) ⌝ }
+        (λ P. FromHeads P r (lent nodes) (lent triples) (lent index)) ⌝ }
 {
     let shapes = shape_table(counts, numbers);
     let each = found.counts;
@@ -126,6 +133,7 @@ fn from_heads(
             &masks[..],
             nodes,
             triples,
+            index,
         ),
     }
 }
@@ -137,10 +145,12 @@ pub fn from_rows(
     rows: &[u16],
     nodes: &mut [u16],
     triples: &mut [u16],
+    index: &mut [u16],
     heads: &mut [u64],
 ) -> Constructed
-    requires { ⌜ IsResolved counts (now numbers) (now rows) × (nodeListLength ≤ length (now nodes)) × (tripleListLength ≤ length (now triples)) × (headsLength ≤ length (now heads)) ⌝ }
-    ensures { λ r. ⌜ ForResolved counts (now (numbers .entry)) (now (rows .entry)) (λ P. FromRows P r (now (nodes .entry)) (now (nodes .exit)) (now (triples .entry)) (now (triples .exit))) ⌝ }
+    requires { ⌜ IsResolved counts (now numbers) (now rows) × (nodeListLength ≤ length (now nodes))
+        × (tripleListLength ≤ length (now triples)) × (indexLength ≤ length (now index)) × (headsLength ≤ length (now heads)) ⌝ }
+    ensures { λ r. ⌜ ForResolved counts (now (numbers .entry)) (now (rows .entry)) (λ P. FromRows P r (lent nodes) (lent triples) (lent index)) ⌝ }
 {
     if is_broken(counts, numbers, rows) {
         return refused(8);
@@ -150,22 +160,23 @@ pub fn from_rows(
     if found.too_large {
         return refused(9);
     }
-    from_heads(counts, numbers, found, heads, nodes, triples)
+    from_heads(counts, numbers, found, heads, nodes, triples, index)
 }
 
-// The graph of any pack, written at the front of both lists; or its refusal of 3 to 11, and the lists keep their contents.
+// The graph of any pack, written at the front of the lists; or its refusal of 3 to 11, and the lists keep their contents.
 // Where there is no refusal, the setting's numbers are left in `numbers`.
 pub fn construct(
     pack: &[u8],
     numbers: &mut [u16],
     nodes: &mut [u16],
     triples: &mut [u16],
+    index: &mut [u16],
     rows: &mut [u16],
     heads: &mut [u64],
 ) -> PackGraph
-    requires { ⌜ (nodeListLength ≤ length (now nodes)) × (tripleListLength ≤ length (now triples)) × (rowsLength ≤ length (now rows))
+    requires { ⌜ (nodeListLength ≤ length (now nodes)) × (tripleListLength ≤ length (now triples)) × (indexLength ≤ length (now index)) × (rowsLength ≤ length (now rows))
         × (headsLength ≤ length (now heads)) × (settingLength ≤ length (now numbers)) ⌝ }
-    ensures { λ r. ⌜ Constructs (now (pack .entry)) (r .graph) (lent nodes) (lent triples) × LoadedIf (now (pack .entry)) r (now (numbers .exit)) ⌝ }
+    ensures { λ r. ⌜ Constructs (now (pack .entry)) (r .graph) (lent nodes) (lent triples) (lent index) × LoadedIf (now (pack .entry)) r (now (numbers .exit)) ⌝ }
 {
     let checked = check(pack, numbers, rows);
     let refusal = checked.refusal;
@@ -176,6 +187,6 @@ pub fn construct(
             counts,
         };
     }
-    let graph = from_rows(counts, numbers, rows, nodes, triples, heads);
+    let graph = from_rows(counts, numbers, rows, nodes, triples, index, heads);
     PackGraph { graph, counts }
 }

@@ -36,7 +36,7 @@ use Rattle.spelling.specs.Iri.{plain}
 use Rattle.walk.specs.Parts.{Threaded, listed, partOf}
 use Rattle.evaluate.proofs.Built.{built-listed, built-whole}
 use Rattle.evaluate.proofs.CertainPairs.{not-too-many, pairs-are, too-many}
-use Rattle.evaluate.proofs.HeldGraph.{graph-fits, held-in, inOrder, node-list, right-numbers}
+use Rattle.evaluate.proofs.HeldGraph.{graph-in-fits, held-in, inOrder, node-list, right-numbers}
 use Rattle.evaluate.proofs.InLists.{formed, some-graph}
 use Rattle.evaluate.proofs.KindOrder.{named-first}
 use Rattle.evaluate.proofs.Places.{satisfied}
@@ -48,14 +48,14 @@ module _ {pack query : Text} {tree : List ℕ} {parts : ℕ} {wanted nodes : Lis
 
   -- the lists are within their bounds
   pub lists-fit : parts ≤ length next → ListsFit L
-  lists-fit a = record { graph = graph-fits (ready .graph .graph); query = query-fits (ready .held) threaded (ready .room) a (ready .wanted-room) }
+  lists-fit a = record { graph = graph-in-fits (ready .graph .graph); query = query-fits (ready .held) threaded (ready .room) a (ready .wanted-room) }
 
   module _ {P : Pack} (g : GraphIn pack P nodes count triples edges) where
     abbrev G : NumberedGraph
     G = byPlace (plain P) P (inOrder g)
 
     well : WellFormed pack P
-    well = well-formed pack P (formed (g .has))
+    well = well-formed pack P (formed pack (g .is))
 
     distinct : Distinct (plain P) P
     distinct = plain-distinct P (well .distinct) (well .prefixFree) (well .named)
@@ -64,7 +64,7 @@ module _ {pack query : Text} {tree : List ℕ} {parts : ℕ} {wanted nodes : Lis
     in-lists = held-in g L refl refl refl
 
     numbers : WantedResolved G query L
-    numbers = right-numbers g L refl refl refl (ready .resolved P (formed (g .has)) (inOrder g) (node-list g))
+    numbers = right-numbers g L refl refl refl (ready .resolved P (formed pack (g .is)) (inOrder g) (node-list g))
 
     -- the query's expression is the one that the tree holds
     the-expression : (e : Expr) → IsQuery query e → ready .held .expression ≡ e
@@ -73,8 +73,8 @@ module _ {pack query : Text} {tree : List ℕ} {parts : ℕ} {wanted nodes : Lis
     -- satisfied by numbers exactly if certain
     certain : (e : Expr) → Satisfied (view G) e ↔ CertainYes (plain P) P e
     certain e =
-        Iff·trans (satisfied (built (plain P) P) (inOrder g) (built-listed (plain P) P (inOrder g) (g .has .graph .lists .ordered)) (built-whole (plain P) P) e)
-        (Iff·symm (certain-yes P (well .named) (plain P) distinct (some-graph (g .has)) e))
+        Iff·trans (satisfied (built (plain P) P) (inOrder g) (built-listed (plain P) P (inOrder g) (g .listed .lists .ordered)) (built-whole (plain P) P) e)
+        (Iff·symm (certain-yes P (well .named) (plain P) distinct (some-graph pack (g .is) (g .obeyed)) e))
 
     told : (r : Bool) → Yes r L → T r ↔ Satisfied (view G) (ready .held .expression)
     told true y = ((λ _. yes-satisfied G query L (ready .held) threaded in-lists numbers y), (λ _. tt))
@@ -85,11 +85,11 @@ module _ {pack query : Text} {tree : List ℕ} {parts : ℕ} {wanted nodes : Lis
 
   module _ {named : ℕ} (first : FirstInvented nodes count named) where
     few-named : {P : Pack} → GraphIn pack P nodes count triples edges → named ≤ maxNodes
-    few-named g = omega (arith, first .within, g .has .graph .few-nodes)
+    few-named g = omega (arith, first .within, g .listed .few-nodes)
 
     -- the numbers that are listed are those of pairs
     pairs-small : {xs : List ℕ} → ListOf _<_ (PairIn L named) xs → (x : ℕ) → x ∈ xs → x < pairKeys
-    pairs-small l x i = let p = l .members x .0 i in let g = ready .graph .graph in omega (arith, p .from-named, p .to-named, p .number, first .within, g .has .graph .few-nodes)
+    pairs-small l x i = let p = l .members x .0 i in let g = ready .graph .graph in omega (arith, p .from-named, p .to-named, p .number, first .within, g .listed .few-nodes)
 
     pub pairs-answer : (r : Pairs) (found : List ℕ) → PairsAre r L named found → PairsIn pack query nodes count triples edges r found
     pairs-answer (Listed k) found (few, l) = (few, pairs-small l, answer)
@@ -97,8 +97,9 @@ module _ {pack query : Text} {tree : List ℕ} {parts : ℕ} {wanted nodes : Lis
         answer : (P : Pack) (g : GraphIn pack P nodes count triples edges) (e : Expr) → IsQuery query e
             → PairList (plain P) P e (inOrder g) (map pairOf (take k found)) × (¬ TooManyPairs (plain P) P e)
         answer P g e q = (
-          pairs-are P (well g .named) (plain P) (distinct g) (some-graph (g .has)) (inOrder g) (g .has .graph .lists .ordered) named (named-first g first) (few-named g) e (take k found) j,
-          not-too-many P (well g .named) (plain P) (distinct g) (some-graph (g .has)) (inOrder g) (g .has .graph .lists .ordered) named (named-first g first) (few-named g) e (take k found) j
+          pairs-are P (well g .named) (plain P) (distinct g) (some-graph pack (g .is) (g .obeyed)) (inOrder g) (g .listed .lists .ordered) named (named-first g first) (few-named g) e (take k found) j,
+          not-too-many P (well g .named) (plain P) (distinct g) (some-graph pack (g .is) (g .obeyed))
+              (inOrder g) (g .listed .lists .ordered) named (named-first g first) (few-named g) e (take k found) j
               (let h = length-take k found in omega arith),
         )
           where
@@ -106,5 +107,5 @@ module _ {pack query : Text} {tree : List ℕ} {parts : ℕ} {wanted nodes : Lis
             j = subst (λ x. ListOf _<_ (JoinedPair (G g) x named) (take k found)) (the-expression g e q)
                 (listed-joined (G g) query L (ready .held) threaded (in-lists g) (numbers g) l)
     pairs-answer TooMany found o = λ P g e q.
-        too-many P (well g .named) (plain P) (distinct g) (some-graph (g .has)) (inOrder g) (g .has .graph .lists .ordered) named (named-first g first) (few-named g) e
+        too-many P (well g .named) (plain P) (distinct g) (some-graph pack (g .is) (g .obeyed)) (inOrder g) (g .listed .lists .ordered) named (named-first g first) (few-named g) e
         (subst (λ x. Over maxPairs (JoinedPair (G g) x named)) (the-expression g e q) (over-joined (G g) query L (ready .held) threaded (in-lists g) (numbers g) o))

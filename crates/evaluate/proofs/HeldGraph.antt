@@ -1,13 +1,12 @@
 -- The two lists hold the graph by the places of its nodes, and the numbers wanted are those of its names and labels. Assumes
 -- nothing.
-use lib.ListN.{length, getD, getElem?}
-use lib.Seq.{getD-take}
+use lib.ListN.{getD, getElem?, length, take}
 use mathlib.Core.Bool.{false}
-use mathlib.Core.List.{List, [], _∷_, Forall₂, Forall₂·nil, Forall₂·cons}
+use mathlib.Core.List.{List, [], _∷_}
 use mathlib.Core.Option.{some}
 use mathlib.Core.Path.{_≡_, refl, sym, ap, subst, _∙_}
 use native.Mathlib.Omega.{arith}
-use Prim.Native.Nat.{ℕ, suc, _+_, _*_, _≤_, _<_}
+use Prim.Native.Nat.{ℕ, _*_, _<_}
 use Rattle.pack.proofs.Accepted.{well-formed}
 use Rattle.states.specs.Lists.{Lists}
 use Rattle.answers.specs.Graph.{HeldIn, NumberedGraph, WantedResolved}
@@ -16,44 +15,30 @@ use Rattle.evaluate.proofs.InLists.{formed}
 use Rattle.meaning.proofs.Lists.Places.{inside, placed, same-at, there-is}
 use Rattle.evaluate.specs.GraphIn.{GraphIn}
 use Rattle.evaluate.specs.Named.{byPlace}
-use Rattle.graph.proofs.Fronts.{nodes-are, triples-are}
-use Rattle.graph.specs.Fronts.{GraphFronts, frontsOf}
-use Rattle.index.specs.Triples.{GraphFits, SubjectsRise, TripleIn, objectAt, predicateAt, subjectAt}
-use Rattle.meaning.proofs.Lists.Members.{element}
-use Rattle.meaning.proofs.Lists.OrderedPlaces.{in-order-at}
+use Rattle.graph.proofs.TripleNumbers.{count-is, edge-of, graph-fits, number-at, subject-at}
+use Rattle.graph.specs.Fronts.{GraphListed}
+use Rattle.index.specs.Triples.{GraphFits, PredicatesFit, TripleIn, predicateAt}
 use Rattle.meaning.proofs.Model.Resolved.{resolved}
 use Rattle.meaning.specs.Built.{BuiltEdge, BuiltNode, fromCore, made}
 use Rattle.meaning.specs.Certain.{built}
-use Rattle.meaning.specs.Limits.{maxPredicates}
+use Rattle.meaning.specs.Limits.{maxPredicates, nodeWidth}
 use Rattle.meaning.specs.Listing.{TripleRecord}
-use Rattle.meaning.specs.Member.{_∈_}
-use Rattle.meaning.specs.Ordered.{_≺_, shorter, less, equal}
 use Rattle.meaning.specs.Pack.{Pack, Text}
 use Rattle.meaning.specs.WellFormed.{dangling}
 use Rattle.pack.proofs.Unpacking.{unpacked}
 use Rattle.resolve.specs.Listed.{BuiltNodesListed}
 use Rattle.resolve.specs.Wanted.{Wanted}
 use Rattle.spelling.specs.Iri.{plain}
-use Rattle.meaning.proofs.Lists.Blocks.{flatten-at}
-
--- ---- records one after another
-
-forall-length : {A B : Type 0} {R : A → B → Type 0} {xs : List A} {ys : List B} → Forall₂ R xs ys → length xs ≡ length ys
-forall-length Forall₂·nil = refl
-forall-length (Forall₂·cons h t) = ap suc (forall-length t)
 
 module _ {pack : Text} {P : Pack} {nodes : List ℕ} {count : ℕ} {triples : List ℕ} {edges : ℕ} (g : GraphIn pack P nodes count triples edges) where
-  abbrev listed : GraphFronts P count edges (frontsOf count nodes edges triples)
-  listed = g .has .graph
+  abbrev listed : GraphListed P count edges (take (count * nodeWidth) nodes) (take (edges * 3) triples)
+  listed = g .listed
 
   abbrev pub inOrder : List BuiltNode
   inOrder = listed .lists .inOrder
 
   named-7 : dangling P ≡ false
-  named-7 = well-formed pack P (formed (g .has)) .named
-
-  pub count-is : count ≡ length inOrder
-  count-is = listed .node-count ∙ sym (forall-length (listed .lists .records))
+  named-7 = well-formed pack P (formed pack (g .is)) .named
 
   -- the node list as the names and labels are looked up in it
   pub node-list : BuiltNodesListed P inOrder nodes count
@@ -61,46 +46,15 @@ module _ {pack : Text} {P : Pack} {nodes : List ℕ} {count : ℕ} {triples : Li
     ordered = listed .lists .ordered;
     records = listed .node-records;
     recorded = listed .lists .records;
-    are = nodes-are nodes triples listed;
-    counted = count-is;
+    are = listed .nodes-are;
+    counted = count-is triples listed;
   }
 
   -- ---- the triples
 
-  is-triple : (r : List ℕ) → r ∈ listed .triple-records → TripleRecord P inOrder r
-  is-triple r i = listed .lists .edges .members r .0 i
-
-  three : (r : List ℕ) → r ∈ listed .triple-records → length r ≡ 3
-  three r i = ap length (is-triple r i .are)
-
-  -- triple k, by its record
-  number-at : (k : ℕ) (r : List ℕ) → getElem? (listed .triple-records) k ≡ some r → (j : ℕ) → j < 3 → getD triples (k * 3 + j) 0 ≡ getD r j 0
-  number-at k r e j h =
-      let l = inside (listed .triple-records) k r e in
-      sym (getD-take (edges * 3) triples (k * 3 + j) 0 (omega (arith, listed .triple-count)))
-      ∙ ap (λ l. getD l (k * 3 + j) 0) (triples-are nodes triples listed)
-      ∙ flatten-at 3 (listed .triple-records) three k j r e h
-
-  subject-at : (k : ℕ) (r : List ℕ) → getElem? (listed .triple-records) k ≡ some r → subjectAt triples k ≡ getD r 0 0
-  subject-at k r e = ap (λ i. getD triples i 0) (let z : k * 3 ≡ k * 3 + 0 = omega arith in z) ∙ number-at k r e 0 (omega arith)
-
-  -- the record of a triple within the count
-  record-of : (k : ℕ) → k < edges → (r : List ℕ) × (getElem? (listed .triple-records) k ≡ some r)
-  record-of k l = there-is (listed .triple-records) k (omega (arith, listed .triple-count))
-
-  pub edge-of : (s p o k : ℕ) → k < edges → subjectAt triples k ≡ s → predicateAt triples k ≡ p → objectAt triples k ≡ o → TripleRecord P inOrder (s ∷ p ∷ o ∷ [])
-  edge-of s p o k l a b c =
-      let (r, e) = record-of k l in
-      let t = is-triple r (element (listed .triple-records) k r e) in
-      let q = t .are in
-      let x : s ≡ t .subject = sym a ∙ subject-at k r e ∙ ap (λ z. getD z 0 0) q in
-      let y : p ≡ t .predicate = sym b ∙ number-at k r e 1 (omega arith) ∙ ap (λ z. getD z 1 0) q in
-      let w : o ≡ t .object = sym c ∙ number-at k r e 2 (omega arith) ∙ ap (λ z. getD z 2 0) q in
-      subst (TripleRecord P inOrder) (q ∙ (λ i. sym x i ∷ sym y i ∷ sym w i ∷ [])) t
-
   predicate-below : {b c : BuiltNode} {p : ℕ} → BuiltEdge P b p c → p < maxPredicates
   predicate-below e =
-      let few = unpacked pack P (well-formed pack P (formed (g .has)) .read) .predicates .1 in
+      let few = unpacked pack P (well-formed pack P (formed pack (g .is)) .read) .predicates .1 in
       let l = go e in omega arith
     where
       go : {b c : BuiltNode} {p : ℕ} → BuiltEdge P b p c → p < length (P .setting .predicates)
@@ -128,14 +82,14 @@ module _ {pack : Text} {P : Pack} {nodes : List ℕ} {count : ℕ} {triples : Li
         record {
           at = k;
           inside = omega (arith, inside (listed .triple-records) k _ e, listed .triple-count);
-          subject = subject-at k _ e;
-          predicate = number-at k _ e 1 (omega arith);
-          object = number-at k _ e 2 (omega arith);
+          subject = subject-at triples listed k _ e;
+          predicate = number-at triples listed k _ e 1 (omega arith);
+          object = number-at triples listed k _ e 2 (omega arith);
         }
 
     back : (s p o : ℕ) → TripleIn triples edges s p o → B .Edge s p o
     back s p o x =
-        let t = edge-of s p o (x .at) (x .inside) (x .subject) (x .predicate) (x .object) in
+        let t = edge-of triples listed s p o (x .at) (x .inside) (x .subject) (x .predicate) (x .object) in
         let h = t .are in
         let a : t .subject ≡ s = sym (ap (λ z. getD z 0 0) h) in
         let b : t .predicate ≡ p = sym (ap (λ z. getD z 1 0) h) in
@@ -151,7 +105,7 @@ module _ {pack : Text} {P : Pack} {nodes : List ℕ} {count : ℕ} {triples : Li
     -- the lists hold the graph
     pub held-in : HeldIn B L
     held-in = record {
-      nodes = sym (same-nodes ∙ count-is);
+      nodes = sym (same-nodes ∙ count-is triples listed);
       edges = λ s p o. ((λ x. rw (same-triples, same-edges) (forth s p o x)), (λ x. back s p o (rw (same-triples, same-edges) at x)));
       joins = λ s p o x. (inside inOrder s (x .from) (x .from-at), inside inOrder o (x .to) (x .to-at));
       predicates = λ s p o x. predicate-below (x .holds);
@@ -167,35 +121,14 @@ module _ {pack : Text} {P : Pack} {nodes : List ℕ} {count : ℕ} {triples : Li
           ((λ a. x .0 (subst (λ c. built (plain P) P .LiteralLabel _ c) (same-at inOrder n (a .at) e) (a .holds))), (λ c. record { node = b; at = e; holds = x .1 c }));
     }
 
-  -- ---- bounds and order
+  -- ---- bounds
 
-  ends-below : (k : ℕ) → k < edges → (subjectAt triples k < count) × (objectAt triples k < count)
-  ends-below k l =
-      let t = edge-of _ _ _ k l refl refl refl in
-      let h = t .are in
-      let a : t .subject ≡ subjectAt triples k = sym (ap (λ z. getD z 0 0) h) in
-      let c : t .object ≡ objectAt triples k = sym (ap (λ z. getD z 2 0) h) in
-      let x = inside inOrder (t .subject) (t .from) (t .from-at) in
-      let y = inside inOrder (t .object) (t .to) (t .to-at) in
-      (omega (arith, count-is), omega (arith, count-is))
+  pub graph-in-fits : GraphFits count edges triples
+  graph-in-fits = graph-fits triples listed (omega (arith, listed .few-triples, g .triple-room))
 
-  pub graph-fits : GraphFits count edges triples
-  graph-fits = record {
-    few-nodes = listed .few-nodes;
-    few-edges = listed .few-triples;
-    whole = omega (arith, listed .few-triples, g .triple-room);
-    subjects = λ k l. ends-below k l .0;
-    objects = λ k l. ends-below k l .1;
-  }
-
-  first-rises : (r s : List ℕ) → r ≺ s → getD r 0 0 ≤ getD s 0 0
-  first-rises [] (y ∷ s) shorter = omega arith
-  first-rises (x ∷ r) (y ∷ s) (less h) = omega arith
-  first-rises (x ∷ r) (y ∷ s) (equal e h) = omega arith
-
-  pub subjects-rise : SubjectsRise triples edges
-  subjects-rise k l =
-      let (r, e) = record-of k (omega arith) in
-      let (s, f) = record-of (k + 1) l in
-      let h = first-rises r s (in-order-at (listed .triple-records) (listed .lists .edges .ascending) r s k (k + 1) (omega arith) e f) in
-      omega (arith, subject-at k r e, subject-at (k + 1) s f)
+  pub predicates-below : PredicatesFit triples edges
+  predicates-below k l =
+      let t = edge-of triples listed _ _ _ k l refl refl refl in
+      let p : t .predicate ≡ predicateAt triples k = sym (ap (λ z. getD z 1 0) (t .are)) in
+      let b = predicate-below (t .edge) in
+      omega arith

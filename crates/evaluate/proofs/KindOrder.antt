@@ -12,7 +12,8 @@ use Prim.Native.Nat.{ℕ, zero, suc, _+_, _*_, _≤_, _<_}
 use Rattle.evaluate.specs.GraphIn.{GraphIn}
 use Rattle.evaluate.specs.Kinds.{FirstInvented, kindAt}
 use Rattle.evaluate.specs.Named.{NamedFirst}
-use Rattle.graph.proofs.Fronts.{nodes-are, record-length}
+use Rattle.graph.proofs.Fronts.{record-length}
+use Rattle.graph.proofs.TripleNumbers.{count-is}
 use Rattle.meaning.proofs.Lists.OrderedPlaces.{in-order-at}
 use Rattle.meaning.proofs.Lists.Places.{inside, there-is}
 use Rattle.meaning.specs.Built.{BuiltNode, core, invented}
@@ -21,7 +22,7 @@ use Rattle.meaning.specs.Limits.{nodeWidth}
 use Rattle.meaning.specs.Listing.{NodeRecord, inventedKind, kind, nodeKey}
 use Rattle.meaning.specs.Pack.{Pack, Text}
 use Rattle.meaning.proofs.Cases.{case-on}
-use Rattle.evaluate.proofs.HeldGraph.{count-is, inOrder}
+use Rattle.evaluate.proofs.HeldGraph.{inOrder}
 use Rattle.meaning.proofs.Lists.Ordered.{first-rises}
 
 -- ---- the kind of a node is the first number of its record and of its key
@@ -67,14 +68,14 @@ module _ {pack : Text} {P : Pack} {nodes : List ℕ} {count : ℕ} {triples : Li
   kind-at : (n : ℕ) (b : BuiltNode) → getElem? (inOrder g) n ≡ some b → kindAt nodes n ≡ kind b
   kind-at n b e =
       let l = inside (inOrder g) n b e in
-      sym (getD-take (count * nodeWidth) nodes (n * nodeWidth) 0 (omega (arith, count-is g)))
-      ∙ ap (λ l. getD l (n * nodeWidth) 0) (nodes-are nodes triples (g .has .graph))
-      ∙ flat-kind (inOrder g) (g .has .graph .node-records) (g .has .graph .lists .records) n b e
+      sym (getD-take (count * nodeWidth) nodes (n * nodeWidth) 0 (omega (arith, count-is triples (g .listed))))
+      ∙ ap (λ l. getD l (n * nodeWidth) 0) (g .listed .nodes-are)
+      ∙ flat-kind (inOrder g) (g .listed .node-records) (g .listed .lists .records) n b e
 
   -- kinds do not fall
   kinds-rise : (n m : ℕ) (b c : BuiltNode) → n < m → getElem? (inOrder g) n ≡ some b → getElem? (inOrder g) m ≡ some c → kind b ≤ kind c
   kinds-rise n m b c l x y =
-      let h = first-rises (nodeKey b) (nodeKey c) (key-some b) (in-order-at (inOrder g) (g .has .graph .lists .ordered .ascending) b c n m l x y) in
+      let h = first-rises (nodeKey b) (nodeKey c) (key-some b) (in-order-at (inOrder g) (g .listed .lists .ordered .ascending) b c n m l x y) in
       omega (arith, key-kind b, key-kind c)
 
   pub named-first : {r : ℕ} → FirstInvented nodes count r → NamedFirst (inOrder g) r
@@ -82,7 +83,7 @@ module _ {pack : Text} {P : Pack} {nodes : List ℕ} {count : ℕ} {triples : Li
     where
       below : (n : ℕ) → n < r → (k : Node) × (getElem? (inOrder g) n ≡ some (core k))
       below n l =
-          let (b, e) = there-is (inOrder g) n (omega (arith, f .within, count-is g)) in
+          let (b, e) = there-is (inOrder g) n (omega (arith, f .within, count-is triples (g .listed))) in
           let (k, q) = low-kind b (omega (arith, f .before n l, kind-at n b e)) in
           (k, subst (λ x. getElem? (inOrder g) n ≡ some x) q e)
 
@@ -93,7 +94,7 @@ module _ {pack : Text} {P : Pack} {nodes : List ℕ} {count : ℕ} {triples : Li
           late h =
               let l = inside (inOrder g) n (core k) e in
               let (b, x) = there-is (inOrder g) r (omega arith) in
-              let high = f .here (omega (arith, count-is g)) in
+              let high = f .here (omega (arith, count-is triples (g .listed))) in
               let low = core-kind k in
               case-on (ltb r n)
               (λ z. let w = kinds-rise r n b (core k) (ltb-true r n z) x e in let y = kind-at r b x in absurd (omega arith))

@@ -12,9 +12,10 @@ use Rattle.evaluate.specs.GraphIn.{GraphIn}
 use Rattle.evaluate.specs.Kinds.{FirstInvented}
 use Rattle.evaluate.specs.Named.{NamedFirst}
 use Rattle.evaluate.proofs.Built.{built-listed}
-use Rattle.evaluate.proofs.HeldGraph.{edge-of, inOrder}
+use Rattle.evaluate.proofs.HeldGraph.{inOrder}
 use Rattle.evaluate.proofs.InLists.{formed}
 use Rattle.evaluate.proofs.KindOrder.{named-first}
+use Rattle.graph.proofs.TripleNumbers.{edge-of}
 use Rattle.index.specs.Triples.{objectAt, predicateAt, subjectAt}
 use Rattle.meaning.proofs.Lists.Counting.{below-many, listed-few, over-carried, over-parted}
 use Rattle.meaning.proofs.Lists.Members.{below, below-in, element}
@@ -58,7 +59,7 @@ module _ {pack : Text} {P : Pack} {nodes : List ℕ} {count : ℕ} {triples : Li
   -- one.
   pub named-inward : Inward triples edges named
   named-inward k l h =
-      let t = edge-of g (subjectAt triples k) (predicateAt triples k) (objectAt triples k) k l refl refl refl in
+      let t = edge-of triples (g .listed) (subjectAt triples k) (predicateAt triples k) (objectAt triples k) k l refl refl refl in
       let a : t .subject ≡ subjectAt triples k = sym (ap (λ z. getD z 0 0) (t .are)) in
       let c : t .object ≡ objectAt triples k = sym (ap (λ z. getD z 2 0) (t .are)) in
       let (m, e) = places .core-node (t .object) (omega arith) in
@@ -68,11 +69,11 @@ module _ {pack : Text} {P : Pack} {nodes : List ℕ} {count : ℕ} {triples : Li
       omega arith
 
   core-at : (n : ℕ) (k : Node) → getElem? (inOrder g) n ≡ some (core k) → CoreNode P k
-  core-at n k h = is-core (plain P) P (g .has .graph .lists .ordered .members (core k) .0 (element (inOrder g) n (core k) h))
+  core-at n k h = is-core (plain P) P (g .listed .lists .ordered .members (core k) .0 (element (inOrder g) n (core k) h))
 
   -- one place for each node
   once : (b : BuiltNode) (n m : ℕ) → getElem? (inOrder g) n ≡ some b → getElem? (inOrder g) m ≡ some b → n ≡ m
-  once b n m x y = built-listed (plain P) P (inOrder g) (g .has .graph .lists .ordered) .once b n m x y
+  once b n m x y = built-listed (plain P) P (inOrder g) (g .listed .lists .ordered) .once b n m x y
 
   -- the places of IRIs, and of literals
   abbrev IriPlace : ℕ → Type 0
@@ -82,7 +83,7 @@ module _ {pack : Text} {P : Pack} {nodes : List ℕ} {count : ℕ} {triples : Li
   OtherPlace n = (n < named) × (IsIri (getElem? (inOrder g) n) → ⊥)
 
   few-iris : Over maxIris IriPlace → ⊥
-  few-iris o = g .has .small
+  few-iris o = g .small
       (inl (over-carried IriPlace (CoreIri P) (λ n t. getElem? (inOrder g) n ≡ some (core (iriNode (t .0) (t .1)))) image (λ n m t x y. once (core (iriNode (t .0) (t .1))) n m x y) o))
     where
       image : (n : ℕ) → IriPlace n → (t : ℕ × List ℕ) × CoreIri P t × (getElem? (inOrder g) n ≡ some (core (iriNode (t .0) (t .1))))
@@ -99,7 +100,7 @@ module _ {pack : Text} {P : Pack} {nodes : List ℕ} {count : ℕ} {triples : Li
     where
       value : (v : ℕ) → CoreNode P (literalNode v) → v < maxValues
       value v c =
-          let w = well-formed pack P (formed (g .has)) in
+          let w = well-formed pack P (formed pack (g .is)) in
           let a = core-in-pack P (w .named) c in
           let b = unpacked pack P (w .read) .values .1 in
           omega arith

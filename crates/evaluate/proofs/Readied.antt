@@ -2,9 +2,9 @@
 use lib.ListN.{length, getD-replicate}
 use mathlib.Core.List.{List}
 use native.Mathlib.Omega.{arith}
-use Prim.Native.Nat.{ℕ, _≤_}
+use Prim.Native.Nat.{ℕ, _+_, _≤_}
 use Rattle.evaluate.specs.Answered.{Ready}
-use Rattle.index.specs.Index.{ChainReady}
+use Rattle.index.specs.Index.{ListReady}
 use Rattle.meaning.specs.Limits.{maxNodes, maxParts, maxTriples}
 use Rattle.meaning.specs.Pack.{Text}
 use Rattle.sets.specs.Buffers.{zeros}
@@ -18,7 +18,7 @@ module _ {pack query : Text} {tree : List ℕ} {parts : ℕ} {wanted nodes : Lis
   pub threadable : {next : List ℕ} → maxParts ≤ length next → Threadable tree next parts
   threadable l = record { text = query; held = ready .held; parts = ready .room; room = let a = parts-few in omega arith }
 
-  pub chain-ready : ChainReady count edges (zeros maxNodes) (zeros maxTriples)
-  chain-ready =
-      let g = ready .graph .graph .has .graph in
-      record { heads = omega (arith, g .few-nodes); links = g .few-triples; none = λ o h. getD-replicate maxNodes o 0 0 (omega (arith, g .few-nodes)) }
+  pub list-ready : ListReady count edges (zeros (maxNodes + 2)) (zeros maxTriples)
+  list-ready =
+      let g = ready .graph .graph .listed in
+      record { long = omega (arith, g .few-nodes); room = g .few-triples; none = λ o h. getD-replicate (maxNodes + 2) o 0 0 (omega (arith, g .few-nodes)) }

@@ -56,5 +56,5 @@ module _ (pack query : Text) (nodes : List ℕ) (count : ℕ) (triples : List �
   -- "exactly the pairs of named nodes that the query joins in every such graph"; 12 exactly when they are too many
   abbrev pub PairsIn : Pairs → List ℕ → Type 0
   PairsIn (Listed k) found =
-      (k ≤ maxPairs) × AllPairs (take k found) × OfQuery (λ P g e. PairList (plain P) P e (g .has .graph .lists .inOrder) (map pairOf (take k found)) × (¬ TooManyPairs (plain P) P e))
+      (k ≤ maxPairs) × AllPairs (take k found) × OfQuery (λ P g e. PairList (plain P) P e (g .listed .lists .inOrder) (map pairOf (take k found)) × (¬ TooManyPairs (plain P) P e))
   PairsIn TooMany found = OfQuery (λ P g e. TooManyPairs (plain P) P e)

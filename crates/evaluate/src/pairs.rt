@@ -3,11 +3,11 @@ ghost use lib.ListN.{length};
 ghost use Prim.Native.Nat.{_≤_};
 ghost use Rattle.answers.specs.Ready.{Unseen};
 ghost use Rattle.evaluate.specs.Answered.{ForReady, IsReady, PairsIn};
+ghost use Rattle.index.specs.Subjects.{BySubject};
 ghost use Rattle.meaning.specs.Limits.{maxPairs, stateWords};
 ghost use Rattle.worklist.specs.Table.{Unmarked};
 use crate::named::named;
 use answers::joined_pairs;
-use meaning::MAX_CORE_NODES;
 use meaning::MAX_NODES;
 use meaning::MAX_PARTS;
 use meaning::MAX_TRIPLES;
@@ -25,22 +25,23 @@ pub fn pairs(
     count: usize,
     triples: &[u16],
     edges: usize,
+    index: &[u16],
     alive: &mut [u64],
     waiting: &mut [u64],
     stack: &mut [u16],
     seen: &mut [u64],
     found: &mut [u32],
 ) -> Pairs
-    requires { ⌜ IsReady (now tree) parts (now wanted) (now nodes) count (now triples) edges × Unmarked stateWords (now alive) (now waiting) (now stack)
+    requires { ⌜ IsReady (now tree) parts (now wanted) (now nodes) count (now triples) edges
+        × BySubject (now triples) count edges (now index) × Unmarked stateWords (now alive) (now waiting) (now stack)
         × Unseen (now seen) × (maxPairs ≤ length (now found)) ⌝ }
     ensures { λ r. ⌜ ForReady (now (tree .entry)) parts (now (wanted .entry)) (now (nodes .entry)) count (now (triples .entry)) edges
         (λ pack query. PairsIn pack query (now (nodes .entry)) count (now (triples .entry)) edges r (now (found .exit))) ⌝ }
 {
     let mut next = [0u16; MAX_PARTS];
     thread(tree, parts, &mut next);
-    let mut last = [0u16; MAX_NODES];
-    let mut earlier = [0u16; MAX_TRIPLES];
-    let mut first = [0u16; MAX_CORE_NODES + 1];
+    let mut starts = [0u16; MAX_NODES + 2];
+    let mut into = [0u16; MAX_TRIPLES];
     let sizes = Sizes {
         nodes: count,
         edges,
@@ -50,12 +51,12 @@ pub fn pairs(
         sizes,
         named(nodes, count),
         triples,
+        index,
         tree,
         &next[..],
         wanted,
-        &mut last,
-        &mut earlier,
-        &mut first,
+        &mut starts,
+        &mut into,
         alive,
         waiting,
         stack,

@@ -28,8 +28,8 @@ pub fn yes(
 {
     let mut next = [0u16; MAX_PARTS];
     thread(tree, parts, &mut next);
-    let mut last = [0u16; MAX_NODES];
-    let mut earlier = [0u16; MAX_TRIPLES];
+    let mut starts = [0u16; MAX_NODES + 2];
+    let mut into = [0u16; MAX_TRIPLES];
     let sizes = Sizes {
         nodes: count,
         edges,
@@ -41,8 +41,8 @@ pub fn yes(
         tree,
         &next[..],
         wanted,
-        &mut last,
-        &mut earlier,
+        &mut starts,
+        &mut into,
         alive,
         waiting,
         stack,

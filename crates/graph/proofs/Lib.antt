@@ -1,2 +1,4 @@
 pub mod Fronts
 pub mod BuildLaws
+pub mod TripleNumbers
+pub mod SubjectEntries

@@ -1,10 +1,11 @@
 -- What a build answers and leaves in the two lists. Assumes nothing.
-use mathlib.Core.List.{List}
+use lib.ListN.{drop, length}
+use mathlib.Core.List.{List, _++_}
 use mathlib.Core.Path.{_≡_}
 use Prim.Native.Nat.{ℕ}
-use Rattle.calls.specs.Call.{Contents, Written, _becomes_}
+use Rattle.calls.specs.Call.{Contents, _becomes_}
 use Rattle.clash.specs.Clash.{ClashAt}
-use Rattle.graph.specs.Fronts.{GraphFronts, graphLists}
+use Rattle.graph.specs.Fronts.{GraphListed}
 use Rattle.core_lists.specs.Input.{Input}
 use Rattle.node_list.specs.Records.{Arities}
 use Rattle.graph.specs.declared.Built.{Built}
@@ -14,9 +15,11 @@ use Rattle.meaning.specs.Pack.{Pack}
 
 -- The pack has a graph; its records stand first in the two lists, and what follows is as it was.
 pub record GraphWritten (P : Pack) (n t : ℕ) (nodes triples : Contents) : Type 0 where
-  pub fronts : List (List ℕ)
-  pub graph : GraphFronts P n t fronts
-  pub written : Written fronts (graphLists nodes triples)
+  pub node-front : List ℕ
+  pub triple-front : List ℕ
+  pub graph : GraphListed P n t node-front triple-front
+  pub nodes-written : nodes .after ≡ node-front ++ drop (length node-front) (nodes .before)
+  pub triples-written : triples .after ≡ triple-front ++ drop (length triple-front) (triples .before)
   pub not-10 : ¬ TwoObjects P
   pub not-11 : ¬ MixedKinds P
 

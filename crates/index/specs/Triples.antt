@@ -3,7 +3,7 @@ use lib.ListN.{getD, length}
 use mathlib.Core.List.{List}
 use mathlib.Core.Path.{_≡_}
 use Prim.Native.Nat.{ℕ, _*_, _+_, _<_, _≤_}
-use Rattle.meaning.specs.Limits.{maxNodes, maxTriples}
+use Rattle.meaning.specs.Limits.{maxNodes, maxPredicates, maxTriples}
 
 -- ---- "A triple is three 16-bit numbers: subject, predicate, object"
 
@@ -33,6 +33,10 @@ pub record GraphFits (nodes edges : ℕ) (triples : List ℕ) : Type 0 where
   pub whole : edges * 3 ≤ length triples
   pub subjects : (k : ℕ) → k < edges → subjectAt triples k < nodes
   pub objects : (k : ℕ) → k < edges → objectAt triples k < nodes
+
+-- Their predicates are among those that a pack has.
+abbrev pub PredicatesFit : List ℕ → ℕ → Type 0
+PredicatesFit triples edges = (k : ℕ) → k < edges → predicateAt triples k < maxPredicates
 
 -- The subjects of the triples do not fall: a part of their ascending order.
 abbrev pub SubjectsRise : List ℕ → ℕ → Type 0

@@ -47,9 +47,9 @@ pub marked-from : {n : ℕ} {Q : ℕ → Type 0} {a b : Board} → ((j : ℕ) �
 marked-from none d j = (λ e. ⊎-elim (λ m. absurd (none j m)) (λ q. q) (d .new j e), d .all j)
 
 -- what follows from set i, by its mask
-pub following : {table : List (List ℕ)} {a b : Board} {i m : ℕ} → i < memberSets → m ≡ maskOf i → Marks table (Next m) a b
-    → Marks table (λ P. Upto (Leads P (invented (setAt i))) maxPredicates) a b
-following {table} {a} {b} {i} h e = subst (λ X. Marks table (λ P. Upto (Leads P (invented X)) maxPredicates) a b) (ap setOfMask e ∙ mask-set i h)
+pub following : {These : Pack → Type 0} {a b : Board} {i m : ℕ} → i < memberSets → m ≡ maskOf i → Marks These (Next m) a b
+    → Marks These (λ P. Upto (Leads P (invented (setAt i))) maxPredicates) a b
+following {These} {a} {b} {i} h e = subst (λ X. Marks These (λ P. Upto (Leads P (invented X)) maxPredicates) a b) (ap setOfMask e ∙ mask-set i h)
 
 module _ {P : Pack} {start marks waiting stack waiting′ : List ℕ} {top top′ i : ℕ} {b : Board} (t : Table setWords (board marks waiting stack top))
     (k : Takes setWords (λ x. x ≡ i) waiting stack waiting′ top′) where

@@ -12,7 +12,7 @@ use Rattle.meaning.specs.Limits.{literalWeight, maxPredicates, memberSets, setW
 use Rattle.meaning.specs.Pack.{Pack}
 use Rattle.meaning.specs.Tables.{setOfMask}
 use Rattle.meaning.specs.TypeSet.{TypeSet}
-use Rattle.shapes.specs.Shapes.{Tabled}
+use Rattle.shapes.specs.Demands.{Demand, Demanded}
 use Rattle.worklist.specs.Table.{Adds, AddsOnly, Board, Looked, Marked}
 
 -- Set number j: its types by their weights, and as many more as there are sets of types where Literal is a member.
@@ -38,10 +38,17 @@ pub record Upto {A : Type 0} (Q : ℕ → A → Type 0) (n : ℕ) (x : A) : Type
   pub below : at < n
   pub holds : Q at x
 
--- More sets were marked, and wait; for each pack of this table, those that Q says and no others.
-pub record Marks (table : List (List ℕ)) (Q : Pack → ℕ → Type 0) (a b : Board) : Type 0 where
+-- The packs of a table of demands, and those in which the set of a mask demands this of p.
+abbrev pub OfTable : List (List ℕ) → Pack → Type 0
+OfTable demands P = Demanded (P .setting) demands
+
+abbrev pub OfDemand : ℕ → ℕ → ℕ → Pack → Type 0
+OfDemand mask p demand P = Demand (P .setting) mask p demand
+
+-- More sets were marked, and wait; for each of these packs, those that Q says and no others.
+pub record Marks (These : Pack → Type 0) (Q : Pack → ℕ → Type 0) (a b : Board) : Type 0 where
   pub grows : Adds setWords (λ j. Unit) (λ j. ⊥) a b
-  pub adds : (P : Pack) → Tabled (P .setting) table → AddsOnly setWords (Q P) a b
+  pub adds : (P : Pack) → These P → AddsOnly setWords (Q P) a b
 
 -- ---- what follows from the sets that are marked
 
@@ -58,7 +65,7 @@ abbrev pub AllWait : Board → Type 0
 AllWait b = (j : ℕ) → j < memberSets → ¬ Looked b j
 
 abbrev pub CloseShown : List (List ℕ) → List ℕ → List ℕ → Type 0
-CloseShown table before after = (P : Pack) → Tabled (P .setting) table → (j : ℕ) → Marked after j ↔ Follows P before j
+CloseShown demands before after = (P : Pack) → OfTable demands P → (j : ℕ) → Marked after j ↔ Follows P before j
 
 -- ---- what the core's nodes get
 

@@ -1,11 +1,11 @@
 // The sets of the invented nodes, as bits by set number: those that the core leads to, and what follows from each.
 ghost use lib.ListN.{replicate};
 ghost use mathlib.Core.Path.{_≡_};
-ghost use Prim.Native.Nat.{_+_, _<_};
+ghost use Prim.Native.Nat.{ℕ, _+_, _<_};
 ghost use Rattle.core.specs.Keys.{originAt};
 ghost use Rattle.core_lists.specs.Input.{CoreFits};
 ghost use Rattle.core_lists.specs.Origin.{keysBefore};
-ghost use Rattle.invent.specs.Invent.{AllWait, CloseShown, CoreLacks, InventShown, Lacks, Leads, Marks, Next, NodeLacks, maskOf, numberOf};
+ghost use Rattle.invent.specs.Invent.{AllWait, CloseShown, CoreLacks, InventShown, Lacks, Leads, Marks, Next, NodeLacks, OfDemand, OfTable, maskOf, numberOf};
 ghost use Rattle.meaning.specs.Built.{invented};
 ghost use Rattle.meaning.specs.Limits.{maxCoreNodes, maxPredicates, memberSets, setWords};
 ghost use Rattle.meaning.specs.Ordered.{InOrder};
@@ -19,8 +19,11 @@ use meaning::PLACE_ROOM;
 use meaning::SET_WORDS;
 use meaning::ShapeTable;
 use meaning::TYPE_SETS;
-use shapes::required;
-use shapes::targets;
+use shapes::demand::DemandTable;
+use shapes::demand::demand_table;
+use shapes::demand::demands_of;
+use shapes::demand::required;
+use shapes::demand::targets;
 use worklist::mark;
 use worklist::take;
 
@@ -44,61 +47,60 @@ fn set_mask(number: usize) -> u16
     (number % TYPE_SETS + number / TYPE_SETS * LITERAL) as u16
 }
 
-// Marks the p-targets of a set if it requires p. A table of sets, those that wait, their stack and its top go together.
+// Marks the targets of a demand if an edge is required. A table of sets, those that wait, their stack and its top go together.
 fn mark_targets(
-    shapes: &ShapeTable,
-    mask: u16,
-    p: usize,
+    demand: u16,
     flags: &mut [u64],
     waiting: &mut [u64],
     stack: &mut [u16],
     top: usize,
 ) -> usize
-    requires { ⌜ (p < maxPredicates) × Table setWords (board (now flags) (now waiting) (now stack) top) × CodesFit (now shapes) ⌝ }
-    ensures { λ r. ⌜ Marks (now (shapes .entry)) (λ P. Leads P (invented (setOfMask mask)) p)
-        (board (now (flags .entry)) (now (waiting .entry)) (now (stack .entry)) top) (board (now (flags .exit)) (now (waiting .exit)) (now (stack .exit)) r) ⌝ }
+    requires { ⌜ Table setWords (board (now flags) (now waiting) (now stack) top) ⌝ }
+    ensures { λ r. ⌜ ((mask p : ℕ) → Marks (OfDemand mask p demand) (λ P. Leads P (invented (setOfMask mask)) p)
+        (board (now (flags .entry)) (now (waiting .entry)) (now (stack .entry)) top) (board (now (flags .exit)) (now (waiting .exit)) (now (stack .exit)) r)) ⌝ }
 {
-    if !required(shapes, mask, p) {
+    if !required(demand) {
         return top;
     }
-    mark(
-        set_number(targets(shapes, mask, p)),
-        flags,
-        waiting,
-        stack,
-        top,
-    )
+    mark(set_number(targets(demand)), flags, waiting, stack, top)
 }
 
-// The same for every predicate.
+// The same for all that a set demands.
 fn mark_all(
-    shapes: &ShapeTable,
+    demands: &DemandTable,
     mask: u16,
     flags: &mut [u64],
     waiting: &mut [u64],
     stack: &mut [u16],
     top: usize,
 ) -> usize
-    requires { ⌜ Table setWords (board (now flags) (now waiting) (now stack) top) × CodesFit (now shapes) ⌝ }
-    ensures { λ r. ⌜ Marks (now (shapes .entry)) (Next mask) (board (now (flags .entry)) (now (waiting .entry)) (now (stack .entry)) top)
+    requires { ⌜ Table setWords (board (now flags) (now waiting) (now stack) top) ⌝ }
+    ensures { λ r. ⌜ Marks (OfTable (now (demands .entry))) (Next mask) (board (now (flags .entry)) (now (waiting .entry)) (now (stack .entry)) top)
         (board (now (flags .exit)) (now (waiting .exit)) (now (stack .exit)) r) ⌝ }
 {
+    let row = demands_of(demands, mask);
     let mut end = top;
     for p in 0..MAX_PREDICATES {
-        end = mark_targets(shapes, mask, p, flags, waiting, stack, end);
+        end = mark_targets(row[p], flags, waiting, stack, end);
     }
     end
 }
 
 // Takes the sets that wait, one after another, and marks what follows from each, until none waits.
-fn close(shapes: &ShapeTable, flags: &mut [u64], waiting: &mut [u64], stack: &mut [u16], top: usize)
-    requires { ⌜ Table setWords (board (now flags) (now waiting) (now stack) top) × AllWait (board (now flags) (now waiting) (now stack) top) × CodesFit (now shapes) ⌝ }
-    ensures { λ _. ⌜ CloseShown (now (shapes .entry)) (now (flags .entry)) (now (flags .exit)) ⌝ }
+fn close(
+    demands: &DemandTable,
+    flags: &mut [u64],
+    waiting: &mut [u64],
+    stack: &mut [u16],
+    top: usize,
+)
+    requires { ⌜ Table setWords (board (now flags) (now waiting) (now stack) top) × AllWait (board (now flags) (now waiting) (now stack) top) ⌝ }
+    ensures { λ _. ⌜ CloseShown (now (demands .entry)) (now (flags .entry)) (now (flags .exit)) ⌝ }
 {
     let mut end = top;
     while 0 < end {
         let taken = take(waiting, &stack[..], end);
-        end = mark_all(shapes, set_mask(taken.0), flags, waiting, stack, taken.1);
+        end = mark_all(demands, set_mask(taken.0), flags, waiting, stack, taken.1);
     }
 }
 
@@ -125,10 +127,9 @@ struct Seeded {
 
 // Marks the p-targets of a core node that requires p and has no p-edge; passes its p-edges.
 fn seed_edge(
-    shapes: &ShapeTable,
     triples: &[u64],
     subject: usize,
-    mask: u16,
+    demand: u16,
     p: usize,
     from: Seeded,
     flags: &mut [u64],
@@ -136,9 +137,9 @@ fn seed_edge(
     stack: &mut [u16],
 ) -> Seeded
     requires { ⌜ InOrder _<_ (now triples) × (subject < maxCoreNodes) × (p < maxPredicates) × (from .at ≡ keysBefore (originAt subject p) (now triples))
-        × Table setWords (board (now flags) (now waiting) (now stack) (from .top)) × CodesFit (now shapes) ⌝ }
-    ensures { λ r. ⌜ Marks (now (shapes .entry)) (λ P. Lacks P (now (triples .entry)) subject mask p)
-        (board (now (flags .entry)) (now (waiting .entry)) (now (stack .entry)) (from .top)) (board (now (flags .exit)) (now (waiting .exit)) (now (stack .exit)) (r .top))
+        × Table setWords (board (now flags) (now waiting) (now stack) (from .top)) ⌝ }
+    ensures { λ r. ⌜ ((mask : ℕ) → Marks (OfDemand mask p demand) (λ P. Lacks P (now (triples .entry)) subject mask p)
+        (board (now (flags .entry)) (now (waiting .entry)) (now (stack .entry)) (from .top)) (board (now (flags .exit)) (now (waiting .exit)) (now (stack .exit)) (r .top)))
         × (r .at ≡ keysBefore (originAt subject p + 1) (now (triples .entry))) ⌝ }
 {
     let start = from.at;
@@ -146,13 +147,13 @@ fn seed_edge(
     if at != start {
         return Seeded { at, top: from.top };
     }
-    let top = mark_targets(shapes, mask, p, flags, waiting, stack, from.top);
+    let top = mark_targets(demand, flags, waiting, stack, from.top);
     Seeded { at, top }
 }
 
 // The same for every predicate.
 fn seed_node(
-    shapes: &ShapeTable,
+    demands: &DemandTable,
     triples: &[u64],
     subject: usize,
     mask: u16,
@@ -162,24 +163,15 @@ fn seed_node(
     stack: &mut [u16],
 ) -> Seeded
     requires { ⌜ InOrder _<_ (now triples) × (subject < maxCoreNodes) × (from .at ≡ keysBefore (originAt subject 0) (now triples))
-        × Table setWords (board (now flags) (now waiting) (now stack) (from .top)) × CodesFit (now shapes) ⌝ }
-    ensures { λ r. ⌜ Marks (now (shapes .entry)) (NodeLacks (now (triples .entry)) subject mask)
+        × Table setWords (board (now flags) (now waiting) (now stack) (from .top)) ⌝ }
+    ensures { λ r. ⌜ Marks (OfTable (now (demands .entry))) (NodeLacks (now (triples .entry)) subject mask)
         (board (now (flags .entry)) (now (waiting .entry)) (now (stack .entry)) (from .top)) (board (now (flags .exit)) (now (waiting .exit)) (now (stack .exit)) (r .top))
         × (r .at ≡ keysBefore (originAt subject maxPredicates) (now (triples .entry))) ⌝ }
 {
+    let row = demands_of(demands, mask);
     let mut next = from;
     for p in 0..MAX_PREDICATES {
-        let more = seed_edge(
-            shapes,
-            triples,
-            subject,
-            mask,
-            p,
-            next,
-            flags,
-            waiting,
-            stack,
-        );
+        let more = seed_edge(triples, subject, row[p], p, next, flags, waiting, stack);
         next = more;
     }
     next
@@ -187,7 +179,7 @@ fn seed_node(
 
 // The same for every core node.
 fn seed(
-    shapes: &ShapeTable,
+    demands: &DemandTable,
     nodes: &[u64],
     triples: &[u64],
     masks: &[u16],
@@ -195,13 +187,13 @@ fn seed(
     waiting: &mut [u64],
     stack: &mut [u16],
 ) -> usize
-    requires { ⌜ CoreFits (now nodes) (now triples) (now masks) × Table setWords (board (now flags) (now waiting) (now stack) 0) × CodesFit (now shapes) ⌝ }
-    ensures { λ r. ⌜ Marks (now (shapes .entry)) (CoreLacks (now (nodes .entry)) (now (triples .entry)) (now (masks .entry)))
+    requires { ⌜ CoreFits (now nodes) (now triples) (now masks) × Table setWords (board (now flags) (now waiting) (now stack) 0) ⌝ }
+    ensures { λ r. ⌜ Marks (OfTable (now (demands .entry))) (CoreLacks (now (nodes .entry)) (now (triples .entry)) (now (masks .entry)))
         (board (now (flags .entry)) (now (waiting .entry)) (now (stack .entry)) 0) (board (now (flags .exit)) (now (waiting .exit)) (now (stack .exit)) r) ⌝ }
 {
     let mut next = Seeded { at: 0, top: 0 };
     for s in 0..nodes.len() {
-        let more = seed_node(shapes, triples, s, masks[s], next, flags, waiting, stack);
+        let more = seed_node(demands, triples, s, masks[s], next, flags, waiting, stack);
         next = more;
     }
     next.top
@@ -212,10 +204,11 @@ pub fn invent(shapes: &ShapeTable, nodes: &[u64], triples: &[u64], masks: &[u16]
     requires { ⌜ CoreFits (now nodes) (now triples) (now masks) × (now flags ≡ replicate setWords 0) × CodesFit (now shapes) ⌝ }
     ensures { λ _. ⌜ InventShown (now (shapes .entry)) (now (nodes .entry)) (now (triples .entry)) (now (masks .entry)) (now (flags .exit)) ⌝ }
 {
+    let demands = demand_table(shapes);
     let mut waiting = [0u64; SET_WORDS];
     let mut stack = [0u16; SET_WORDS];
     let top = seed(
-        shapes,
+        &demands,
         nodes,
         triples,
         masks,
@@ -223,5 +216,5 @@ pub fn invent(shapes: &ShapeTable, nodes: &[u64], triples: &[u64], masks: &[u16]
         &mut waiting,
         &mut stack,
     );
-    close(shapes, flags, &mut waiting, &mut stack, top);
+    close(&demands, flags, &mut waiting, &mut stack, top);
 }

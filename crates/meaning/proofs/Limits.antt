@@ -3,7 +3,7 @@
 use mathlib.Core.Path.{_≡_, refl}
 use native.Mathlib.Omega.{arith}
 use Prim.Native.Nat.{_*_, _-_, _≤_}
-use Rattle.meaning.specs.Limits.{contentsBytes, literalBit, maxCoreNodes, maxNodes, maxPredicates, maxShapes, maxTriples, maxTypes, memberSets}
+use Rattle.meaning.specs.Limits.{contentsBytes, indexLength, literalBit, maxCoreNodes, maxNodes, maxPredicates, maxShapes, maxTriples, maxTypes, memberSets}
 use Rattle.meaning.specs.Limits.{namedWords, nodeListLength, nodeWords, pairListLength, placeRoom, predicateRoom, setWords, tripleListLength, typeSets, wordBits}
 
 -- "under 36": nine 32-bit lengths
@@ -27,7 +27,7 @@ triples-56308 = refl
 pub invented-4095 : typeSets - 1 ≡ 4095
 invented-4095 = refl
 
-pub index-9728 : 2 * maxNodes ≡ 9728
+pub index-9728 : indexLength ≡ 9728
 index-9728 = refl
 
 -- Refusal 1: "8,192 for pairs"

@@ -112,6 +112,9 @@ nodeWidth = 7
 abbrev pub tripleWidth : ℕ  -- numbers to a triple
 tripleWidth = 3
 
+abbrev pub indexWidth : ℕ  -- numbers to a node in the index of subjects; card 13
+indexWidth = 2
+
 abbrev pub pairWidth : ℕ  -- numbers to a pair
 pairWidth = 2
 
@@ -182,6 +185,9 @@ nodeListLength = maxNodes * nodeWidth
 
 abbrev pub tripleListLength : ℕ
 tripleListLength = maxTriples * tripleWidth
+
+abbrev pub indexLength : ℕ
+indexLength = maxNodes * indexWidth
 
 abbrev pub pairListLength : ℕ
 pairListLength = maxPairs * pairWidth

@@ -1,12 +1,12 @@
 -- The lists that a build leaves: node records, triples by node number, their order (document 01, "The graph", third
--- paragraph). Assumes nothing.
-use lib.ListN.{take, replicate, getElem?}
+-- paragraph), and the index of subjects (card 13). Assumes nothing.
+use lib.ListN.{take, replicate, getElem?, length}
 use mathlib.Core.Bool.{Bool, true, false}
 use mathlib.Core.List.{List, [], _∷_, _++_, Forall₂}
 use mathlib.Core.Logic.{_↔_}
 use mathlib.Core.Option.{some}
 use mathlib.Core.Path.{_≡_}
-use Prim.Native.Nat.{ℕ}
+use Prim.Native.Nat.{ℕ, _+_, _<_, _≤_}
 use Rattle.meaning.specs.Built.{BuiltNode, core, invented, HasType, IsBuilt, BuiltEdge}
 use Rattle.meaning.specs.Core.{iriNode, literalNode}
 use Rattle.meaning.specs.Limits.{maxArguments, unused}
@@ -85,3 +85,22 @@ pub record GraphLists (P : Pack) (nodes triples : List (List ℕ)) : Type 0 wher
   pub ordered : NodesInOrder P inOrder
   pub records : Forall₂ (NodeRecord P) inOrder nodes
   pub edges : ListOf _≺_ (TripleRecord P inOrder) triples
+
+-- ---- Card 13: "two 16-bit numbers for each node: its first triple as subject and how many it has, 0 and 0 where none"
+
+-- The triple at place k has this node as subject.
+abbrev pub SubjectIs : List (List ℕ) → ℕ → ℕ → Type 0
+SubjectIs triples k node = (rest : List ℕ) × (getElem? triples k ≡ some (node ∷ rest))
+
+-- Triples ascend, so that those of a node stand one after another: as many as `count`, from place `first` on.
+pub record IndexEntry (triples : List (List ℕ)) (node : ℕ) (numbers : List ℕ) : Type 0 where
+  pub first : ℕ
+  pub count : ℕ
+  pub its : (k : ℕ) → SubjectIs triples k node ↔ ((first ≤ k) × (k < first + count))
+  pub none : count ≡ 0 → first ≡ 0
+  pub are : numbers ≡ first ∷ count ∷ []
+
+-- An entry for each of so many nodes, by their numbers.
+pub record SubjectIndex (triples : List (List ℕ)) (nodes : ℕ) (entries : List (List ℕ)) : Type 0 where
+  pub each : length entries ≡ nodes
+  pub entry : (node : ℕ) (numbers : List ℕ) → getElem? entries node ≡ some numbers → IndexEntry triples node numbers

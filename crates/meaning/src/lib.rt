@@ -71,6 +71,8 @@ pub const NODE_WIDTH: usize = 7;
 
 pub const TRIPLE_WIDTH: usize = 3;
 
+pub const INDEX_WIDTH: usize = 2;
+
 pub const PAIR_WIDTH: usize = 2;
 
 pub const MAX_IRIS: usize = 512;
@@ -112,6 +114,8 @@ pub const SEEN_WORDS: usize = (MAX_PARTS + 1) * NAMED_WORDS;
 pub const NODE_LIST_LENGTH: usize = MAX_NODES * NODE_WIDTH;
 
 pub const TRIPLE_LIST_LENGTH: usize = MAX_TRIPLES * TRIPLE_WIDTH;
+
+pub const INDEX_LENGTH: usize = MAX_NODES * INDEX_WIDTH;
 
 pub const PAIR_LIST_LENGTH: usize = MAX_PAIRS * PAIR_WIDTH;
 

@@ -2,6 +2,7 @@
 ghost use lib.ListN.{length};
 ghost use Prim.Native.Nat.{_≤_};
 ghost use Rattle.evaluate.specs.Answered.{ForReady, IsReady, PairsIn};
+ghost use Rattle.index.specs.Subjects.{BySubject};
 ghost use Rattle.meaning.specs.Limits.{maxPairs};
 ghost use Rattle.pair_list.specs.Written.{TableRoom};
 use evaluate::pairs::pairs;
@@ -17,13 +18,15 @@ pub fn find_pairs(
     count: usize,
     triples: &[u16],
     edges: usize,
+    index: &[u16],
     alive: &mut [u64],
     waiting: &mut [u64],
     stack: &mut [u16],
     seen: &mut [u64],
     found: &mut [u32],
 ) -> Pairs
-    requires { ⌜ IsReady (now tree) parts (now wanted) (now nodes) count (now triples) edges × TableRoom (now alive) (now waiting) (now stack) (now seen) × (maxPairs ≤ length (now found)) ⌝ }
+    requires { ⌜ IsReady (now tree) parts (now wanted) (now nodes) count (now triples) edges
+        × BySubject (now triples) count edges (now index) × TableRoom (now alive) (now waiting) (now stack) (now seen) × (maxPairs ≤ length (now found)) ⌝ }
     ensures { λ r. ⌜ ForReady (now (tree .entry)) parts (now (wanted .entry)) (now (nodes .entry)) count (now (triples .entry)) edges
         (λ pack query. PairsIn pack query (now (nodes .entry)) count (now (triples .entry)) edges r (now (found .exit))) ⌝ }
 {
@@ -38,6 +41,7 @@ pub fn find_pairs(
         count,
         triples,
         edges,
+        index,
         alive,
         waiting,
         stack,

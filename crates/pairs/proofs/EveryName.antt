@@ -31,7 +31,7 @@ module _ {pack query : Text} {r : PairAnswer} {fronts : List (List ℕ)} (G : Gi
   e = G .asked .expression
 
   abbrev nodes : List BuiltNode
-  nodes = G .asked .graph .has .graph .lists .inOrder
+  nodes = G .asked .graph .has .graph .listed .lists .inOrder
 
   -- A pair of these names is listed.
   pub record IsListed (n m : Name) : Type 0 where
@@ -43,12 +43,13 @@ module _ {pack query : Text} {r : PairAnswer} {fronts : List (List ℕ)} (G : Gi
 
   -- the place of a core node
   place-of : (k : Node) → CoreNode P k → (i : ℕ) × (getElem? nodes i ≡ some (core k))
-  place-of k c = placed (G .asked .graph .has .graph .lists .ordered .members (core k) .1 (inCore c))
+  place-of k c = placed (G .asked .graph .has .graph .listed .lists .ordered .members (core k) .1 (inCore c))
 
   listed-pair : (n m : Name) → T (isNamed n) → T (isNamed m) → CertainPair (plain P) P e n m → IsListed n m
   listed-pair n m a b c =
-      let f = well-formed pack P (formed (G .asked .graph .has)) in
-      let (k, l, (x, y), (u, v), j) = certain-pairs-all P (f .named) (plain P) (plain-distinct P (f .distinct) (f .prefixFree) (f .named)) (some-graph (G .asked .graph .has)) e n m a b c in
+      let f = well-formed pack P (formed pack (G .asked .graph .has .is)) in
+      let h = G .asked .graph .has in
+      let (k, l, (x, y), (u, v), j) = certain-pairs-all P (f .named) (plain P) (plain-distinct P (f .distinct) (f .prefixFree) (f .named)) (some-graph pack (h .is) (h .obeyed)) e n m a b c in
       let (i, p) = place-of k x in
       let (o, q) = place-of l y in
       let R : PairRecord (plain P) P e nodes (i ∷ o ∷ []) = record {

@@ -8,15 +8,17 @@ use Prim.Native.Nat.{ℕ, _*_, _≤_}
 use Rattle.reached.specs.declared.pairs.Pairs.the-variants.{Listed, TooMany}
 use Rattle.reached.specs.declared.pairs.Pairs.{Pairs}
 use Rattle.calls.specs.Call.{Contents, gives, refuses, _becomes_}
-use Rattle.construct.specs.Outcome.{counted, refusedAs}
+use Rattle.construct.specs.Outcome.{HasGraph, counted, refusedAs}
 use Rattle.construct.specs.declared.Constructed.{Constructed}
-use Rattle.evaluate.proofs.InLists.{ready-in}
+use Rattle.evaluate.proofs.InLists.{index-in, ready-in}
 use Rattle.evaluate.specs.Answered.{PairsIn, Ready}
 use Rattle.evaluate.specs.GraphIn.{GraphIn}
 use Rattle.evaluate.specs.Named.{pairOf}
 use Rattle.graph.proofs.Fronts.{copied}
-use Rattle.graph.specs.Fronts.{frontsOf}
-use Rattle.meaning.specs.Limits.{maxPairs, maxParts, nodeListLength, nodeWidth, pairWidth, tripleListLength, tripleWidth}
+use Rattle.graph.proofs.SubjectEntries.{entries-flat, entries-say, entriesOf}
+use Rattle.graph.specs.Fronts.{GraphFronts, frontsOf}
+use Rattle.index.specs.Subjects.{BySubject}
+use Rattle.meaning.specs.Limits.{indexLength, indexWidth, maxPairs, maxParts, nodeListLength, nodeWidth, pairWidth, tripleListLength, tripleWidth}
 use Rattle.meaning.specs.Pack.{Text}
 use Rattle.pair_list.proofs.Publishing.{flat-length}
 use Rattle.pair_list.specs.Written.{CanCopy, PairsFit, withPairs}
@@ -29,19 +31,23 @@ use Rattle.sets.specs.Buffers.{overlaid}
 
 -- ---- 2 to 11, or a graph in the call's own lists
 
-module _ {pack query : Text} {tree : List ℕ} {p : Prepared} (points links : Contents) (c : Prepares pack query tree p points links) where
-  pub refused : {nodes triples pairs : List ℕ} → (p .graph .refusal ≡ 0 → ⊥)
-      → Comes pack query (record { graph = p .graph; pairs = 0 }) (nodes becomes nodes) (triples becomes triples) (pairs becomes pairs)
-  refused n = refuses (before-12 (as-refused points links c n .0) refl) (refl, (refl, (refl, tt)))
+module _ {pack query : Text} {tree : List ℕ} {p : Prepared} (points links marks : Contents) (c : Prepares pack query tree p points links marks) where
+  pub refused : {nodes triples index pairs : List ℕ} → (p .graph .refusal ≡ 0 → ⊥)
+      → Comes pack query (record { graph = p .graph; pairs = 0 }) (nodes becomes nodes) (triples becomes triples) (index becomes index) (pairs becomes pairs)
+  refused n = refuses (before-12 (as-refused points links marks c n .0) refl) (refl, (refl, (refl, (refl, tt))))
 
   module _ (z : p .graph .refusal ≡ 0) where
     pub counts : p .graph ≡ counted (p .graph .nodes) (p .graph .triples)
-    counts = let (fs, R, w) = as-readied points links c z in R .graph .counts
+    counts = let (fs, R, w) = as-readied points links marks c z in R .graph .counts
 
     pub ready : {wanted : List ℕ} → nodeListLength ≤ length (points .after) → tripleListLength ≤ length (links .after)
         → ResolvedIf pack query tree p (points .after) wanted → maxParts ≤ length wanted
         → Ready pack query tree (p .parts) wanted (points .after) (p .graph .nodes) (links .after) (p .graph .triples)
-    ready a b r l = let (fs, R, w) = as-readied points links c z in ready-in (R .graph) points links w a b (R .held) (R .room) (r z) l
+    ready a b r l = let (fs, R, w) = as-readied points links marks c z in ready-in (R .graph) points links marks w a b (R .held) (R .room) (r z) l
+
+    pub indexed : nodeListLength ≤ length (points .after) → tripleListLength ≤ length (links .after) → indexLength ≤ length (marks .after)
+        → BySubject (links .after) (p .graph .nodes) (p .graph .triples) (marks .after)
+    indexed a b l = let (fs, R, w) = as-readied points links marks c z in index-in (R .graph) points links marks w a b l
 
 -- ---- 12, or the pairs
 
@@ -50,46 +56,61 @@ module _ {pack query : Text} {tree : List ℕ} {parts : ℕ} {wanted points link
   abbrev graph : GraphIn pack (r .graph .of) points (g .nodes) links (g .triples)
   graph = r .graph .graph
 
-  pub over : {nodes triples pairs : List ℕ} {h : Constructed} → x ≡ TooMany → h ≡ refusedAs 12
-      → Comes pack query (record { graph = h; pairs = 0 }) (nodes becomes nodes) (triples becomes triples) (pairs becomes pairs)
+  pub over : {nodes triples index pairs : List ℕ} {h : Constructed} → x ≡ TooMany → h ≡ refusedAs 12
+      → Comes pack query (record { graph = h; pairs = 0 }) (nodes becomes nodes) (triples becomes triples) (index becomes index) (pairs becomes pairs)
   over e h =
       let t = subst (λ y. PairsIn pack query points (g .nodes) links (g .triples) y found) e p (r .graph .of) graph (r .held .expression) (r .held .query) in
-      refuses (too-many (r .held .expression) (r .held .query) (r .graph .of) (graph .has .is) (graph .has .small) (graph .has .obeyed) t h refl) (refl, (refl, (refl, tt)))
+      refuses (too-many (r .held .expression) (r .held .query) (r .graph .of) (graph .is) (graph .small) (graph .obeyed) t h refl) (refl, (refl, (refl, (refl, tt))))
 
-  module _ {k : ℕ} (e : x ≡ Listed k) (l : maxPairs ≤ length found) where
+  module _ {k : ℕ} (e : x ≡ Listed k) (l : maxPairs ≤ length found) (marks : List ℕ) (b : BySubject links (g .nodes) (g .triples) marks) where
     listed-in : PairsIn pack query points (g .nodes) links (g .triples) (Listed k) found
     listed-in = subst (λ y. PairsIn pack query points (g .nodes) links (g .triples) y found) e p
 
     -- what is written has room
-    pub fits : (nodes triples pairs : List ℕ) → ListRoom nodes triples pairs
-        → CanCopy (g .nodes * nodeWidth) points nodes × CanCopy (g .triples * tripleWidth) links triples × PairsFit k found pairs
-    fits nodes triples pairs room =
-        let n = graph .has .graph .few-nodes in
-        let t = graph .has .graph .few-triples in
+    pub fits : (nodes triples index pairs : List ℕ) → ListRoom nodes triples index pairs
+        → CanCopy (g .nodes * nodeWidth) points nodes × CanCopy (g .triples * tripleWidth) links triples × CanCopy (g .nodes * indexWidth) marks index × PairsFit k found pairs
+    fits nodes triples index pairs room =
+        let n = graph .listed .few-nodes in
+        let t = graph .listed .few-triples in
         let few = listed-in .0 in (
           (omega (arith, graph .node-room), omega (arith, room .0)),
           (omega (arith, graph .triple-room), omega (arith, room .1 .0)),
-          (omega arith, omega (arith, room .1 .1 .0), listed-in .1),
+          (b .long, omega (arith, room .1 .1 .0)),
+          (omega arith, omega (arith, room .1 .1 .1 .0), listed-in .1),
         )
 
-    pub listed : (nodes triples pairs : List ℕ) {nodes′ triples′ pairs′ : List ℕ} → g ≡ counted (g .nodes) (g .triples)
-        → nodes′ ≡ overlaid (g .nodes * nodeWidth) points nodes → triples′ ≡ overlaid (g .triples * tripleWidth) links triples → pairs′ ≡ withPairs k found pairs
-        → Comes pack query (record { graph = g; pairs = k }) (nodes becomes nodes′) (triples becomes triples′) (pairs becomes pairs′)
-    listed nodes triples pairs counts u v w =
+    -- the graph and its index
+    abbrev fronts : GraphFronts (r .graph .of) (g .nodes) (g .triples) (frontsOf (g .nodes) points (g .triples) links marks)
+    fronts = record {
+      nodes = _;
+      triples = _;
+      listed = graph .listed;
+      entries = entriesOf (g .nodes) marks;
+      indexed = entries-say links (graph .listed) b;
+      fronts-are = λ i. take (g .nodes * nodeWidth) points ∷ take (g .triples * tripleWidth) links ∷ entries-flat (g .nodes) marks (b .long) i ∷ [];
+    }
+
+    pub listed : (nodes triples index pairs : List ℕ) {nodes′ triples′ index′ pairs′ : List ℕ} → g ≡ counted (g .nodes) (g .triples)
+        → nodes′ ≡ overlaid (g .nodes * nodeWidth) points nodes → triples′ ≡ overlaid (g .triples * tripleWidth) links triples
+        → index′ ≡ overlaid (g .nodes * indexWidth) marks index → pairs′ ≡ withPairs k found pairs
+        → Comes pack query (record { graph = g; pairs = k }) (nodes becomes nodes′) (triples becomes triples′) (index becomes index′) (pairs becomes pairs′)
+    listed nodes triples index pairs counts u v y w =
         let f = listed-in .2 (r .graph .of) graph (r .held .expression) (r .held .query) in
-        let (n, (t, _)) = copied points links (graph .has .graph) nodes triples u v in
+        let h : HasGraph pack (r .graph .of) (g .nodes) (g .triples) (frontsOf (g .nodes) points (g .triples) links marks) =
+        record { is = graph .is; small = graph .small; obeyed = graph .obeyed; graph = fronts } in
+        let (n, (t, (m, _))) = copied points links marks (graph .listed) (b .long) nodes triples index u v y in
         gives
-        (frontsOf (g .nodes) points (g .triples) links ++ (flatten records ∷ []))
+        (frontsOf (g .nodes) points (g .triples) links marks ++ (flatten records ∷ []))
         (record {
-          graph-fronts = frontsOf (g .nodes) points (g .triples) links;
-          asked = record { expression = r .held .expression; is = r .held .query; graph = record { of = r .graph .of; has = graph .has; counts = counts } };
+          graph-fronts = frontsOf (g .nodes) points (g .triples) links marks;
+          asked = record { expression = r .held .expression; is = r .held .query; graph = record { of = r .graph .of; has = h; counts = counts } };
           few = f .1;
           records = records;
           certain = f .0;
           count = sym (length-map (take k found) pairOf ∙ taken);
           fronts-are = refl;
         })
-        (n, (t, (w ∙ ap (λ m. flatten records ++ drop m pairs) (sym (flat-length (take k found) ∙ ap (λ m. m * pairWidth) taken)), tt)))
+        (n, (t, (m, (w ∙ ap (λ m. flatten records ++ drop m pairs) (sym (flat-length (take k found) ∙ ap (λ m. m * pairWidth) taken)), tt))))
       where
         records : List (List ℕ)
         records = map pairOf (take k found)

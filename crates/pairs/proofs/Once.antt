@@ -57,8 +57,8 @@ module _ {pack query : Text} {r s : PairAnswer} where
     pub one-list : g .records ≡ h .records
     one-list =
         let o = prepared.one-question (g .asked) (h .asked) in
-        let G = g .asked .graph .has .graph .lists in
-        let H = h .asked .graph .has .graph .lists in
+        let G = g .asked .graph .has .graph .listed .lists in
+        let H = h .asked .graph .has .graph .listed .lists in
         let w = list-unique (by-key nodeKey) (subst (λ (z : Pack × Expr). NodesInOrder (z .0) (G .inOrder)) o (G .ordered)) (H .ordered) in
         let x = subst (λ (z : (Pack × Expr) × List BuiltNode). PairList (plain (z .0 .0)) (z .0 .0) (z .0 .1) (z .1) (g .records)) (λ k. (o k, w k)) (g .certain) in
         list-unique (by-key (λ t. t)) x (h .certain)
@@ -72,14 +72,15 @@ pub fixed : (pack query : Text) → Fixed (Refuses pack query) (Gives pack query
 fixed pack query = record { one-refusal = one-refusal; not-both = not-both; one-result = one-result }
 
 pub answers-once : (pack query : Text) (r s : PairAnswer)
-    (nodes nodes₂ triples triples₂ pairs pairs₂ rows rows₂ heads heads₂ alive alive₂
-    waiting waiting₂ stack stack₂ seen seen₂ own-nodes own-nodes₂ own-triples own-triples₂ : Contents)
-    → SameLengths (lists nodes triples pairs) (lists nodes₂ triples₂ pairs₂)
-    → SameLengths (buffers rows heads alive waiting stack seen own-nodes own-triples) (buffers rows₂ heads₂ alive₂ waiting₂ stack₂ seen₂ own-nodes₂ own-triples₂)
-    → PairsAnswers pack query r nodes triples pairs rows heads alive waiting stack seen own-nodes own-triples
-    → PairsAnswers pack query s nodes₂ triples₂ pairs₂ rows₂ heads₂ alive₂ waiting₂ stack₂ seen₂ own-nodes₂ own-triples₂
-    → Same (Refuses pack query) (Gives pack query) r s (lists nodes triples pairs) (lists nodes₂ triples₂ pairs₂)
-    (buffers rows heads alive waiting stack seen own-nodes own-triples) (buffers rows₂ heads₂ alive₂ waiting₂ stack₂ seen₂ own-nodes₂ own-triples₂)
-answers-once pack query r s nodes nodes₂ triples triples₂ pairs pairs₂ rows rows₂ heads heads₂ alive alive₂
-    waiting waiting₂ stack stack₂ seen seen₂ own-nodes own-nodes₂ own-triples own-triples₂ =
+    (nodes nodes₂ triples triples₂ index index₂ pairs pairs₂ rows rows₂ heads heads₂ alive alive₂
+    waiting waiting₂ stack stack₂ seen seen₂ own-nodes own-nodes₂ own-triples own-triples₂ own-index own-index₂ : Contents)
+    → SameLengths (lists nodes triples index pairs) (lists nodes₂ triples₂ index₂ pairs₂)
+    → SameLengths (buffers rows heads alive waiting stack seen own-nodes own-triples own-index)
+    (buffers rows₂ heads₂ alive₂ waiting₂ stack₂ seen₂ own-nodes₂ own-triples₂ own-index₂)
+    → PairsAnswers pack query r nodes triples index pairs rows heads alive waiting stack seen own-nodes own-triples own-index
+    → PairsAnswers pack query s nodes₂ triples₂ index₂ pairs₂ rows₂ heads₂ alive₂ waiting₂ stack₂ seen₂ own-nodes₂ own-triples₂ own-index₂
+    → Same (Refuses pack query) (Gives pack query) r s (lists nodes triples index pairs) (lists nodes₂ triples₂ index₂ pairs₂)
+    (buffers rows heads alive waiting stack seen own-nodes own-triples own-index) (buffers rows₂ heads₂ alive₂ waiting₂ stack₂ seen₂ own-nodes₂ own-triples₂ own-index₂)
+answers-once pack query r s nodes nodes₂ triples triples₂ index index₂ pairs pairs₂ rows rows₂ heads heads₂ alive alive₂
+    waiting waiting₂ stack stack₂ seen seen₂ own-nodes own-nodes₂ own-triples own-triples₂ own-index own-index₂ =
     call-once (fixed pack query)

@@ -8,7 +8,7 @@ use Rattle.construct.specs.Outcome.{SomeObeys, refusedAs}
 use Rattle.grammar.specs.Grammar.{IsQuery}
 use Rattle.graph.specs.Fronts.{graphLists}
 use Rattle.meaning.specs.Certain.{PairList, TooManyPairs}
-use Rattle.meaning.specs.Limits.{headsLength, nodeListLength, pairListLength, rowsLength, seenWords, stateWords, tripleListLength}
+use Rattle.meaning.specs.Limits.{headsLength, indexLength, nodeListLength, pairListLength, rowsLength, seenWords, stateWords, tripleListLength}
 use Rattle.meaning.specs.NoGraph.{TooLarge}
 use Rattle.meaning.specs.Pack.{Pack, Text}
 use Rattle.meaning.specs.Query.{Expr}
@@ -25,29 +25,29 @@ pub data Refuses (pack query : Text) (r : PairAnswer) : Type 0 where
       → Refuses pack query r
 
 -- The graph, and the pairs: "exactly the pairs of named nodes that the query joins in every such graph", ascending; their
--- numbers stand at the front of the third list.
+-- numbers stand at the front of the last list.
 pub record Gives (pack query : Text) (r : PairAnswer) (fronts : List (List ℕ)) : Type 0 where
   pub graph-fronts : List (List ℕ)
   pub asked : Prepared.Gives pack query (r .graph) graph-fronts
   pub few : ¬ TooManyPairs (plain (asked .graph .of)) (asked .graph .of) (asked .expression)
   pub records : List (List ℕ)
-  pub certain : PairList (plain (asked .graph .of)) (asked .graph .of) (asked .expression) (asked .graph .has .graph .lists .inOrder) records
+  pub certain : PairList (plain (asked .graph .of)) (asked .graph .of) (asked .expression) (asked .graph .has .graph .listed .lists .inOrder) records
   pub count : r .pairs ≡ length records
   pub fronts-are : fronts ≡ graph-fronts ++ (flatten records ∷ [])
 
 -- the output lists
-abbrev pub lists : Contents → Contents → Contents → List Lent
-lists nodes triples pairs = graphLists nodes triples ++ (pairs at-least pairListLength ∷ [])
+abbrev pub lists : Contents → Contents → Contents → Contents → List Lent
+lists nodes triples index pairs = graphLists nodes triples index ++ (pairs at-least pairListLength ∷ [])
 
 -- the working buffers
-abbrev pub buffers : Contents → Contents → Contents → Contents → Contents → Contents → Contents → Contents → List Lent
-buffers rows heads alive waiting stack seen own-nodes own-triples =
+abbrev pub buffers : Contents → Contents → Contents → Contents → Contents → Contents → Contents → Contents → Contents → List Lent
+buffers rows heads alive waiting stack seen own-nodes own-triples own-index =
     rows at-least rowsLength ∷ heads at-least headsLength ∷ alive at-least stateWords ∷ waiting at-least stateWords ∷ stack at-least stateWords
-    ∷ seen at-least seenWords ∷ own-nodes at-least nodeListLength ∷ own-triples at-least tripleListLength ∷ []
+    ∷ seen at-least seenWords ∷ own-nodes at-least nodeListLength ∷ own-triples at-least tripleListLength ∷ own-index at-least indexLength ∷ []
 
 -- 1 to 12, or the graph and the pairs
-abbrev pub PairsAnswers : Text → Text → PairAnswer → Contents → Contents → Contents → Contents → Contents → Contents → Contents → Contents → Contents
+abbrev pub PairsAnswers : Text → Text → PairAnswer → Contents → Contents → Contents → Contents → Contents → Contents → Contents → Contents → Contents → Contents → Contents
     → Contents → Contents → Type 0
-PairsAnswers pack query r nodes triples pairs rows heads alive waiting stack seen own-nodes own-triples =
-    Call (record { graph = refusedAs 1; pairs = 0 }) (Refuses pack query) (Gives pack query) r (lists nodes triples pairs)
-    (buffers rows heads alive waiting stack seen own-nodes own-triples)
+PairsAnswers pack query r nodes triples index pairs rows heads alive waiting stack seen own-nodes own-triples own-index =
+    Call (record { graph = refusedAs 1; pairs = 0 }) (Refuses pack query) (Gives pack query) r (lists nodes triples index pairs)
+    (buffers rows heads alive waiting stack seen own-nodes own-triples own-index)

@@ -7,6 +7,7 @@ use calls::long_enough;
 use construct::Constructed;
 use construct::refused;
 use meaning::HEADS_LENGTH;
+use meaning::INDEX_LENGTH;
 use meaning::MAX_PAIRS;
 use meaning::MAX_PARTS;
 use meaning::MAX_QUERY_BYTES;
@@ -29,8 +30,8 @@ pub struct PairAnswer {
     pub pairs: usize,
 }
 
-// The answer in a graph whose nodes and triples stand in `points` and `links`: 12, or the graph and
-// its pairs are written into the lent lists.
+// The answer in a graph whose nodes and triples stand in `points` and `links`, and their index in `marks`: 12, or the graph, its
+// index and its pairs are written into the lent lists.
 fn in_lists(
     tree: &[u32],
     parts: usize,
@@ -38,18 +39,20 @@ fn in_lists(
     graph: Constructed,
     points: &[u16],
     links: &[u16],
+    marks: &[u16],
     nodes: &mut [u16],
     triples: &mut [u16],
+    index: &mut [u16],
     pairs: &mut [u16],
     alive: &mut [u64],
     waiting: &mut [u64],
     stack: &mut [u16],
     seen: &mut [u64],
 ) -> PairAnswer
-    requires { ⌜ CountedGraph (now tree) parts (now wanted) graph (now points) (now links)
-        × ListRoom (now nodes) (now triples) (now pairs) × TableRoom (now alive) (now waiting) (now stack) (now seen) ⌝ }
-    ensures { λ r. ⌜ ForCounted (now (tree .entry)) parts (now (wanted .entry)) graph (now (points .entry)) (now (links .entry))
-        (λ pack query. Comes pack query r (lent nodes) (lent triples) (lent pairs)) ⌝ }
+    requires { ⌜ CountedGraph (now tree) parts (now wanted) graph (now points) (now links) (now marks)
+        × ListRoom (now nodes) (now triples) (now index) (now pairs) × TableRoom (now alive) (now waiting) (now stack) (now seen) ⌝ }
+    ensures { λ r. ⌜ ForCounted (now (tree .entry)) parts (now (wanted .entry)) graph (now (points .entry)) (now (links .entry)) (now (marks .entry))
+        (λ pack query. Comes pack query r (lent nodes) (lent triples) (lent index) (lent pairs)) ⌝ }
 {
     let mut found = [0u32; MAX_PAIRS];
     let n = graph.nodes;
@@ -62,6 +65,7 @@ fn in_lists(
         n,
         links,
         t,
+        marks,
         alive,
         waiting,
         stack,
@@ -73,19 +77,32 @@ fn in_lists(
             pairs: 0,
         },
         Pairs::Listed(k) => {
-            publish(points, n, links, t, &found[..], k, nodes, triples, pairs);
+            publish(
+                points,
+                n,
+                links,
+                t,
+                marks,
+                &found[..],
+                k,
+                nodes,
+                triples,
+                index,
+                pairs,
+            );
             PairAnswer { graph, pairs: k }
         }
     }
 }
 
-// 2 to 12, or the graph and its pairs. The graph is built in `own_nodes` and `own_triples`, since 12
-// is known only later.
+// 2 to 12, or the graph and its pairs. The graph is built in `own_nodes`, `own_triples` and `own_index`, since 12 is known only
+// later.
 fn answer(
     pack: &[u8],
     query: &[u8],
     nodes: &mut [u16],
     triples: &mut [u16],
+    index: &mut [u16],
     pairs: &mut [u16],
     rows: &mut [u16],
     heads: &mut [u64],
@@ -95,9 +112,11 @@ fn answer(
     seen: &mut [u64],
     own_nodes: &mut [u16],
     own_triples: &mut [u16],
+    own_index: &mut [u16],
 ) -> PairAnswer
-    requires { ⌜ Room (now nodes) (now triples) (now pairs) (now rows) (now heads) (now alive) (now waiting) (now stack) (now seen) (now «own_nodes») (now «own_triples») ⌝ }
-    ensures { λ r. ⌜ Comes (now (pack .entry)) (now (query .entry)) r (lent nodes) (lent triples) (lent pairs) ⌝ }
+    requires { ⌜ Room (now nodes) (now triples) (now index) (now pairs) (now rows) (now heads) (now alive) (now waiting) (now stack) (now seen)
+        (now «own_nodes») (now «own_triples») (now «own_index») ⌝ }
+    ensures { λ r. ⌜ Comes (now (pack .entry)) (now (query .entry)) r (lent nodes) (lent triples) (lent index) (lent pairs) ⌝ }
 {
     let mut tree = [0u32; MAX_QUERY_BYTES];
     let mut wanted = [0u16; MAX_PARTS];
@@ -108,6 +127,7 @@ fn answer(
         &mut wanted,
         own_nodes,
         own_triples,
+        own_index,
         rows,
         heads,
     );
@@ -122,8 +142,10 @@ fn answer(
         graph,
         &own_nodes[..],
         &own_triples[..],
+        &own_index[..],
         nodes,
         triples,
+        index,
         pairs,
         alive,
         waiting,
@@ -133,9 +155,10 @@ fn answer(
 }
 
 // What each list and buffer must hold at least, in the order in which they are lent.
-const LEAST_LENGTHS: [usize; 11] = [
+const LEAST_LENGTHS: [usize; 13] = [
     NODE_LIST_LENGTH,
     TRIPLE_LIST_LENGTH,
+    INDEX_LENGTH,
     PAIR_LIST_LENGTH,
     ROWS_LENGTH,
     HEADS_LENGTH,
@@ -145,15 +168,17 @@ const LEAST_LENGTHS: [usize; 11] = [
     SEEN_WORDS,
     NODE_LIST_LENGTH, // own_nodes
     TRIPLE_LIST_LENGTH, // own_triples
+    INDEX_LENGTH, // own_index
 ];
 
-// The certain pairs at the front of `pairs`, with the graph of the pack at the front of the two lists before it; or a
-// refusal. The others are working buffers.
+// The certain pairs at the front of `pairs`, with the graph of the pack at the front of the two lists and their index before it;
+// or a refusal. The others are working buffers.
 pub fn pairs(
     pack: &[u8],
     query: &[u8],
     nodes: &mut [u16],
     triples: &mut [u16],
+    index: &mut [u16],
     pairs: &mut [u16],
     rows: &mut [u16],
     heads: &mut [u64],
@@ -163,14 +188,16 @@ pub fn pairs(
     seen: &mut [u64],
     own_nodes: &mut [u16],
     own_triples: &mut [u16],
+    own_index: &mut [u16],
 ) -> PairAnswer
-    ensures { λ r. ⌜ PairsAnswers (now (pack .entry)) (now (query .entry)) r (lent nodes) (lent triples) (lent pairs) (lent rows) (lent heads)
-        (lent alive) (lent waiting) (lent stack) (lent seen) (lent «own_nodes») (lent «own_triples») ⌝ }
+    ensures { λ r. ⌜ PairsAnswers (now (pack .entry)) (now (query .entry)) r (lent nodes) (lent triples) (lent index) (lent pairs) (lent rows) (lent heads)
+        (lent alive) (lent waiting) (lent stack) (lent seen) (lent «own_nodes») (lent «own_triples») (lent «own_index») ⌝ }
 {
     let asked = LEAST_LENGTHS;
     let lengths = [
         nodes.len(),
         triples.len(),
+        index.len(),
         pairs.len(),
         rows.len(),
         heads.len(),
@@ -180,6 +207,7 @@ pub fn pairs(
         seen.len(),
         own_nodes.len(),
         own_triples.len(),
+        own_index.len(),
     ];
     if !long_enough(&asked, &lengths) {
         return PairAnswer {
@@ -192,6 +220,7 @@ pub fn pairs(
         query,
         nodes,
         triples,
+        index,
         pairs,
         rows,
         heads,
@@ -201,6 +230,7 @@ pub fn pairs(
         seen,
         own_nodes,
         own_triples,
+        own_index,
     );
     clear_u16(rows);
     clear_u64(heads);
@@ -210,5 +240,6 @@ pub fn pairs(
     clear_u64(seen);
     clear_u16(own_nodes);
     clear_u16(own_triples);
+    clear_u16(own_index);
     said
 }

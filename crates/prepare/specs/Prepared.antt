@@ -33,8 +33,8 @@ pub record Readied (pack query : Text) (tree : List ℕ) (p : Prepared) (fronts 
   pub held : HoldsQuery query tree (p .parts)
   pub room : p .parts ≤ length tree
 
-abbrev pub Prepares : Text → Text → List ℕ → Prepared → Contents → Contents → Type 0
-Prepares pack query tree p nodes triples = Outcome (λ x. Refuses pack query (x .graph)) (Readied pack query tree) p (graphLists nodes triples)
+abbrev pub Prepares : Text → Text → List ℕ → Prepared → Contents → Contents → Contents → Type 0
+Prepares pack query tree p nodes triples index = Outcome (λ x. Refuses pack query (x .graph)) (Readied pack query tree) p (graphLists nodes triples index)
 
 -- Where nothing is refused, the number that each part wants is written: of a predicate, or of a node by its place.
 abbrev pub ResolvedIf : Text → Text → List ℕ → Prepared → List ℕ → List ℕ → Type 0

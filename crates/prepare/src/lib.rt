@@ -3,7 +3,7 @@
 ghost use lib.ListN.{length};
 ghost use Prim.Native.Nat.{_≤_};
 ghost use Rattle.calls.specs.Call.{lent};
-ghost use Rattle.meaning.specs.Limits.{headsLength, maxParts, maxQueryBytes, nodeListLength, rowsLength, tripleListLength};
+ghost use Rattle.meaning.specs.Limits.{headsLength, indexLength, maxParts, maxQueryBytes, nodeListLength, rowsLength, tripleListLength};
 ghost use Rattle.prepare.specs.Prepared.{Prepares, ResolvedIf};
 use construct::Constructed;
 use construct::construct;
@@ -19,7 +19,7 @@ pub struct Prepared {
     pub parts: usize,
 }
 
-// The parts of the query in `tree`, the graph of the pack at the front of the two lists, and in `wanted` the number of the
+// The parts of the query in `tree`, the graph of the pack at the front of the lists, and in `wanted` the number of the
 // predicate or node that each part wants; or a refusal of 2 to 11.
 pub fn prepare(
     pack: &[u8],
@@ -28,12 +28,14 @@ pub fn prepare(
     wanted: &mut [u16],
     nodes: &mut [u16],
     triples: &mut [u16],
+    index: &mut [u16],
     rows: &mut [u16],
     heads: &mut [u64],
 ) -> Prepared
     requires { ⌜ (maxQueryBytes ≤ length (now tree)) × (maxParts ≤ length (now wanted))
-        × (nodeListLength ≤ length (now nodes)) × (tripleListLength ≤ length (now triples)) × (rowsLength ≤ length (now rows)) × (headsLength ≤ length (now heads)) ⌝ }
-    ensures { λ r. ⌜ Prepares (now (pack .entry)) (now (query .entry)) (now (tree .exit)) r (lent nodes) (lent triples)
+        × (nodeListLength ≤ length (now nodes)) × (tripleListLength ≤ length (now triples))
+        × (indexLength ≤ length (now index)) × (rowsLength ≤ length (now rows)) × (headsLength ≤ length (now heads)) ⌝ }
+    ensures { λ r. ⌜ Prepares (now (pack .entry)) (now (query .entry)) (now (tree .exit)) r (lent nodes) (lent triples) (lent index)
         × ResolvedIf (now (pack .entry)) (now (query .entry)) (now (tree .exit)) r (now (nodes .exit)) (now (wanted .exit)) ⌝ }
 {
     match read_query(query, tree) {
@@ -43,7 +45,7 @@ pub fn prepare(
         },
         Query::Parts(parts) => {
             let mut numbers = [0u16; SETTING_LENGTH];
-            let loaded = construct(pack, &mut numbers, nodes, triples, rows, heads);
+            let loaded = construct(pack, &mut numbers, nodes, triples, index, rows, heads);
             let graph = loaded.graph;
             let counts = loaded.counts;
             if graph.refusal != 0 {

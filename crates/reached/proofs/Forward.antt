@@ -9,6 +9,7 @@ use mathlib.Core.Path.{ap, refl, subst, sym, _∙_, _≡_}
 use native.Mathlib.Decide.{decLt, ℕ-discrete}
 use native.Mathlib.Omega.{arith}
 use Prim.Native.Nat.{ℕ, _%_, _*_, _+_, _-_, _/_, _<_, _^_, _≤_}
+use Rattle.index.specs.Subjects.{firstAt}
 use Rattle.index.specs.Triples.{objectAt, predicateAt}
 use Rattle.meaning.proofs.Cases.{true-false}
 use Rattle.meaning.proofs.Lists.Bits.{bit-one, bit-other}
@@ -16,6 +17,7 @@ use Rattle.meaning.proofs.Lists.Masks.{intersection-member}
 use Rattle.meaning.specs.Limits.{maxCoreNodes, maxNodes, namedWords, seenWords}
 use Rattle.meaning.specs.TypeSet.{bit}
 use Rattle.query.specs.Tree.{firstNumber, kindOf}
+use Rattle.reached.specs.Own.{ListedIn, endAt}
 use Rattle.reached.specs.Seen.{seenState, seenWord}
 use Rattle.reached.specs.Steps.{FromWord, LeafOnward, ObjectAt, ObjectIn, PartsOnward, labels, stays, steps}
 use Rattle.reached.proofs.SeenNumbers.{seen-number, word-states}
@@ -31,7 +33,7 @@ use Rattle.worklist.specs.Table.{AddsOnly, Board, InWord, Table}
 pub marked-state : {a b : Board} (i n : ℕ) → AddsOnly seenWords (λ y. y ≡ i * maxCoreNodes + n) a b → AddsOnly seenWords (λ y. y ≡ seenState i n) a b
 marked-state i n d = adds-same d (λ y e. e ∙ seen-number i n) (λ y e. e ∙ sym (seen-number i n))
 
--- ---- one triple, and a range of them
+-- ---- one triple, and the listed ones of a part
 
 module _ {triples : List ℕ} {kind want to : ℕ} {a : Board} where
   pub object-none : {k : ℕ} (x : Bool) → not x ≡ true → x ≡ takes kind want (predicateAt triples k) → Table seenWords a → AddsOnly seenWords (ObjectAt triples k kind want to) a a
@@ -41,26 +43,75 @@ module _ {triples : List ℕ} {kind want to : ℕ} {a : Board} where
       → AddsOnly seenWords (ObjectAt triples k kind want to) a b
   object-one e d = adds-same d (λ y p. record { taken = e; state = p }) (λ y s. s .state)
 
-  module _ {own : List ℕ} where
-    pub objects-start : (lo : ℕ) → Table seenWords a → AddsOnly seenWords (ObjectIn triples own lo lo kind want to) a a
-    objects-start lo t = adds-none t (λ y s. let p = s .above in let q = s .below in omega arith)
+-- The entries from lo up to j are visited; none of them is 0.
+pub record Visiting (triples own : List ℕ) (lo kind want to : ℕ) (a b : Board) (j : ℕ) : Type 0 where
+  pub from : lo ≤ j
+  pub some : (i : ℕ) → lo ≤ i → i < j → 0 < getD own i 0
+  pub adds : AddsOnly seenWords (ObjectIn triples own lo j kind want to) a b
 
-    pub objects-again : {lo j : ℕ} {b c : Board} → lo ≤ j → AddsOnly seenWords (ObjectIn triples own lo j kind want to) a b
-        → AddsOnly seenWords (ObjectAt triples (getD own j 0) kind want to) b c → AddsOnly seenWords (ObjectIn triples own lo (j + 1) kind want to) a c
-    objects-again {lo} {j} {b} {c} l d e = adds-both d e
-        (λ y s. let h = s .below in record { at = s .at; above = s .above; below = omega arith; object = s .object })
-        (λ y s. record { at = j; above = l; below = omega arith; object = s })
-        (λ y s. split y s (decLt (s .at) j))
+module _ {triples own : List ℕ} {lo kind want to : ℕ} where
+  -- whether a triple is listed does not depend on what follows it
+  up-to : {j hi y : ℕ} → (s : ObjectIn triples own lo hi kind want to y) → s .listed .at < j → ObjectIn triples own lo j kind want to y
+  up-to s l =
+      let t = s .listed in
+      record {
+        triple = s .triple;
+        listed = record { at = t .at; above = t .above; below = l; entry = t .entry; before = t .before };
+        object = s .object;
+      }
+
+  wider : {j hi : ℕ} → j ≤ hi → (y : ℕ) → ObjectIn triples own lo j kind want to y → ObjectIn triples own lo hi kind want to y
+  wider l y s = up-to s (let q = s .listed .below in omega arith)
+
+module _ {triples own : List ℕ} {lo kind want to : ℕ} {a : Board} where
+  pub visit-start : Table seenWords a → Visiting triples own lo kind want to a a lo
+  visit-start t = record {
+    from = omega arith;
+    some = λ i p q. absurd (omega arith);
+    adds = adds-none t (λ y s. let p = s .listed .above in let q = s .listed .below in omega arith);
+  }
+
+  module _ {b : Board} {j : ℕ} (v : Visiting triples own lo kind want to a b j) where
+    -- The entry at j says the triple k.
+    pub visit-listed : {hi k : ℕ} → j < hi → getD own j 0 ≡ k + 1 → ListedIn own lo hi k
+    visit-listed l e = record { at = j; above = v .from; below = l; entry = e; before = v .some }
+
+    pub visit-again : {c : Board} {k : ℕ} → getD own j 0 ≡ k + 1 → AddsOnly seenWords (ObjectAt triples k kind want to) b c → Visiting triples own lo kind want to a c (j + 1)
+    visit-again {c} {k} e d = record {
+      from = let l = v .from in omega arith;
+      some = λ i p q. some i p (ℕ-discrete i j) q;
+      adds = adds-both (v .adds) d (wider (omega arith)) (λ y s. record { triple = k; listed = visit-listed (omega arith) e; object = s })
+          (λ y s. split y s (decLt (s .listed .at) j));
+    }
       where
-        split : (y : ℕ) → (s : ObjectIn triples own lo (j + 1) kind want to y) → Dec (s .at < j) → ObjectIn triples own lo j kind want to y ⊎ ObjectAt triples (getD own j 0) kind want to y
-        split y s (yes h) = inl (record { at = s .at; above = s .above; below = h; object = s .object })
-        split y s (no h) =
-            let g = s .below in
-            let p : s .at ≡ j = omega arith in
-            inr (subst (λ x. ObjectAt triples (getD own x 0) kind want to y) p (s .object))
+        some : (i : ℕ) → lo ≤ i → Dec (i ≡ j) → i < j + 1 → 0 < getD own i 0
+        some i p (yes h) q = let z = subst (λ x. getD own x 0 ≡ k + 1) (sym h) e in omega arith
+        some i p (no h) q = v .some i p (omega arith)
 
-    pub objects-done : {lo j hi : ℕ} {b : Board} → j ≡ hi → AddsOnly seenWords (ObjectIn triples own lo j kind want to) a b → AddsOnly seenWords (ObjectIn triples own lo hi kind want to) a b
-    objects-done {lo} {b = b} e d = subst (λ x. AddsOnly seenWords (ObjectIn triples own lo x kind want to) a b) e d
+        split : (y : ℕ) → (s : ObjectIn triples own lo (j + 1) kind want to y) → Dec (s .listed .at < j)
+            → ObjectIn triples own lo j kind want to y ⊎ ObjectAt triples k kind want to y
+        split y s (yes h) = inl (up-to s h)
+        split y s (no h) =
+            let g = s .listed .below in
+            let p : s .listed .at ≡ j = omega arith in
+            let q = subst (λ x. getD own x 0 ≡ s .triple + 1) p (s .listed .entry) in
+            let r : s .triple ≡ k = omega arith in
+            inr (subst (λ x. ObjectAt triples x kind want to y) r (s .object))
+
+    -- The entry at j is 0, so no more are listed.
+    pub visit-stop : {hi : ℕ} → j < hi → getD own j 0 ≡ 0 → AddsOnly seenWords (ObjectIn triples own lo hi kind want to) a b
+    visit-stop {hi} l z = adds-same (v .adds) (wider (omega arith)) (λ y s. go y s (decLt (s .listed .at) j))
+      where
+        go : (y : ℕ) → (s : ObjectIn triples own lo hi kind want to y) → Dec (s .listed .at < j) → ObjectIn triples own lo j kind want to y
+        go y s (yes h) = up-to s h
+        go y s (no h) = absurd (past (ℕ-discrete (s .listed .at) j))
+          where
+            past : Dec (s .listed .at ≡ j) → ⊥
+            past (yes p) = let e = subst (λ x. getD own x 0 ≡ s .triple + 1) p (s .listed .entry) in omega arith
+            past (no p) = let e = s .listed .before j (v .from) (omega arith) in omega arith
+
+    pub visit-done : {hi : ℕ} → j ≡ hi → AddsOnly seenWords (ObjectIn triples own lo hi kind want to) a b
+    visit-done e = subst (λ x. AddsOnly seenWords (ObjectIn triples own lo x kind want to) a b) e (v .adds)
 
 -- ---- a part at the nodes of a block
 
@@ -92,38 +143,38 @@ module _ {block : ℕ} where
 
 -- ---- a leaf
 
-module _ {triples own first : List ℕ} {kind want to block bits : ℕ} {a : Board} where
-  pub leaf-stay : {b : Board} → kind ≡ 0 → AddsOnly seenWords (At to block bits) a b → AddsOnly seenWords (FromWord block bits (LeafOnward triples own first kind want to)) a b
+module _ {triples own index : List ℕ} {kind want to block bits : ℕ} {a : Board} where
+  pub leaf-stay : {b : Board} → kind ≡ 0 → AddsOnly seenWords (At to block bits) a b → AddsOnly seenWords (FromWord block bits (LeafOnward triples own index kind want to)) a b
   leaf-stay e d = adds-same d (from-same (λ n y i p. stays e p)) (from-same back)
     where
-      back : (n y : ℕ) → InWord block bits n → LeafOnward triples own first kind want to n y → y ≡ seenState to n
+      back : (n y : ℕ) → InWord block bits n → LeafOnward triples own index kind want to n y → y ≡ seenState to n
       back n y i (stays f p) = p
       back n y i (steps g h s) = absurd (omega arith)
       back n y i (labels g h f p) = p
 
   pub leaf-step : {b : Board} → (kind ≡ 0 → ⊥) → kind < 3
-      → AddsOnly seenWords (FromWord block bits (λ n. ObjectIn triples own (getD first n 0) (getD first (n + 1) 0) kind want to)) a b
-      → AddsOnly seenWords (FromWord block bits (LeafOnward triples own first kind want to)) a b
+      → AddsOnly seenWords (FromWord block bits (λ n. ObjectIn triples own (firstAt index n) (endAt index n) kind want to)) a b
+      → AddsOnly seenWords (FromWord block bits (LeafOnward triples own index kind want to)) a b
   leaf-step z l d = adds-same d (from-same (λ n y i s. steps (omega arith) (omega arith) s)) (from-same back)
     where
-      back : (n y : ℕ) → InWord block bits n → LeafOnward triples own first kind want to n y → ObjectIn triples own (getD first n 0) (getD first (n + 1) 0) kind want to y
+      back : (n y : ℕ) → InWord block bits n → LeafOnward triples own index kind want to n y → ObjectIn triples own (firstAt index n) (endAt index n) kind want to y
       back n y i (stays f p) = absurd (z f)
       back n y i (steps g h s) = s
       back n y i (labels g h f p) = absurd (omega arith)
 
   -- a label of a node that is not in the block
   pub leaf-none : (kind ≡ 0 → ⊥) → 3 ≤ kind → (want / 64 ≡ block → ⊥) → Table seenWords a
-      → AddsOnly seenWords (FromWord block bits (LeafOnward triples own first kind want to)) a a
+      → AddsOnly seenWords (FromWord block bits (LeafOnward triples own index kind want to)) a a
   leaf-none z l n t = adds-none t (λ y x. none (x .from) y (x .is) (x .leads))
     where
-      none : (m y : ℕ) → InWord block bits m → LeafOnward triples own first kind want to m y → ⊥
+      none : (m y : ℕ) → InWord block bits m → LeafOnward triples own index kind want to m y → ⊥
       none m y i (stays f p) = z f
       none m y i (steps g h s) = omega arith
       none m y i (labels g h f p) = n (ap (λ x. x / 64) f ∙ i .word)
 
   -- a label of a node that is; m is its bit as code makes it
   pub leaf-label : {b : Board} → 3 ≤ kind → kind < 5 → want / 64 ≡ block → (m : ℕ) → m ≡ 2 ^ (want % 64) → AddsOnly seenWords (At to block (bitAnd bits m)) a b
-      → AddsOnly seenWords (FromWord block bits (LeafOnward triples own first kind want to)) a b
+      → AddsOnly seenWords (FromWord block bits (LeafOnward triples own index kind want to)) a b
   leaf-label g h q m e d = adds-same d forth back
     where
       is-want : (n : ℕ) → n / 64 ≡ block → bit (n % 64) m ≡ 1 → want ≡ n
@@ -133,15 +184,15 @@ module _ {triples own first : List ℕ} {kind want to block bits : ℕ} {a : Boa
           go (yes p) = omega arith
           go (no p) = absurd (let z = bit-other (n % 64) (want % 64) p in let y : bit (n % 64) (2 ^ (want % 64)) ≡ 1 = subst (λ k. bit (n % 64) k ≡ 1) e x in omega arith)
 
-      forth : (y : ℕ) → At to block (bitAnd bits m) y → FromWord block bits (LeafOnward triples own first kind want to) y
+      forth : (y : ℕ) → At to block (bitAnd bits m) y → FromWord block bits (LeafOnward triples own index kind want to) y
       forth y x =
           let (i, t) = meet-in bits m (x .from) (x .is) in
           record { from = x .from; is = i; leads = labels g (omega arith) (is-want (x .from) (i .word) t) (x .leads) }
 
-      back : (y : ℕ) → FromWord block bits (LeafOnward triples own first kind want to) y → At to block (bitAnd bits m) y
+      back : (y : ℕ) → FromWord block bits (LeafOnward triples own index kind want to) y → At to block (bitAnd bits m) y
       back y x = go (x .leads)
         where
-          go : LeafOnward triples own first kind want to (x .from) y → At to block (bitAnd bits m) y
+          go : LeafOnward triples own index kind want to (x .from) y → At to block (bitAnd bits m) y
           go (stays f p) = absurd (omega arith)
           go (steps r s t) = absurd (omega arith)
           go (labels r s f p) =

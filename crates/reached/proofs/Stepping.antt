@@ -1,16 +1,16 @@
 -- What is marked from a word are the steps from its states to named nodes. Assumes nothing.
-use lib.ListN.{getD}
-use mathlib.Core.Bool.{true}
+use lib.ListN.{getD, length}
 use mathlib.Core.List.{List}
 use mathlib.Core.Logic.{inl, inr}
 use mathlib.Core.Path.{ap, refl, subst, sym, _∙_, _≡_}
 use native.Mathlib.Omega.{arith}
-use Prim.Native.Nat.{ℕ, _%_, _+_, _/_, _<_, _≤_}
-use Rattle.index.specs.Triples.{objectAt, predicateAt, subjectAt}
-use Rattle.meaning.specs.Limits.{maxCoreNodes, namedWords, seenWords}
+use Prim.Native.Nat.{ℕ, _%_, _*_, _+_, _/_, _<_, _≤_}
+use Rattle.index.specs.Subjects.{firstAt}
+use Rattle.index.specs.Triples.{objectAt}
+use Rattle.meaning.specs.Limits.{indexWidth, maxCoreNodes, namedWords, seenWords}
 use Rattle.meaning.specs.Query.{Joins}
 use Rattle.query.specs.Tree.{kindOf}
-use Rattle.reached.specs.Own.{Inward, OwnRange}
+use Rattle.reached.specs.Own.{Inward, ListedIn, OwnTriple, endAt}
 use Rattle.reached.specs.Seen.{seenNode, seenPart, seenState, seenWord}
 use Rattle.reached.specs.Steps.{Ahead, AllAhead, FromWord, LeafOnward, PartsOnward, StateIn, StepFrom, labels, stays, steps}
 use Rattle.reached.specs.Walked.{WalkReady}
@@ -20,7 +20,6 @@ use Rattle.states.proofs.PartKinds.{is-leaf, leaf-kind, not-leaf}
 use Rattle.states.specs.Fits.{ListsFit}
 use Rattle.states.specs.Lists.{AliveIn, Lists, StepIn, leafAt, numbered}
 use Rattle.states.specs.Living.{Living}
-use Rattle.states.specs.Parts.{takes}
 use Rattle.walk.specs.Parts.{Child, Part, chain, either, leaf, listed, partOf, repeat, test}
 use Rattle.walk.specs.Walk.{StepBy}
 use Rattle.worklist.proofs.Growth.{adds-none, adds-same}
@@ -72,21 +71,26 @@ module _ {L : Lists} (f : ListsFit L) where
 abbrev pub Ends : Lists → ℕ → ℕ → ℕ → ℕ → Type 0
 Ends L named i n y = (j m : ℕ) × (m < named) × StepIn L i n j m × (y ≡ seenState j m)
 
-module _ {L : Lists} {named : ℕ} {own first alive : List ℕ} (r : WalkReady L named own first alive) (i n : ℕ) (l : i < L .parts) (h : n < named) where
+module _ {L : Lists} {named : ℕ} {own index alive : List ℕ} (r : WalkReady L named own index alive) (i n : ℕ) (l : i < L .parts) (h : n < named) where
   in-nodes : n < L .nodes
   in-nodes = let z = r .nodes in omega arith
 
-  pub ahead : Ahead (L .triples) own (getD first n 0) (getD first (n + 1) 0)
+  -- a triple that is listed
+  own-triple : {k : ℕ} → ListedIn own (firstAt index n) (endAt index n) k → OwnTriple (L .triples) (L .edges) named n k
+  own-triple {k} t = r .listed .exactly n k h .0 t
+
+  pub ahead : (n * indexWidth + 1 < length index) × Ahead (L .triples) own (firstAt index n) (endAt index n)
   ahead =
-      let o = r .ranges .ranges n h in
-      let g = r .fits .graph in
-      record {
-        ordered = o .ordered;
-        room = o .room;
-        few = λ j a b. let x = o .only j a b .inside in let y = g .few-edges in omega arith;
-        whole = λ j a b. let x = o .only j a b .inside in let y = g .whole in omega arith;
-        nodes = λ j a b. let x = o .only j a b .object in let y = r .few in omega arith;
-      }
+      let g = r .fits .graph in (
+        (let a = r .listed .long in omega arith),
+        record {
+          ordered = omega arith;
+          room = r .listed .room n h;
+          few = λ k t. let x = own-triple t .inside in let y = g .few-edges in omega arith;
+          whole = λ k t. let x = own-triple t .inside in let y = g .whole in omega arith;
+          nodes = λ k t. let x = own-triple t .object in let y = r .few in omega arith;
+        },
+      )
 
   step-by : (p : Part) → partOf (L .tree) i ≡ p → (j m y : ℕ) → m < named → y ≡ seenState j m → By L p i n j m → Ends L named i n y
   step-by p e j m y g q x = (j, m, g, (l, subst (λ z. By L z i n j m) (sym e) x), q)
@@ -122,7 +126,7 @@ module _ {L : Lists} {named : ℕ} {own first alive : List ℕ} (r : WalkReady L
       go (either c d) q (p, inr a) = into (either c d) q (inr (same d a p))
 
   module _ (k : kindOf (L .tree) i < 5) where
-    pub leaf-step-from : (y : ℕ) → LeafOnward (L .triples) own first (kindOf (L .tree) i) (getD (L .wanted) i 0) (getD (L .next) i 0) n y
+    pub leaf-step-from : (y : ℕ) → LeafOnward (L .triples) own index (kindOf (L .tree) i) (getD (L .wanted) i 0) (getD (L .next) i 0) n y
         → Ends L named i n y
     leaf-step-from y x = go x
       where
@@ -130,43 +134,38 @@ module _ {L : Lists} {named : ℕ} {own first alive : List ℕ} (r : WalkReady L
             → Ends L named i n y
         by-leaf m g q j = step-by leaf (is-leaf (L .tree) i k) (getD (L .next) i 0) m y g q (refl, says-leaf L i n m j)
 
-        go : LeafOnward (L .triples) own first (kindOf (L .tree) i) (getD (L .wanted) i 0) (getD (L .next) i 0) n y → Ends L named i n y
+        go : LeafOnward (L .triples) own index (kindOf (L .tree) i) (getD (L .wanted) i 0) (getD (L .next) i 0) n y → Ends L named i n y
         go (stays e s) = by-leaf n h s (rests e in-nodes refl)
         go (steps a b s) =
-            let o = r .ranges .ranges n h .only (s .at) (s .above) (s .below) in
-            by-leaf (objectAt (L .triples) (getD own (s .at) 0)) (o .object) (s .object .state)
-            (goes a b (getD own (s .at) 0) (o .inside) (o .subject) refl (s .object .taken))
+            let o = own-triple (s .listed) in
+            by-leaf (objectAt (L .triples) (s .triple)) (o .object) (s .object .state)
+            (goes a b (s .triple) (o .inside) (o .subject) refl (s .object .taken))
         go (labels a b e s) = by-leaf n h s (is-at a b in-nodes e refl)
 
     pub step-from-leaf : (j m y : ℕ) → m < named → StepIn L i n j m → y ≡ seenState j m
-        → LeafOnward (L .triples) own first (kindOf (L .tree) i) (getD (L .wanted) i 0) (getD (L .next) i 0) n y
+        → LeafOnward (L .triples) own index (kindOf (L .tree) i) (getD (L .wanted) i 0) (getD (L .next) i 0) n y
     step-from-leaf j m y g s e = go (subst (λ p. By L p i n j m) (is-leaf (L .tree) i k) (s .1))
       where
         at : (x : ℕ) → j ≡ getD (L .next) i 0 → m ≡ x → y ≡ seenState (getD (L .next) i 0) x
         at x p q = e ∙ ap (λ z. seenState z m) p ∙ ap (λ z. seenState (getD (L .next) i 0) z) q
 
         by : j ≡ getD (L .next) i 0 → LeafJoins L (kindOf (L .tree) i) (getD (L .wanted) i 0) n m
-            → LeafOnward (L .triples) own first (kindOf (L .tree) i) (getD (L .wanted) i 0) (getD (L .next) i 0) n y
+            → LeafOnward (L .triples) own index (kindOf (L .tree) i) (getD (L .wanted) i 0) (getD (L .next) i 0) n y
         by p (rests q b u) = stays q (at n p (sym u))
         by p (goes a b x lt u o t) =
-            let (c, d, w, q) = r .ranges .ranges n h .all x (record { inside = lt; subject = u; object = omega arith }) in
             steps a b (record {
-              at = c;
-              above = d;
-              below = w;
-              object = record {
-                taken = subst (λ z. takes (kindOf (L .tree) i) (getD (L .wanted) i 0) (predicateAt (L .triples) z) ≡ true) (sym q) t;
-                state = at (objectAt (L .triples) (getD own c 0)) p (sym o ∙ ap (λ z. objectAt (L .triples) z) (sym q));
-              };
+              triple = x;
+              listed = r .listed .exactly n x h .1 (record { inside = lt; subject = u; object = omega arith });
+              object = record { taken = t; state = at (objectAt (L .triples) x) p (sym o) };
             })
         by p (is-at a b c w u) = labels a b w (at n p (sym u))
 
-        go : (j ≡ getD (L .next) i 0) × Joins (numbered L) (leafAt L i) n m → LeafOnward (L .triples) own first (kindOf (L .tree) i) (getD (L .wanted) i 0) (getD (L .next) i 0) n y
+        go : (j ≡ getD (L .next) i 0) × Joins (numbered L) (leafAt L i) n m → LeafOnward (L .triples) own index (kindOf (L .tree) i) (getD (L .wanted) i 0) (getD (L .next) i 0) n y
         go (p, x) = by p (leaf-says L i n m k x)
 
 -- ---- the states of a word
 
-module _ {L : Lists} {named : ℕ} {own first alive : List ℕ} (r : WalkReady L named own first alive) (w bits : ℕ) (are : (s : ℕ) → InWord w bits s → StateIn L named s) where
+module _ {L : Lists} {named : ℕ} {own index alive : List ℕ} (r : WalkReady L named own index alive) (w bits : ℕ) (are : (s : ℕ) → InWord w bits s → StateIn L named s) where
   block-fits : w % namedWords < namedWords
   block-fits = omega arith
 
@@ -180,7 +179,7 @@ module _ {L : Lists} {named : ℕ} {own first alive : List ℕ} (r : WalkReady L
   pub node-named : (n : ℕ) → InWord (w % namedWords) bits n → n < named
   node-named n h = let a = are (seenState (w / namedWords) n) (as-state n h) .node in let b = seen-node (w / namedWords) n (seenState (w / namedWords) n) (small n h) refl in omega arith
 
-  pub all-ahead : w / namedWords < L .parts → AllAhead (L .triples) own first (w % namedWords) bits
+  pub all-ahead : w / namedWords < L .parts → AllAhead (L .triples) own index (w % namedWords) bits
   all-ahead l n h = ahead r (w / namedWords) n l (node-named n h)
 
   module _ (s : ℕ) (x : InWord w bits s) where
@@ -235,11 +234,11 @@ module _ {L : Lists} {named : ℕ} {own first alive : List ℕ} (r : WalkReady L
     onward-parts l k d = onward-same (λ n y h x. parts-step r (w / namedWords) n l h y x) (λ n j m y h g s e. step-parts r (w / namedWords) n l h k j m y s e) d
 
     pub onward-leaf : w / namedWords < L .parts → {kind : ℕ} → kind ≡ kindOf (L .tree) (w / namedWords) → kindOf (L .tree) (w / namedWords) < 5
-        → AddsOnly seenWords (FromWord (w % namedWords) bits (LeafOnward (L .triples) own first kind (getD (L .wanted) (w / namedWords) 0) (getD (L .next) (w / namedWords) 0))) a b
+        → AddsOnly seenWords (FromWord (w % namedWords) bits (LeafOnward (L .triples) own index kind (getD (L .wanted) (w / namedWords) 0) (getD (L .next) (w / namedWords) 0))) a b
         → AddsOnly seenWords (FromWord w bits (StepFrom L named)) a b
     onward-leaf l q k d =
         onward-same (λ n y h x. leaf-step-from r (w / namedWords) n l h k y x) (λ n j m y h g s e. step-from-leaf r (w / namedWords) n l h k j m y g s e)
-        (subst (λ z. AddsOnly seenWords (FromWord (w % namedWords) bits (LeafOnward (L .triples) own first z (getD (L .wanted) (w / namedWords) 0) (getD (L .next) (w / namedWords) 0))) a b) q d)
+        (subst (λ z. AddsOnly seenWords (FromWord (w % namedWords) bits (LeafOnward (L .triples) own index z (getD (L .wanted) (w / namedWords) 0) (getD (L .next) (w / namedWords) 0))) a b) q d)
 
   -- nothing follows the end
   pub onward-end : {a : Board} → L .parts ≤ w / namedWords → Table seenWords a → AddsOnly seenWords (FromWord w bits (StepFrom L named)) a a

@@ -27,7 +27,7 @@ pub record Walking (L : Lists) (named v : ℕ) (b : Board) : Type 0 where
   pub sound : (x : ℕ) → x < seenWords * 64 → Marked (b .marked) x → StateReached L named v x
   pub closed : (x : ℕ) → x < seenWords * 64 → Looked b x → (y : ℕ) → StepFrom L named x y → Marked (b .marked) y
 
-module _ {L : Lists} {named : ℕ} {own first alive : List ℕ} (f : WalkReady L named own first alive) {v : ℕ} where
+module _ {L : Lists} {named : ℕ} {own index alive : List ℕ} (f : WalkReady L named own index alive) {v : ℕ} where
   state-reached : (i n y : ℕ) → i ≤ L .parts → n < named → y ≡ seenState i n → ReachedIn L v i n → StateReached L named v y
   state-reached i n y l h e a =
       let q = f .few in

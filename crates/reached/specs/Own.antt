@@ -1,20 +1,16 @@
 -- The triples that end at named nodes, which come first in node order, by their subjects. Assumes nothing.
 use lib.ListN.{getD, length}
 use mathlib.Core.List.{List}
+use mathlib.Core.Logic.{_↔_}
 use mathlib.Core.Path.{_≡_}
-use Prim.Native.Nat.{ℕ, _+_, _<_, _≤_}
+use Prim.Native.Nat.{ℕ, _*_, _+_, _<_, _≤_}
+use Rattle.index.specs.Subjects.{BySubject, countAt, firstAt}
 use Rattle.index.specs.Triples.{objectAt, subjectAt}
-use Rattle.meaning.specs.Limits.{maxCoreNodes}
+use Rattle.meaning.specs.Limits.{indexWidth, maxTriples}
 
 -- What leads to one of the first `named` nodes starts at one.
 abbrev pub Inward : List ℕ → ℕ → ℕ → Type 0
 Inward triples edges named = (k : ℕ) → k < edges → objectAt triples k < named → subjectAt triples k < named
-
--- Exactly the first r triples have a subject below n.
-pub record SubjectsBelow (triples : List ℕ) (edges n r : ℕ) : Type 0 where
-  pub inside : r ≤ edges
-  pub below : (k : ℕ) → k < r → subjectAt triples k < n
-  pub above : (k : ℕ) → r ≤ k → k < edges → n ≤ subjectAt triples k
 
 -- The triple k is of the subject n, and ends at a named node.
 pub record OwnTriple (triples : List ℕ) (edges named n k : ℕ) : Type 0 where
@@ -22,21 +18,36 @@ pub record OwnTriple (triples : List ℕ) (edges named n k : ℕ) : Type 0 where
   pub subject : subjectAt triples k ≡ n
   pub object : objectAt triples k < named
 
--- Those of the subject n stand from lo up to hi.
-pub record OwnRange (triples : List ℕ) (edges named : ℕ) (own : List ℕ) (n lo hi : ℕ) : Type 0 where
-  pub ordered : lo ≤ hi
-  pub room : hi ≤ length own
-  pub only : (j : ℕ) → lo ≤ j → j < hi → OwnTriple triples edges named n (getD own j 0)
-  pub all : (k : ℕ) → OwnTriple triples edges named n k → (j : ℕ) × (lo ≤ j) × (j < hi) × (getD own j 0 ≡ k)
+-- ---- a part of a list: numbers of triples, each as the number and one more; a 0 ends them, or the part's end
 
--- They were listed from c on; the first k triples are passed.
-pub record OwnFrom (triples : List ℕ) (edges named n c : ℕ) (own own′ : List ℕ) (k c′ : ℕ) : Type 0 where
-  pub passed : SubjectsBelow triples edges (n + 1) k
-  pub few : c′ ≤ k
-  pub range : OwnRange triples edges named own′ n c c′
-  pub kept : (j : ℕ) → j < c → getD own′ j 0 ≡ getD own j 0
+-- The triple k is listed from lo up to hi: an entry is its number and one more, and none before it is 0.
+pub record ListedIn (own : List ℕ) (lo hi k : ℕ) : Type 0 where
+  pub at : ℕ
+  pub above : lo ≤ at
+  pub below : at < hi
+  pub entry : getD own at 0 ≡ k + 1
+  pub before : (j : ℕ) → lo ≤ j → j < at → 0 < getD own j 0
 
--- first[n] is where those of the subject n begin, and first[n + 1] where they end.
-pub record OwnBySubject (triples : List ℕ) (edges named : ℕ) (own first : List ℕ) : Type 0 where
-  pub long : maxCoreNodes + 1 ≤ length first
-  pub ranges : (n : ℕ) → n < named → OwnRange triples edges named own n (getD first n 0) (getD first (n + 1) 0)
+-- Of the triples from lo up to hi, those that end at a named node are listed there; the other parts are as they were.
+pub record OwnWithin (triples : List ℕ) (named lo hi : ℕ) (own own′ : List ℕ) : Type 0 where
+  pub exactly : (k : ℕ) → ListedIn own′ lo hi k ↔ ((lo ≤ k) × (k < hi) × (objectAt triples k < named))
+  pub kept : (j : ℕ) → (lo ≤ j → j < hi → ⊥) → getD own′ j 0 ≡ getD own j 0
+
+-- ---- a part for each named node, where the index has its triples
+
+-- Where the triples of n end.
+abbrev pub endAt : List ℕ → ℕ → ℕ
+endAt index n = firstAt index n + countAt index n
+
+-- What is asked: the triples are there, the index says where those of each named node are, and there is an entry for each triple.
+pub record OwnReady (triples : List ℕ) (edges named : ℕ) (own index : List ℕ) : Type 0 where
+  pub few : edges ≤ maxTriples
+  pub whole : edges * 3 ≤ length triples
+  pub by-subject : BySubject triples named edges index
+  pub room : edges ≤ length own
+
+-- The triples listed in the part of each named node are those that it has and that end at a named node.
+pub record OwnBySubject (triples : List ℕ) (edges named : ℕ) (own index : List ℕ) : Type 0 where
+  pub long : named * indexWidth ≤ length index
+  pub room : (n : ℕ) → n < named → endAt index n ≤ length own
+  pub exactly : (n k : ℕ) → n < named → ListedIn own (firstAt index n) (endAt index n) k ↔ OwnTriple triples edges named n k

@@ -1,12 +1,14 @@
 -- Steps forward between states at named nodes, over the lists, as the code takes them. Assumes nothing.
-use lib.ListN.{getD, length}
+use lib.ListN.{length}
 use mathlib.Core.Bool.{true}
 use mathlib.Core.List.{List}
 use mathlib.Core.Logic.{_⊎_}
 use mathlib.Core.Path.{_≡_}
 use Prim.Native.Nat.{ℕ, _*_, _+_, _<_, _≤_}
+use Rattle.index.specs.Subjects.{firstAt}
 use Rattle.index.specs.Triples.{objectAt, predicateAt}
-use Rattle.meaning.specs.Limits.{maxCoreNodes, maxTriples}
+use Rattle.meaning.specs.Limits.{indexWidth, maxCoreNodes, maxTriples}
+use Rattle.reached.specs.Own.{ListedIn, endAt}
 use Rattle.reached.specs.Seen.{seenNode, seenPart, seenState}
 use Rattle.states.specs.Lists.{Lists, StepIn}
 use Rattle.states.specs.Parts.{AliveAt, takes}
@@ -22,24 +24,23 @@ pub record ObjectAt (triples : List ℕ) (k kind want to y : ℕ) : Type 0 where
 
 -- y is `to` at the object of one of the triples listed from lo up to hi that the step takes.
 pub record ObjectIn (triples own : List ℕ) (lo hi kind want to y : ℕ) : Type 0 where
-  pub at : ℕ
-  pub above : lo ≤ at
-  pub below : at < hi
-  pub object : ObjectAt triples (getD own at 0) kind want to y
+  pub triple : ℕ
+  pub listed : ListedIn own lo hi triple
+  pub object : ObjectAt triples triple kind want to y
 
 -- The triples listed from lo up to hi are there, and their objects are named.
 pub record Ahead (triples own : List ℕ) (lo hi : ℕ) : Type 0 where
   pub ordered : lo ≤ hi
   pub room : hi ≤ length own
-  pub few : (j : ℕ) → lo ≤ j → j < hi → getD own j 0 < maxTriples
-  pub whole : (j : ℕ) → lo ≤ j → j < hi → getD own j 0 * 3 + 3 ≤ length triples
-  pub nodes : (j : ℕ) → lo ≤ j → j < hi → objectAt triples (getD own j 0) < maxCoreNodes
+  pub few : (k : ℕ) → ListedIn own lo hi k → k < maxTriples
+  pub whole : (k : ℕ) → ListedIn own lo hi k → k * 3 + 3 ≤ length triples
+  pub nodes : (k : ℕ) → ListedIn own lo hi k → objectAt triples k < maxCoreNodes
 
--- The leaf leads from n to y, a named node at `to`, where first has the ranges of the listed triples.
-pub data LeafOnward (triples own first : List ℕ) (kind want to n y : ℕ) : Type 0 where
-  stays : kind ≡ 0 → y ≡ seenState to n → LeafOnward triples own first kind want to n y
-  steps : 1 ≤ kind → kind ≤ 2 → ObjectIn triples own (getD first n 0) (getD first (n + 1) 0) kind want to y → LeafOnward triples own first kind want to n y
-  labels : 3 ≤ kind → kind ≤ 4 → want ≡ n → y ≡ seenState to n → LeafOnward triples own first kind want to n y
+-- The leaf leads from n to y, a named node at `to`; the triples of n are listed where the index has them.
+pub data LeafOnward (triples own index : List ℕ) (kind want to n y : ℕ) : Type 0 where
+  stays : kind ≡ 0 → y ≡ seenState to n → LeafOnward triples own index kind want to n y
+  steps : 1 ≤ kind → kind ≤ 2 → ObjectIn triples own (firstAt index n) (endAt index n) kind want to y → LeafOnward triples own index kind want to n y
+  labels : 3 ≤ kind → kind ≤ 4 → want ≡ n → y ≡ seenState to n → LeafOnward triples own index kind want to n y
 
 -- The part p, which has parts, leads from the node n to y; nested tests go by the table of states that are alive.
 abbrev pub PartsOnward : List ℕ → ℕ → Part → ℕ → ℕ → Type 0
@@ -57,9 +58,9 @@ pub record FromWord (w bits : ℕ) (R : ℕ → ℕ → Type 0) (y : ℕ) : Type
   pub is : InWord w bits from
   pub leads : R from y
 
--- The listed triples of each of these nodes are there.
+-- The index has each of these nodes, and their listed triples are there.
 abbrev pub AllAhead : List ℕ → List ℕ → List ℕ → ℕ → ℕ → Type 0
-AllAhead triples own first block bits = (n : ℕ) → InWord block bits n → Ahead triples own (getD first n 0) (getD first (n + 1) 0)
+AllAhead triples own index block bits = (n : ℕ) → InWord block bits n → (n * indexWidth + 1 < length index) × Ahead triples own (firstAt index n) (endAt index n)
 
 -- ---- states
 

@@ -6,7 +6,6 @@ use mathlib.Core.List.{List, [], _++_, _∷_}
 use mathlib.Core.Logic.{_↔_}
 use mathlib.Core.Path.{_≡_}
 use Prim.Native.Nat.{suc, zero, ℕ, _*_, _+_, _<_, _≤_}
-use Rattle.index.specs.Triples.{SubjectsRise}
 use Rattle.meaning.specs.Limits.{maxCoreNodes, maxPairs, seenWords}
 use Rattle.meaning.specs.Ordered.{ListOf, Over}
 use Rattle.reached.specs.declared.pairs.Pairs.{Pairs}
@@ -20,12 +19,12 @@ use Rattle.states.specs.Living.{Living}
 use Rattle.worklist.specs.Table.{Marked, mark}
 
 -- What every walk of a query is given: the lists, the triples that end at named nodes, and which states are alive.
-pub record WalkReady (L : Lists) (named : ℕ) (own first alive : List ℕ) : Type 0 where
+pub record WalkReady (L : Lists) (named : ℕ) (own index alive : List ℕ) : Type 0 where
   pub fits : ListsFit L
   pub nodes : named ≤ L .nodes
   pub few : named ≤ maxCoreNodes
   pub inward : Inward (L .triples) (L .edges) named
-  pub ranges : OwnBySubject (L .triples) (L .edges) named own first
+  pub listed : OwnBySubject (L .triples) (L .edges) named own index
   pub living : Living L alive
 
 -- The marked states are those that are reached from the root at v, at named nodes; they are of the parts and the end.

@@ -1,15 +1,18 @@
 // The states at named nodes to which a step leads, from those of a word.
 ghost use lib.ListN.{getD, length};
 ghost use Prim.Native.Nat.{ℕ, _*_, _+_, _<_, _≤_};
+ghost use Rattle.index.specs.Subjects.{firstAt};
 ghost use Rattle.index.specs.Triples.{objectAt};
 ghost use Rattle.meaning.specs.Limits.{maxCoreNodes, maxParts, maxTriples, namedWords, seenWords, stateWords};
 ghost use Rattle.query.specs.Tree.{kindOf};
+ghost use Rattle.reached.specs.Own.{endAt};
 ghost use Rattle.reached.specs.Steps.{Ahead, AllAhead, FromWord, LeafOnward, ObjectAt, ObjectIn, PartsOnward, StateIn, StepFrom};
 ghost use Rattle.reached.specs.Walked.{WalkReady};
 ghost use Rattle.states.specs.Lists.{lists};
 ghost use Rattle.states.specs.Parts.{PartReady};
 ghost use Rattle.walk.specs.Parts.{partOf};
 ghost use Rattle.worklist.specs.Table.{AddsOnly, Board, InWord, Table, board};
+use meaning::INDEX_WIDTH;
 use meaning::MAX_CORE_NODES;
 use meaning::NAMED_WORDS;
 use meaning::NODE_WORDS;
@@ -67,8 +70,11 @@ fn visit_objects(
     let mut end = top;
     let mut j = lo;
     while j < hi {
-        let k = own[j] as usize;
-        end = visit_object(triples, k, kind, want, to, seen, waiting, stack, end);
+        let x = own[j] as usize;
+        if x == 0 {
+            return end;
+        }
+        end = visit_object(triples, x - 1, kind, want, to, seen, waiting, stack, end);
         j += 1;
     }
     end
@@ -78,7 +84,7 @@ fn visit_objects(
 fn visit_steps(
     triples: &[u16],
     own: &[u16],
-    first: &[u16],
+    index: &[u16],
     kind: usize,
     want: u16,
     to: usize,
@@ -89,10 +95,10 @@ fn visit_steps(
     stack: &mut [u16],
     top: usize,
 ) -> usize
-    requires { ⌜ ((block < namedWords) × (maxCoreNodes + 1 ≤ length (now first)) × AllAhead (now triples) (now own) (now first) block bits)
+    requires { ⌜ ((block < namedWords) × AllAhead (now triples) (now own) (now index) block bits)
         × (to ≤ maxParts) × Table seenWords (board (now seen) (now waiting) (now stack) top) ⌝ }
     ensures { λ r. ⌜ AddsOnly seenWords (FromWord block bits (λ n.
-        ObjectIn (now (triples .entry)) (now (own .entry)) (getD (now (first .entry)) n 0) (getD (now (first .entry)) (n + 1) 0) kind want to))
+        ObjectIn (now (triples .entry)) (now (own .entry)) (firstAt (now (index .entry)) n) (endAt (now (index .entry)) n) kind want to))
         (board (now (seen .entry)) (now (waiting .entry)) (now (stack .entry)) top) (board (now (seen .exit)) (now (waiting .exit)) (now (stack .exit)) r) ⌝ }
 {
     let mut end = top;
@@ -100,8 +106,9 @@ fn visit_steps(
     while left != 0 {
         let n = block * WORD_BITS + u64::trailing_zeros(left) as usize;
         left &= left - 1;
-        let lo = first[n] as usize;
-        let hi = first[n + 1] as usize;
+        let at = n * INDEX_WIDTH;
+        let lo = index[at] as usize;
+        let hi = lo + index[at + 1] as usize;
         end = visit_objects(
             triples,
             own,
@@ -123,7 +130,7 @@ fn visit_steps(
 fn visit_leaf(
     triples: &[u16],
     own: &[u16],
-    first: &[u16],
+    index: &[u16],
     kind: usize,
     want: u16,
     to: usize,
@@ -134,9 +141,9 @@ fn visit_leaf(
     stack: &mut [u16],
     top: usize,
 ) -> usize
-    requires { ⌜ ((block < namedWords) × (maxCoreNodes + 1 ≤ length (now first)) × AllAhead (now triples) (now own) (now first) block bits)
+    requires { ⌜ ((block < namedWords) × AllAhead (now triples) (now own) (now index) block bits)
         × (kind < 5) × (to ≤ maxParts) × Table seenWords (board (now seen) (now waiting) (now stack) top) ⌝ }
-    ensures { λ r. ⌜ AddsOnly seenWords (FromWord block bits (LeafOnward (now (triples .entry)) (now (own .entry)) (now (first .entry)) kind want to))
+    ensures { λ r. ⌜ AddsOnly seenWords (FromWord block bits (LeafOnward (now (triples .entry)) (now (own .entry)) (now (index .entry)) kind want to))
         (board (now (seen .entry)) (now (waiting .entry)) (now (stack .entry)) top) (board (now (seen .exit)) (now (waiting .exit)) (now (stack .exit)) r) ⌝ }
 {
     let word = to * NAMED_WORDS + block;
@@ -147,7 +154,7 @@ fn visit_leaf(
         return visit_steps(
             triples,
             own,
-            first,
+            index,
             kind,
             want,
             to,
@@ -209,7 +216,7 @@ pub fn visit_onward(
     named: usize,
     triples: &[u16],
     own: &[u16],
-    first: &[u16],
+    index: &[u16],
     tree: &[u32],
     next: &[u16],
     wanted: &[u16],
@@ -221,7 +228,7 @@ pub fn visit_onward(
     stack: &mut [u16],
     top: usize,
 ) -> usize
-    requires { ⌜ WalkReady (lists sizes (now triples) (now tree) (now next) (now wanted)) named (now own) (now first) (now alive)
+    requires { ⌜ WalkReady (lists sizes (now triples) (now tree) (now next) (now wanted)) named (now own) (now index) (now alive)
         × ((w < seenWords) × ((s : ℕ) → InWord w bits s → StateIn (lists sizes (now triples) (now tree) (now next) (now wanted)) named s))
         × Table seenWords (board (now seen) (now waiting) (now stack) top) ⌝ }
     ensures { λ r. ⌜ AddsOnly seenWords (FromWord w bits
@@ -240,7 +247,7 @@ pub fn visit_onward(
     visit_leaf(
         triples,
         own,
-        first,
+        index,
         kind,
         wanted[i],
         next[i] as usize,

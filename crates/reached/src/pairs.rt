@@ -31,7 +31,7 @@ fn walk(
     named: usize,
     triples: &[u16],
     own: &[u16],
-    first: &[u16],
+    index: &[u16],
     tree: &[u32],
     next: &[u16],
     wanted: &[u16],
@@ -41,7 +41,7 @@ fn walk(
     waiting: &mut [u64],
     stack: &mut [u16],
 )
-    requires { ⌜ WalkReady (lists sizes (now triples) (now tree) (now next) (now wanted)) named (now own) (now first) (now alive)
+    requires { ⌜ WalkReady (lists sizes (now triples) (now tree) (now next) (now wanted)) named (now own) (now index) (now alive)
         × (start < named) × Unmarked seenWords (now seen) (now waiting) (now stack) ⌝ }
     ensures { λ _. ⌜ Walked (lists sizes (now (triples .entry)) (now (tree .entry)) (now (next .entry)) (now (wanted .entry))) named start (now (seen .exit))
         × (seenWords ≤ length (now (seen .exit))) × Stacked seenWords (now (waiting .exit)) (now (stack .exit)) 0 ⌝ }
@@ -55,7 +55,7 @@ fn walk(
             named,
             triples,
             own,
-            first,
+            index,
             tree,
             next,
             wanted,
@@ -111,7 +111,7 @@ fn list_from(
     named: usize,
     triples: &[u16],
     own: &[u16],
-    first: &[u16],
+    index: &[u16],
     tree: &[u32],
     next: &[u16],
     wanted: &[u16],
@@ -123,7 +123,7 @@ fn list_from(
     pairs: &mut [u32],
     k: usize,
 ) -> Pairs
-    requires { ⌜ WalkReady (lists sizes (now triples) (now tree) (now next) (now wanted)) named (now own) (now first) (now alive)
+    requires { ⌜ WalkReady (lists sizes (now triples) (now tree) (now next) (now wanted)) named (now own) (now index) (now alive)
         × (start < named) × Unmarked seenWords (now seen) (now waiting) (now stack)
         × ListedBelow (lists sizes (now triples) (now tree) (now next) (now wanted)) named (pairKey start 0) (now pairs) k × (maxPairs ≤ length (now pairs)) ⌝ }
     ensures { λ r. ⌜ ListedUpTo r (lists sizes (now (triples .entry)) (now (tree .entry)) (now (next .entry)) (now (wanted .entry))) named
@@ -138,7 +138,7 @@ fn list_from(
         named,
         triples,
         own,
-        first,
+        index,
         tree,
         next,
         wanted,
@@ -159,7 +159,7 @@ pub fn list_pairs(
     named: usize,
     triples: &[u16],
     own: &[u16],
-    first: &[u16],
+    index: &[u16],
     tree: &[u32],
     next: &[u16],
     wanted: &[u16],
@@ -169,7 +169,7 @@ pub fn list_pairs(
     stack: &mut [u16],
     pairs: &mut [u32],
 ) -> Pairs
-    requires { ⌜ WalkReady (lists sizes (now triples) (now tree) (now next) (now wanted)) named (now own) (now first) (now alive)
+    requires { ⌜ WalkReady (lists sizes (now triples) (now tree) (now next) (now wanted)) named (now own) (now index) (now alive)
         × Unmarked seenWords (now seen) (now waiting) (now stack) × (maxPairs ≤ length (now pairs)) ⌝ }
     ensures { λ r. ⌜ PairsAre r (lists sizes (now (triples .entry)) (now (tree .entry)) (now (next .entry)) (now (wanted .entry))) named (now (pairs .exit)) ⌝ }
 {
@@ -181,7 +181,7 @@ pub fn list_pairs(
             named,
             triples,
             own,
-            first,
+            index,
             tree,
             next,
             wanted,

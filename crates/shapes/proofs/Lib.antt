@@ -3,3 +3,6 @@ pub mod Cells
 pub mod Search
 pub mod Passing
 pub mod Joining
+pub mod Demanded
+pub mod Made
+pub mod Demands

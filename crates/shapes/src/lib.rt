@@ -2,11 +2,13 @@
 // "The members of a type set are taken from the lowest number upward."
 ghost use Prim.Native.Nat.{_<_};
 ghost use Rattle.meaning.specs.Limits.{maxPredicates};
-ghost use Rattle.meaning.specs.Pack.{limits as Limits, requires as Requires};
+ghost use Rattle.meaning.specs.Pack.{limits as Limits};
 ghost use Rattle.shapes.specs.Shapes.{CodesFit, SomePasses, TargetsOf};
 use meaning::MULTIPLICITY_ROOM;
 use meaning::ShapeTable;
 use meaning::TYPE_SETS;
+
+pub mod demand;
 
 // The types of a mask: all but Literal.
 pub const TYPES: u16 = (TYPE_SETS - 1) as u16;
@@ -27,25 +29,6 @@ pub fn targets(shapes: &ShapeTable, mask: u16, p: usize) -> u16
         }
     }
     all
-}
-
-// Whether some member's shape requires p.
-pub fn required(shapes: &ShapeTable, mask: u16, p: usize) -> bool
-    requires { ⌜ p < maxPredicates ⌝ }
-    ensures { λ r. ⌜ SomePasses Requires (now (shapes .entry)) mask p r ⌝ }
-{
-    let mut left = mask & TYPES;
-    while left != 0 {
-        let t = u16::trailing_zeros(left) as usize;
-        left &= left - 1;
-        let cell = shapes[t][p];
-        if cell != 0 {
-            if meaning::requires_edge((cell % MULTIPLICITY_ROOM) as u8) {
-                return true;
-            }
-        }
-    }
-    false
 }
 
 // Whether some member's shape limits p to one object.

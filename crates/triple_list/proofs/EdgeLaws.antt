@@ -7,9 +7,9 @@ use mathlib.Core.List.{List, [], _∷_, map, Memᴰ·map as ∈-map, flatten}
 use mathlib.Core.Path.{_≡_, refl, sym, ap, subst, subst₂, _∙_}
 use native.Mathlib.Numerals.{add-one}
 use native.Mathlib.Omega.{arith}
-use Prim.Native.Nat.{ℕ, min, suc, zero, _+_, _*_, _-_, _%_, _^_, _<_, _≤_}
+use Prim.Native.Nat.{ℕ, min, suc, zero, _+_, _*_, _-_, _%_, _<_, _≤_}
 use Rattle.core.specs.Keys.{objectOf, originAt, originOf}
-use Rattle.invent.specs.Invent.{numberOf}
+use Rattle.invent.specs.Invent.{OfDemand, numberOf}
 use Rattle.node_list.specs.Records.{SetsFit, overwritten}
 use Rattle.triple_list.specs.Triples.{EdgeFrom, EdgesListed, NodeEdge, RecordsListed, SubjectEdge, SubjectsBelow, edgeRecord, edgeRecords, gotten, present}
 use Rattle.triple_list.proofs.ListedLaws.{listed-iff, listed-none}
@@ -24,8 +24,8 @@ use Rattle.meaning.proofs.Lists.Places.{∈-at}
 use Rattle.meaning.specs.Limits.{maxCoreTriples, maxIris, maxPredicates, maxTriples, typeSets}
 use Rattle.meaning.specs.Member.{_∈_, here, there}
 use Rattle.meaning.specs.Ordered.{InOrder, _≺_, before, empty, equal, less}
-use Rattle.meaning.specs.Pack.{Pack, requires}
-use Rattle.shapes.specs.Shapes.{SomePasses, Tabled, TargetsOf}
+use Rattle.meaning.specs.Pack.{Pack}
+use Rattle.shapes.specs.Demands.{requiredIn, targetsIn}
 
 -- ---- room: each origin has the core's edges, or one more
 
@@ -115,25 +115,26 @@ unfolding flatten
 edges-flat s p [] = refl
 edges-flat s p (k ∷ ks) = let r = edges-flat s p ks in omega arith
 
-module _ (table : List (List ℕ)) (triples places : List ℕ) (a : InOrder _<_ triples) (s mask p from first : ℕ)
+module _ (demand : ℕ) (triples places : List ℕ) (a : InOrder _<_ triples) (s p from first : ℕ)
     (f : from ≡ keysBefore (originAt s p) triples) (out out₁ : List ℕ) (at : ℕ) (e : EdgesListed triples s p from first out out₁ at) where
-  abbrev Edge : Pack → List ℕ → Type 0
-  Edge P = EdgeFrom P triples places s mask p
+  -- what stands from triple `first` on, for every set that demands this
+  abbrev Listed : List ℕ → ℕ → Type 0
+  Listed out′ r = (mask : ℕ) → RecordsListed (OfDemand mask p demand) (λ P. EdgeFrom P triples places s mask p) first out out′ r
 
   passed : at ≡ keysBefore (originAt s p + 1) triples
   passed = let c = e .count in let k = keys-next (originAt s p) triples in omega arith
 
   -- there are some
-  pub origin-present : (at ≡ from → ⊥) → RecordsListed table Edge first out out₁ (first + (at - from)) × (first + (at - from) + from ≤ first + 1 + at)
+  pub origin-present : (at ≡ from → ⊥) → Listed out₁ (first + (at - from)) × (first + (at - from) + from ≤ first + 1 + at)
       × (at ≡ keysBefore (originAt s p + 1) triples)
   origin-present n = (
-    record {
+    λ mask. record {
       records = edgeRecords s p triples;
       are = λ P h. record {
         ascending = edges-ascend s p triples a;
         members = λ x. (
           λ m. let r = ∈-map⁻¹ (edgeRecord s p) (group (originAt s p) triples) m in let g = group-only (originAt s p) triples (r .0) (r .1) in present (r .0) (g .0) (g .1) (r .2),
-          back P x,
+          back mask P x,
         );
       };
       long = edges-flat s p (group (originAt s p) triples);
@@ -144,9 +145,9 @@ module _ (table : List (List ℕ)) (triples places : List ℕ) (a : InOrder _<_ 
     passed,
   )
     where
-      back : (P : Pack) (x : List ℕ) → Edge P x → x ∈ edgeRecords s p triples
-      back P x (present k m o q) = subst (λ y. y ∈ edgeRecords s p triples) (sym q) (∈-map (edgeRecord s p) (group-in (originAt s p) m o))
-      back P x (gotten j l q) = absurd (l .none (origin-some triples (originAt s p) from at f passed n))
+      back : (mask : ℕ) (P : Pack) (x : List ℕ) → EdgeFrom P triples places s mask p x → x ∈ edgeRecords s p triples
+      back mask P x (present k m o q) = subst (λ y. y ∈ edgeRecords s p triples) (sym q) (∈-map (edgeRecord s p) (group-in (originAt s p) m o))
+      back mask P x (gotten j l q) = absurd (l .none (origin-some triples (originAt s p) from at f passed n))
 
   -- there are none
   module _ (n : at ≡ from) where
@@ -161,25 +162,25 @@ module _ (table : List (List ℕ)) (triples places : List ℕ) (a : InOrder _<_ 
         go [] z = sym (nothing-written (first * 3) out)
         go (x ∷ xs) z = absurd (let y : ⊥ = omega arith in y)
 
-    pub origin-free : (r : Bool) → r ≡ false → SomePasses requires table mask p r → RecordsListed table Edge first out out₁ first
+    pub origin-free : requiredIn demand ≡ false → Listed out₁ first
         × (first + from ≤ first + 1 + from) × (from ≡ keysBefore (originAt s p + 1) triples)
-    origin-free r f shown = (subst (λ o. RecordsListed table Edge first out o first) (sym out-same) (listed-none first out none), omega arith, sym n ∙ passed)
+    origin-free f = (subst (λ o. Listed o first) (sym out-same) (λ mask. listed-none first out (none mask)), omega arith, sym n ∙ passed)
       where
-        none : (P : Pack) → Tabled (P .setting) table → (x : List ℕ) → ¬ Edge P x
-        none P h x (present k m o q) = no-origin (record { key = k; listed = m; is = o })
-        none P h x (gotten j l q) = subst T f (shown (P .setting) h .1 (requires-shape P mask p .1 (l .leads .needs)))
+        none : (mask : ℕ) (P : Pack) → OfDemand mask p demand P → (x : List ℕ) → ¬ EdgeFrom P triples places s mask p x
+        none mask P h x (present k m o q) = no-origin (record { key = k; listed = m; is = o })
+        none mask P h x (gotten j l q) = subst T f (h .needs .1 (requires-shape P mask p .1 (l .leads .needs)))
 
-    pub origin-gets : (r : Bool) → r ≡ true → SomePasses requires table mask p r → (m : ℕ) → m < 2 ^ 16 → TargetsOf table mask p m
-        → (out₂ : List ℕ) → out₂ ≡ overwritten (first * 3) (s ∷ p ∷ getD places (m % typeSets) 0 ∷ []) out₁
-        → RecordsListed table Edge first out out₂ (first + 1) × (first + 1 + from ≤ first + 1 + at) × (at ≡ keysBefore (originAt s p + 1) triples)
+    pub origin-gets : requiredIn demand ≡ true → (m : ℕ) → m ≡ targetsIn demand → (out₂ : List ℕ)
+        → out₂ ≡ overwritten (first * 3) (s ∷ p ∷ getD places (m % typeSets) 0 ∷ []) out₁
+        → Listed out₂ (first + 1) × (first + 1 + from ≤ first + 1 + at) × (at ≡ keysBefore (originAt s p + 1) triples)
     unfolding flatten
-    origin-gets r t shown m small ts out₂ w = (
-      record {
+    origin-gets t m is out₂ w = (
+      λ mask. record {
         records = (s ∷ p ∷ getD places (m % typeSets) 0 ∷ []) ∷ [];
         are =
             λ P h. record {
               ascending = before {x = s ∷ p ∷ getD places (m % typeSets) 0 ∷ []} {xs = []} (λ y i. elim i [ ]) empty;
-              members = λ x. (forth P h x, λ q. here (back P h x q));
+              members = λ x. (forth mask P h x, λ q. here (back mask P h x q));
             };
         long = refl;
         count = refl;
@@ -189,26 +190,26 @@ module _ (table : List (List ℕ)) (triples places : List ℕ) (a : InOrder _<_ 
       passed,
     )
       where
-        same-mask : numberOf m % typeSets ≡ m % typeSets
-        same-mask = omega arith
+        same-mask : numberOf (targetsIn demand) % typeSets ≡ m % typeSets
+        same-mask = omega (arith, is)
 
-        forth : (P : Pack) → Tabled (P .setting) table → (x : List ℕ) → x ∈ ((s ∷ p ∷ getD places (m % typeSets) 0 ∷ []) ∷ []) → Edge P x
-        forth P h x (here q) =
-            gotten (numberOf m) (record { none = no-origin; leads = leads-there small ts P h r t shown }) (q ∙ ap (λ (j : ℕ). s ∷ p ∷ getD places j 0 ∷ []) (sym same-mask))
-        forth P h x (there i) = elim i [ ]
+        forth : (mask : ℕ) (P : Pack) → OfDemand mask p demand P → (x : List ℕ) → x ∈ ((s ∷ p ∷ getD places (m % typeSets) 0 ∷ []) ∷ []) → EdgeFrom P triples places s mask p x
+        forth mask P h x (here q) =
+            gotten (numberOf (targetsIn demand)) (record { none = no-origin; leads = leads-there P h t }) (q ∙ ap (λ (j : ℕ). s ∷ p ∷ getD places j 0 ∷ []) (sym same-mask))
+        forth mask P h x (there i) = elim i [ ]
 
-        back : (P : Pack) → Tabled (P .setting) table → (x : List ℕ) → Edge P x → x ≡ s ∷ p ∷ getD places (m % typeSets) 0 ∷ []
-        back P h x (present k i o q) = absurd (no-origin (record { key = k; listed = i; is = o }))
-        back P h x (gotten j l q) = q ∙ ap (λ (i : ℕ). s ∷ p ∷ getD places i 0 ∷ []) (ap (λ i. i % typeSets) (only small ts P h j (l .leads)) ∙ same-mask)
+        back : (mask : ℕ) (P : Pack) → OfDemand mask p demand P → (x : List ℕ) → EdgeFrom P triples places s mask p x → x ≡ s ∷ p ∷ getD places (m % typeSets) 0 ∷ []
+        back mask P h x (present k i o q) = absurd (no-origin (record { key = k; listed = i; is = o }))
+        back mask P h x (gotten j l q) = q ∙ ap (λ (i : ℕ). s ∷ p ∷ getD places i 0 ∷ []) (ap (λ i. i % typeSets) (only P h j (l .leads)) ∙ same-mask)
 
 -- ---- the edges of an invented node
 
-module _ {table : List (List ℕ)} {triples places : List ℕ} {node types first : ℕ} where
-  pub node-none : (out : List ℕ) → types ≡ 0 → RecordsListed table (NodeEdge triples places node types) first out out first × (first ≤ first + min 1 types * maxPredicates)
+module _ {These : Pack → Type 0} {triples places : List ℕ} {node types first : ℕ} where
+  pub node-none : (out : List ℕ) → types ≡ 0 → RecordsListed These (NodeEdge triples places node types) first out out first × (first ≤ first + min 1 types * maxPredicates)
   node-none out n = (listed-none first out (λ P h x e. let s = e .some-type in omega arith), omega arith)
 
-  pub node-some : {out out′ : List ℕ} {r : ℕ} → 0 < types → RecordsListed table (λ P. SubjectEdge P triples places node types) first out out′ r
-      → RecordsListed table (NodeEdge triples places node types) first out out′ r
+  pub node-some : {out out′ : List ℕ} {r : ℕ} → 0 < types → RecordsListed These (λ P. SubjectEdge P triples places node types) first out out′ r
+      → RecordsListed These (NodeEdge triples places node types) first out out′ r
   node-some s l = listed-iff (λ P x. (λ e. record { some-type = s; edge = e }, λ (e : NodeEdge triples places node types P x). e .edge)) l
 
 pub by-set : {triples places : List ℕ} {m n s t : ℕ} {P : Pack} → m < n → (x y : List ℕ) → NodeEdge triples places m s P x → NodeEdge triples places n t P y → x ≺ y

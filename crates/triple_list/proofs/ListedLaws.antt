@@ -12,7 +12,6 @@ use Rattle.triple_list.specs.Triples.{RecordsListed}
 use Rattle.meaning.proofs.Lists.SetLists.{empty-list, joined-list}
 use Rattle.meaning.specs.Ordered.{_≺_}
 use Rattle.meaning.specs.Pack.{Pack}
-use Rattle.shapes.specs.Shapes.{Tabled}
 use Rattle.meaning.proofs.Lists.Overwriting.{nothing-written, parts-written}
 use Rattle.meaning.proofs.Lists.Blocks.{flat-join}
 
@@ -31,9 +30,9 @@ upto-more {A} Q n x = (λ u. split u (ℕ-discrete (u .at) n), join)
 
 -- ---- lists in a slice
 
-module _ {table : List (List ℕ)} where
-  pub listed-none : {Q : Pack → List ℕ → Type 0} (first : ℕ) (out : List ℕ) → ((P : Pack) → Tabled (P .setting) table → (x : List ℕ) → ¬ Q P x)
-      → RecordsListed table Q first out out first
+module _ {These : Pack → Type 0} where
+  pub listed-none : {Q : Pack → List ℕ → Type 0} (first : ℕ) (out : List ℕ) → ((P : Pack) → These P → (x : List ℕ) → ¬ Q P x)
+      → RecordsListed These Q first out out first
   unfolding flatten
   listed-none first out n = record {
     records = [];
@@ -43,10 +42,10 @@ module _ {table : List (List ℕ)} where
     written = nothing-written (first * 3) out;
   }
 
-  pub listed-join : {Q R Z : Pack → List ℕ → Type 0} {first next r : ℕ} {out₀ out out′ : List ℕ} → RecordsListed table Q first out₀ out next
-      → RecordsListed table R next out out′ r
+  pub listed-join : {Q R Z : Pack → List ℕ → Type 0} {first next r : ℕ} {out₀ out out′ : List ℕ} → RecordsListed These Q first out₀ out next
+      → RecordsListed These R next out out′ r
       → next * 3 ≤ length out₀ → ((P : Pack) (x y : List ℕ) → Q P x → R P y → x ≺ y) → ((P : Pack) (x : List ℕ) → Z P x ↔ (Q P x ⊎ R P x))
-      → RecordsListed table Z first out₀ out′ r
+      → RecordsListed These Z first out₀ out′ r
   listed-join {first = first} {next} {r} {out₀} {out} {out′} a b room o z = record {
     records = a .records ++ b .records;
     are = λ P h. joined-list (a .are P h) (b .are P h) (o P) (z P);
@@ -63,7 +62,7 @@ module _ {table : List (List ℕ)} where
       place = let p = a .count in let q = a .long in omega arith
 
   pub listed-iff : {Q R : Pack → List ℕ → Type 0} {first r : ℕ} {out out′ : List ℕ} → ((P : Pack) (x : List ℕ) → Q P x ↔ R P x)
-      → RecordsListed table Q first out out′ r → RecordsListed table R first out out′ r
+      → RecordsListed These Q first out out′ r → RecordsListed These R first out out′ r
   listed-iff f l = record {
     records = l .records;
     are = λ P h. record { ascending = l .are P h .ascending; members = λ x. Iff·trans (l .are P h .members x) (f P x) };
@@ -72,14 +71,19 @@ module _ {table : List (List ℕ)} where
     written = l .written;
   }
 
+  -- fewer packs
+  pub listed-for : {Fewer : Pack → Type 0} {Q : Pack → List ℕ → Type 0} {first r : ℕ} {out out′ : List ℕ} → ((P : Pack) → Fewer P → These P)
+      → RecordsListed These Q first out out′ r → RecordsListed Fewer Q first out out′ r
+  listed-for f l = record { records = l .records; are = λ P h. l .are P (f P h); long = l .long; count = l .count; written = l .written }
+
   -- one number more
-  pub listed-again : (Q : Pack → ℕ → List ℕ → Type 0) {n first next r : ℕ} {out₀ out out′ : List ℕ} → RecordsListed table (λ P. Upto (Q P) n) first out₀ out next
-      → RecordsListed table (λ P. Q P n) next out out′ r → next * 3 ≤ length out₀ → ((P : Pack) (k : ℕ) → k < n → (x y : List ℕ) → Q P k x → Q P n y → x ≺ y)
-      → RecordsListed table (λ P. Upto (Q P) (n + 1)) first out₀ out′ r
+  pub listed-again : (Q : Pack → ℕ → List ℕ → Type 0) {n first next r : ℕ} {out₀ out out′ : List ℕ} → RecordsListed These (λ P. Upto (Q P) n) first out₀ out next
+      → RecordsListed These (λ P. Q P n) next out out′ r → next * 3 ≤ length out₀ → ((P : Pack) (k : ℕ) → k < n → (x y : List ℕ) → Q P k x → Q P n y → x ≺ y)
+      → RecordsListed These (λ P. Upto (Q P) (n + 1)) first out₀ out′ r
   listed-again Q {n} a b room o = listed-join a b room (λ P x y u q. o P (u .at) (u .below) x y (u .holds) q) (λ P x. upto-more (Q P) n x)
 
-  pub listed-start : (Q : Pack → ℕ → List ℕ → Type 0) (first : ℕ) (out : List ℕ) → RecordsListed table (λ P. Upto (Q P) 0) first out out first
+  pub listed-start : (Q : Pack → ℕ → List ℕ → Type 0) (first : ℕ) (out : List ℕ) → RecordsListed These (λ P. Upto (Q P) 0) first out out first
   listed-start Q first out = listed-none first out (λ P h x u. let b = u .below in omega arith)
 
-  pub listed-from : {Q : Pack → List ℕ → Type 0} {first r : ℕ} {out out′ : List ℕ} → RecordsListed table Q first out out′ r → first ≤ r
+  pub listed-from : {Q : Pack → List ℕ → Type 0} {first r : ℕ} {out out′ : List ℕ} → RecordsListed These Q first out out′ r → first ≤ r
   listed-from l = let c = l .count in omega arith

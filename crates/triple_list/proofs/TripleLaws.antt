@@ -39,7 +39,6 @@ use Rattle.meaning.specs.TypeSet.{TypeSet}
 use Rattle.node_list.specs.NodeList.{InventedNodes}
 use Rattle.sets.proofs.Rank.{rank-above, rank-le}
 use Rattle.sets.specs.Ordered.{rankOf}
-use Rattle.shapes.specs.Shapes.{Tabled}
 
 -- the element at a place of the first of two lists
 at-front : {A : Type 0} (xs ys : List A) (i : ℕ) (x : A) → getElem? xs i ≡ some x → getElem? (xs ++ ys) i ≡ some x
@@ -329,10 +328,10 @@ module _ {P : Pack} {shapes : List (List ℕ)} {nodes triples masks sets : List 
     across : (Q : Pack) (x y : List ℕ) → IriEdge nodes triples masks places Q x → SetsEdge Q y → x ≺ y
     across Q x y u v = let b = u .below in let r = rank-le firstLiteral nodes in by-subject (omega arith) x y (u .holds) (v .holds .edge)
 
-    pub triples-listed : {table : List (List ℕ)} → Tabled (P .setting) table → {next r : ℕ} {out out₁ out₂ : List ℕ}
-        → RecordsListed table (IriEdge nodes triples masks places) 0 out out₁ next
-        → RecordsListed table (λ Q. SetsEdge Q) next out₁ out₂ r → next * 3 ≤ length out → r ≤ maxTriples → TriplesListed P bs out out₂ r
-    triples-listed {table} tab {next} {r} {out} {out₁} {out₂} a b room few = record {
+    pub triples-listed : {These : Pack → Type 0} → These P → {next r : ℕ} {out out₁ out₂ : List ℕ}
+        → RecordsListed These (IriEdge nodes triples masks places) 0 out out₁ next
+        → RecordsListed These (λ Q. SetsEdge Q) next out₁ out₂ r → next * 3 ≤ length out → r ≤ maxTriples → TriplesListed P bs out out₂ r
+    triples-listed {These} one {next} {r} {out} {out₁} {out₂} a b room few = record {
       records = both .records;
       few = few;
       edges = record {
@@ -343,8 +342,8 @@ module _ {P : Pack} {shapes : List (List ℕ)} {nodes triples masks sets : List 
       written = both .written ∙ (let e : 0 * 3 + length (flatten (both .records)) ≡ r * 3 = (let c = both .count in let l = both .long in omega arith) in rw e refl);
     }
       where
-        both : RecordsListed table (λ Q x. IriEdge nodes triples masks places Q x ⊎ SetsEdge Q x) 0 out out₂ r
+        both : RecordsListed These (λ Q x. IriEdge nodes triples masks places Q x ⊎ SetsEdge Q x) 0 out out₂ r
         both = listed-join a b room across (λ Q x. (λ e. e, λ e. e))
 
         all : ListOf _≺_ (λ x. IriEdge nodes triples masks places P x ⊎ SetsEdge P x) (both .records)
-        all = both .are P tab
+        all = both .are P one

@@ -18,7 +18,6 @@ use Rattle.meaning.specs.Ordered.{ListOf, _≺_}
 use Rattle.meaning.specs.Pack.{Pack}
 use Rattle.node_list.specs.NodeList.{InventedNodes}
 use Rattle.sets.specs.Ordered.{rankOf}
-use Rattle.shapes.specs.Shapes.{Tabled}
 
 -- ---- the core's
 
@@ -63,10 +62,10 @@ SetEdge triples sets places first P i = NodeEdge triples places (first + i) (get
 abbrev pub SubjectsBelow : List ℕ → ℕ → Type 0
 SubjectsBelow triples node = (k : ℕ) → k ∈ triples → subjectOf k < node
 
--- The records of Q, in order, stand from triple `first` on; the next number is r.
-pub record RecordsListed (table : List (List ℕ)) (Q : Pack → List ℕ → Type 0) (first : ℕ) (out out′ : List ℕ) (r : ℕ) : Type 0 where
+-- The records of Q in each of these packs, in order, stand from triple `first` on; the next number is r.
+pub record RecordsListed (These : Pack → Type 0) (Q : Pack → List ℕ → Type 0) (first : ℕ) (out out′ : List ℕ) (r : ℕ) : Type 0 where
   pub records : List (List ℕ)
-  pub are : (P : Pack) → Tabled (P .setting) table → ListOf _≺_ (Q P) records
+  pub are : (P : Pack) → These P → ListOf _≺_ (Q P) records
   pub long : length (flatten records) ≡ length records * tripleWidth
   pub count : r ≡ first + length records
   pub written : out′ ≡ overwritten (first * tripleWidth) (flatten records) out

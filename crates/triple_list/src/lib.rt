@@ -2,11 +2,11 @@
 ghost use lib.ListN.{length};
 ghost use mathlib.Core.List.{[], _∷_};
 ghost use mathlib.Core.Path.{_≡_};
-ghost use Prim.Native.Nat.{min, _+_, _*_, _<_, _≤_};
+ghost use Prim.Native.Nat.{ℕ, min, _+_, _*_, _<_, _≤_};
 ghost use Rattle.core.specs.Keys.{originAt};
 ghost use Rattle.core_lists.specs.Input.{CoreFits};
 ghost use Rattle.core_lists.specs.Origin.{keysBefore};
-ghost use Rattle.invent.specs.Invent.{Upto};
+ghost use Rattle.invent.specs.Invent.{OfDemand, OfTable, Upto};
 ghost use Rattle.node_list.specs.Records.{SetPlaces, SetsFit, overwritten};
 ghost use Rattle.triple_list.specs.Triples.{EdgeFrom, EdgesListed, IriEdge, NodeEdge, RecordsListed, SetEdge, SubjectEdge, SubjectsBelow, TriplesShown};
 ghost use Rattle.meaning.specs.Limits.{maxCoreNodes, maxCoreTriples, maxIris, maxNodes, maxPredicates, maxTriples, tripleListLength, tripleWidth, typeSets};
@@ -20,8 +20,11 @@ use meaning::ShapeTable;
 use meaning::TRIPLE_WIDTH;
 use meaning::TYPE_SETS;
 use sets::ordered::rank;
-use shapes::required;
-use shapes::targets;
+use shapes::demand::DemandTable;
+use shapes::demand::demand_table;
+use shapes::demand::demands_of;
+use shapes::demand::required;
+use shapes::demand::targets;
 
 // How many sets of types there are, as masks have them.
 const SETS: u16 = TYPE_SETS as u16;
@@ -78,21 +81,19 @@ fn list_edges(
 
 // Writes the edges of a subject and a predicate: the core's, or else the one to the invented node of its p-targets.
 fn list_origin(
-    shapes: &ShapeTable,
     triples: &[u64],
     places: &[u16],
     subject: usize,
-    mask: u16,
+    demand: u16,
     p: usize,
     next: Next,
     out: &mut [u16],
 ) -> Next
     requires { ⌜ InOrder _<_ (now triples) × (typeSets ≤ length (now places)) × (subject < maxNodes) × (p < maxPredicates)
         × (next .at ≡ keysBefore (originAt subject p) (now triples))
-        × (next .triple + keysBefore (originAt subject p + 1) (now triples) + 1 ≤ maxTriples + next .at) × (tripleListLength ≤ length (now out))
-        × CodesFit (now shapes) ⌝ }
-    ensures { λ r. ⌜ RecordsListed (now (shapes .entry)) (λ P. EdgeFrom P (now (triples .entry)) (now (places .entry)) subject mask p) (next .triple)
-        (now (out .entry)) (now (out .exit)) (r .triple) × (r .triple + next .at ≤ next .triple + 1 + r .at)
+        × (next .triple + keysBefore (originAt subject p + 1) (now triples) + 1 ≤ maxTriples + next .at) × (tripleListLength ≤ length (now out)) ⌝ }
+    ensures { λ r. ⌜ ((mask : ℕ) → RecordsListed (OfDemand mask p demand) (λ P. EdgeFrom P (now (triples .entry)) (now (places .entry)) subject mask p) (next .triple)
+        (now (out .entry)) (now (out .exit)) (r .triple)) × (r .triple + next .at ≤ next .triple + 1 + r .at)
         × (r .at ≡ keysBefore (originAt subject p + 1) (now (triples .entry))) ⌝ }
 {
     let first = next.triple;
@@ -104,10 +105,10 @@ fn list_origin(
             at,
         };
     }
-    if !required(shapes, mask, p) {
+    if !required(demand) {
         return next;
     }
-    let types = (targets(shapes, mask, p) % SETS) as usize;
+    let types = (targets(demand) % SETS) as usize;
     write_triple(out, first, subject as u16, p as u16, places[types]);
     Next {
         triple: first + 1,
@@ -117,7 +118,7 @@ fn list_origin(
 
 // The same for every predicate.
 fn list_subject(
-    shapes: &ShapeTable,
+    demands: &DemandTable,
     triples: &[u64],
     places: &[u16],
     subject: usize,
@@ -128,14 +129,15 @@ fn list_subject(
     requires { ⌜ InOrder _<_ (now triples) × (typeSets ≤ length (now places)) × (subject < maxNodes)
         × (first .at ≡ keysBefore (originAt subject 0) (now triples))
         × (first .triple + maxPredicates + keysBefore (originAt subject maxPredicates) (now triples) ≤ maxTriples + first .at)
-        × (tripleListLength ≤ length (now out)) × CodesFit (now shapes) ⌝ }
-    ensures { λ r. ⌜ RecordsListed (now (shapes .entry)) (λ P. SubjectEdge P (now (triples .entry)) (now (places .entry)) subject mask)
+        × (tripleListLength ≤ length (now out)) ⌝ }
+    ensures { λ r. ⌜ RecordsListed (OfTable (now (demands .entry))) (λ P. SubjectEdge P (now (triples .entry)) (now (places .entry)) subject mask)
         (first .triple) (now (out .entry)) (now (out .exit)) (r .triple) × (r .triple + first .at ≤ first .triple + maxPredicates + r .at)
         × (r .at ≡ keysBefore (originAt subject maxPredicates) (now (triples .entry))) ⌝ }
 {
+    let row = demands_of(demands, mask);
     let mut next = first;
     for p in 0..MAX_PREDICATES {
-        let more = list_origin(shapes, triples, places, subject, mask, p, next, out);
+        let more = list_origin(triples, places, subject, row[p], p, next, out);
         next = more;
     }
     next
@@ -143,22 +145,22 @@ fn list_subject(
 
 // Those of every IRI: literals come after all IRIs and have no edges.
 fn list_iris(
-    shapes: &ShapeTable,
+    demands: &DemandTable,
     nodes: &[u64],
     triples: &[u64],
     masks: &[u16],
     places: &[u16],
     out: &mut [u16],
 ) -> usize
-    requires { ⌜ CoreFits (now nodes) (now triples) (now masks) × (typeSets ≤ length (now places)) × (tripleListLength ≤ length (now out)) × CodesFit (now shapes) ⌝ }
-    ensures { λ r. ⌜ RecordsListed (now (shapes .entry))
+    requires { ⌜ CoreFits (now nodes) (now triples) (now masks) × (typeSets ≤ length (now places)) × (tripleListLength ≤ length (now out)) ⌝ }
+    ensures { λ r. ⌜ RecordsListed (OfTable (now (demands .entry)))
         (IriEdge (now (nodes .entry)) (now (triples .entry)) (now (masks .entry)) (now (places .entry))) 0 (now (out .entry)) (now (out .exit)) r
         × (r ≤ maxCoreTriples + maxIris * maxPredicates) ⌝ }
 {
     let iris = rank(nodes, FIRST_LITERAL);
     let mut next = Next { triple: 0, at: 0 };
     for s in 0..iris {
-        let more = list_subject(shapes, triples, places, s, masks[s], next, out);
+        let more = list_subject(demands, triples, places, s, masks[s], next, out);
         next = more;
     }
     next.triple
@@ -166,7 +168,7 @@ fn list_iris(
 
 // Those of an invented node, which comes after all subjects of the core: the invented literal has no edges.
 fn list_set_edges(
-    shapes: &ShapeTable,
+    demands: &DemandTable,
     triples: &[u64],
     places: &[u16],
     node: usize,
@@ -175,8 +177,8 @@ fn list_set_edges(
     out: &mut [u16],
 ) -> usize
     requires { ⌜ InOrder _<_ (now triples) × SubjectsBelow (now triples) node × (typeSets ≤ length (now places)) × (node < maxNodes)
-        × (first + maxPredicates ≤ maxTriples) × (tripleListLength ≤ length (now out)) × CodesFit (now shapes) ⌝ }
-    ensures { λ r. ⌜ RecordsListed (now (shapes .entry)) (NodeEdge (now (triples .entry)) (now (places .entry)) node types) first
+        × (first + maxPredicates ≤ maxTriples) × (tripleListLength ≤ length (now out)) ⌝ }
+    ensures { λ r. ⌜ RecordsListed (OfTable (now (demands .entry))) (NodeEdge (now (triples .entry)) (now (places .entry)) node types) first
         (now (out .entry)) (now (out .exit)) r × (r ≤ first + min 1 types * maxPredicates) ⌝ }
 {
     if types == 0 {
@@ -186,13 +188,13 @@ fn list_set_edges(
         triple: first,
         at: triples.len(),
     };
-    let next = list_subject(shapes, triples, places, node, types, from, out);
+    let next = list_subject(demands, triples, places, node, types, from, out);
     next.triple
 }
 
 // Those of every invented node, from a node number on.
 fn list_sets_edges(
-    shapes: &ShapeTable,
+    demands: &DemandTable,
     triples: &[u64],
     sets: &[u16],
     places: &[u16],
@@ -201,14 +203,14 @@ fn list_sets_edges(
     out: &mut [u16],
 ) -> usize
     requires { ⌜ InOrder _<_ (now triples) × SubjectsBelow (now triples) node × SetsFit (now sets) × (typeSets ≤ length (now places))
-        × (node ≤ maxCoreNodes) × (first ≤ maxCoreTriples + maxIris * maxPredicates) × (tripleListLength ≤ length (now out)) × CodesFit (now shapes) ⌝ }
-    ensures { λ r. ⌜ RecordsListed (now (shapes .entry))
+        × (node ≤ maxCoreNodes) × (first ≤ maxCoreTriples + maxIris * maxPredicates) × (tripleListLength ≤ length (now out)) ⌝ }
+    ensures { λ r. ⌜ RecordsListed (OfTable (now (demands .entry)))
         (λ P. Upto (SetEdge (now (triples .entry)) (now (sets .entry)) (now (places .entry)) node P) (length (now (sets .entry)))) first
         (now (out .entry)) (now (out .exit)) r × (r ≤ maxTriples) ⌝ }
 {
     let mut next = first;
     for i in 0..sets.len() {
-        next = list_set_edges(shapes, triples, places, node + i, sets[i], next, out);
+        next = list_set_edges(demands, triples, places, node + i, sets[i], next, out);
     }
     next
 }
@@ -228,6 +230,7 @@ pub fn list_triples(
     ensures { λ r. ⌜ TriplesShown (now (shapes .entry)) (now (nodes .entry)) (now (triples .entry)) (now (masks .entry)) (now (sets .entry))
         (now (out .entry)) (now (out .exit)) r ⌝ }
 {
-    let next = list_iris(shapes, nodes, triples, masks, places, out);
-    list_sets_edges(shapes, triples, sets, places, nodes.len(), next, out)
+    let demands = demand_table(shapes);
+    let next = list_iris(&demands, nodes, triples, masks, places, out);
+    list_sets_edges(&demands, triples, sets, places, nodes.len(), next, out)
 }

@@ -38,9 +38,10 @@ fixed pack query = record {
   one-result = one-result;
 }
 
-pub answers-once : (pack query : Text) (r s : YesNo) (nodes nodes₂ triples triples₂ rows rows₂ heads heads₂ alive alive₂ waiting waiting₂ stack stack₂ : Contents)
-    → SameLengths (graphLists nodes triples) (graphLists nodes₂ triples₂) → SameLengths (buffers rows heads alive waiting stack) (buffers rows₂ heads₂ alive₂ waiting₂ stack₂)
-    → YesNoAnswers pack query r nodes triples rows heads alive waiting stack → YesNoAnswers pack query s nodes₂ triples₂ rows₂ heads₂ alive₂ waiting₂ stack₂
-    → Same (Refuses pack query) (Gives pack query) r s (graphLists nodes triples) (graphLists nodes₂ triples₂)
+pub answers-once : (pack query : Text) (r s : YesNo) (nodes nodes₂ triples triples₂ index index₂ rows rows₂ heads heads₂ alive alive₂ waiting waiting₂ stack stack₂ : Contents)
+    → SameLengths (graphLists nodes triples index) (graphLists nodes₂ triples₂ index₂)
+    → SameLengths (buffers rows heads alive waiting stack) (buffers rows₂ heads₂ alive₂ waiting₂ stack₂)
+    → YesNoAnswers pack query r nodes triples index rows heads alive waiting stack → YesNoAnswers pack query s nodes₂ triples₂ index₂ rows₂ heads₂ alive₂ waiting₂ stack₂
+    → Same (Refuses pack query) (Gives pack query) r s (graphLists nodes triples index) (graphLists nodes₂ triples₂ index₂)
     (buffers rows heads alive waiting stack) (buffers rows₂ heads₂ alive₂ waiting₂ stack₂)
-answers-once pack query r s nodes nodes₂ triples triples₂ rows rows₂ heads heads₂ alive alive₂ waiting waiting₂ stack stack₂ = call-once (fixed pack query)
+answers-once pack query r s nodes nodes₂ triples triples₂ index index₂ rows rows₂ heads heads₂ alive alive₂ waiting waiting₂ stack stack₂ = call-once (fixed pack query)

@@ -31,6 +31,6 @@ buffers rows heads alive waiting stack =
     rows at-least rowsLength ∷ heads at-least headsLength ∷ alive at-least stateWords ∷ waiting at-least stateWords ∷ stack at-least stateWords ∷ []
 
 -- 1 to 11, or the graph and the answer
-abbrev pub YesNoAnswers : Text → Text → YesNo → Contents → Contents → Contents → Contents → Contents → Contents → Contents → Type 0
-YesNoAnswers pack query r nodes triples rows heads alive waiting stack =
-    Call (record { graph = refusedAs 1; yes = false }) (Refuses pack query) (Gives pack query) r (graphLists nodes triples) (buffers rows heads alive waiting stack)
+abbrev pub YesNoAnswers : Text → Text → YesNo → Contents → Contents → Contents → Contents → Contents → Contents → Contents → Contents → Type 0
+YesNoAnswers pack query r nodes triples index rows heads alive waiting stack =
+    Call (record { graph = refusedAs 1; yes = false }) (Refuses pack query) (Gives pack query) r (graphLists nodes triples index) (buffers rows heads alive waiting stack)

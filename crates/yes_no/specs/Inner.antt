@@ -8,11 +8,11 @@ use Rattle.yes_no.specs.Answer.{Gives, Refuses, buffers}
 use Rattle.yes_no.specs.declared.YesNo.{YesNo}
 
 -- all lists and buffers are long enough
-abbrev pub Room : List ℕ → List ℕ → List ℕ → List ℕ → List ℕ → List ℕ → List ℕ → Type 0
-Room nodes triples rows heads alive waiting stack =
-    LongEnough (graphLists (nodes becomes nodes) (triples becomes triples)
+abbrev pub Room : List ℕ → List ℕ → List ℕ → List ℕ → List ℕ → List ℕ → List ℕ → List ℕ → Type 0
+Room nodes triples index rows heads alive waiting stack =
+    LongEnough (graphLists (nodes becomes nodes) (triples becomes triples) (index becomes index)
     ++ buffers (rows becomes rows) (heads becomes heads) (alive becomes alive) (waiting becomes waiting) (stack becomes stack))
 
 -- 2 to 11, or the graph and the answer
-abbrev pub Comes : Text → Text → YesNo → Contents → Contents → Type 0
-Comes pack query r nodes triples = Outcome (Refuses pack query) (Gives pack query) r (graphLists nodes triples)
+abbrev pub Comes : Text → Text → YesNo → Contents → Contents → Contents → Type 0
+Comes pack query r nodes triples index = Outcome (Refuses pack query) (Gives pack query) r (graphLists nodes triples index)

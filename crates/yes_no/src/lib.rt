@@ -7,6 +7,7 @@ use construct::Constructed;
 use construct::refused;
 use evaluate::yes::yes;
 use meaning::HEADS_LENGTH;
+use meaning::INDEX_LENGTH;
 use meaning::MAX_PARTS;
 use meaning::MAX_QUERY_BYTES;
 use meaning::NODE_LIST_LENGTH;
@@ -29,14 +30,15 @@ fn answer(
     query: &[u8],
     nodes: &mut [u16],
     triples: &mut [u16],
+    index: &mut [u16],
     rows: &mut [u16],
     heads: &mut [u64],
     alive: &mut [u64],
     waiting: &mut [u64],
     stack: &mut [u16],
 ) -> YesNo
-    requires { ⌜ Room (now nodes) (now triples) (now rows) (now heads) (now alive) (now waiting) (now stack) ⌝ }
-    ensures { λ r. ⌜ Comes (now (pack .entry)) (now (query .entry)) r (lent nodes) (lent triples) ⌝ }
+    requires { ⌜ Room (now nodes) (now triples) (now index) (now rows) (now heads) (now alive) (now waiting) (now stack) ⌝ }
+    ensures { λ r. ⌜ Comes (now (pack .entry)) (now (query .entry)) r (lent nodes) (lent triples) (lent index) ⌝ }
 {
     let mut tree = [0u32; MAX_QUERY_BYTES];
     let mut wanted = [0u16; MAX_PARTS];
@@ -47,6 +49,7 @@ fn answer(
         &mut wanted,
         nodes,
         triples,
+        index,
         rows,
         heads,
     );
@@ -72,9 +75,10 @@ fn answer(
 }
 
 // What each list and buffer must hold at least, in the order in which they are lent.
-const LEAST_LENGTHS: [usize; 7] = [
+const LEAST_LENGTHS: [usize; 8] = [
     NODE_LIST_LENGTH,
     TRIPLE_LIST_LENGTH,
+    INDEX_LENGTH,
     ROWS_LENGTH,
     HEADS_LENGTH,
     STATE_WORDS, // alive
@@ -82,26 +86,28 @@ const LEAST_LENGTHS: [usize; 7] = [
     STATE_WORDS, // stack
 ];
 
-// Whether the query is certain, with the graph of the pack at the front of the two lists; or a refusal. `rows`, `heads`,
-// `alive`, `waiting` and `stack` are working buffers.
+// Whether the query is certain, with the graph of the pack at the front of the two lists and their index; or a refusal. `rows`,
+// `heads`, `alive`, `waiting` and `stack` are working buffers.
 pub fn yes_no(
     pack: &[u8],
     query: &[u8],
     nodes: &mut [u16],
     triples: &mut [u16],
+    index: &mut [u16],
     rows: &mut [u16],
     heads: &mut [u64],
     alive: &mut [u64],
     waiting: &mut [u64],
     stack: &mut [u16],
 ) -> YesNo
-    ensures { λ r. ⌜ YesNoAnswers (now (pack .entry)) (now (query .entry)) r (lent nodes) (lent triples) (lent rows) (lent heads)
+    ensures { λ r. ⌜ YesNoAnswers (now (pack .entry)) (now (query .entry)) r (lent nodes) (lent triples) (lent index) (lent rows) (lent heads)
         (lent alive) (lent waiting) (lent stack) ⌝ }
 {
     let asked = LEAST_LENGTHS;
     let lengths = [
         nodes.len(),
         triples.len(),
+        index.len(),
         rows.len(),
         heads.len(),
         alive.len(),
@@ -119,6 +125,7 @@ pub fn yes_no(
         query,
         nodes,
         triples,
+        index,
         rows,
         heads,
         alive,

@@ -9,21 +9,24 @@ use second::generate::Random;
 /// The buffers' numbers, in the order in which the calls take them.
 pub const NODES: usize = 0;
 pub const TRIPLES: usize = 1;
-pub const PAIRS: usize = 2;
-pub const ROWS: usize = 3;
-pub const HEADS: usize = 4;
-pub const ALIVE: usize = 5;
-pub const WAITING: usize = 6;
-pub const STACK: usize = 7;
-pub const SEEN: usize = 8;
-pub const OWN_NODES: usize = 9;
-pub const OWN_TRIPLES: usize = 10;
+pub const INDEX: usize = 2;
+pub const PAIRS: usize = 3;
+pub const ROWS: usize = 4;
+pub const HEADS: usize = 5;
+pub const ALIVE: usize = 6;
+pub const WAITING: usize = 7;
+pub const STACK: usize = 8;
+pub const SEEN: usize = 9;
+pub const OWN_NODES: usize = 10;
+pub const OWN_TRIPLES: usize = 11;
+pub const OWN_INDEX: usize = 12;
 
-pub const COUNT: usize = 11;
+pub const COUNT: usize = 13;
 
 pub const NAMES: [&str; COUNT] = [
     "nodes",
     "triples",
+    "index",
     "pairs",
     "rows",
     "heads",
@@ -33,14 +36,16 @@ pub const NAMES: [&str; COUNT] = [
     "seen",
     "own_nodes",
     "own_triples",
+    "own_index",
 ];
 
 /// Bytes of an entry.
-const WIDTHS: [usize; COUNT] = [2, 2, 2, 2, 8, 8, 8, 2, 8, 2, 2];
+const WIDTHS: [usize; COUNT] = [2, 2, 2, 2, 2, 8, 8, 8, 2, 8, 2, 2, 2];
 
 /// The lengths below which a call refuses by 1.
 pub const NEEDED: Lengths = [
-    34_048, 168_924, 8_192, 9_216, 32_768, 19_532, 19_532, 19_532, 3_084, 34_048, 168_924,
+    34_048, 168_924, 9_728, 8_192, 9_216, 32_768, 19_532, 19_532, 19_532, 3_084, 34_048, 168_924,
+    9_728,
 ];
 
 /// The most entries lent past the needed ones. As many at least lie around
@@ -53,11 +58,12 @@ pub type Lengths = [usize; COUNT];
 /// The numbers of the buffers that a call is lent.
 pub fn lent_to(call: Call) -> &'static [usize] {
     match call {
-        Call::Build => &[NODES, TRIPLES, ROWS, HEADS],
-        Call::YesNo => &[NODES, TRIPLES, ROWS, HEADS, ALIVE, WAITING, STACK],
+        Call::Build => &[NODES, TRIPLES, INDEX, ROWS, HEADS],
+        Call::YesNo => &[NODES, TRIPLES, INDEX, ROWS, HEADS, ALIVE, WAITING, STACK],
         Call::Pairs => &[
             NODES,
             TRIPLES,
+            INDEX,
             PAIRS,
             ROWS,
             HEADS,
@@ -67,6 +73,7 @@ pub fn lent_to(call: Call) -> &'static [usize] {
             SEEN,
             OWN_NODES,
             OWN_TRIPLES,
+            OWN_INDEX,
         ],
         Call::ReadBack => &[],
     }
@@ -125,7 +132,7 @@ pub enum Place {
     Last,
 }
 
-/// The eleven buffers.
+/// The thirteen buffers.
 pub struct Buffers {
     pub lent: [Lent; COUNT],
 }

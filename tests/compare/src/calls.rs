@@ -63,15 +63,15 @@ pub struct Proved;
 impl Calls for Proved {
     fn call(&mut self, call: Call, input: Input, buffers: &mut Buffers) -> Answer {
         let Input { pack, query, text } = input;
-        let [nodes, triples, pairs, rows, heads, alive, waiting, stack, seen, own_nodes, own_triples] =
-            &mut buffers.lent;
-        let (nodes, triples, pairs) = (nodes.slice(), triples.slice(), pairs.slice());
+        let [nodes, triples, index, pairs, working @ ..] = &mut buffers.lent;
+        let [rows, heads, alive, waiting, stack, seen, own_nodes, own_triples, own_index] = working;
+        let (nodes, triples, index) = (nodes.slice(), triples.slice(), index.slice());
         let (rows, heads) = (rows.slice(), heads.slice());
         let (alive, waiting, stack) = (alive.slice(), waiting.slice(), stack.slice());
         match call {
-            Call::Build => lent::build(pack, nodes, triples, rows, heads).map(Given::Graph),
+            Call::Build => lent::build(pack, nodes, triples, index, rows, heads).map(Given::Graph),
             Call::YesNo => lent::yes_no(
-                pack, query, nodes, triples, rows, heads, alive, waiting, stack,
+                pack, query, nodes, triples, index, rows, heads, alive, waiting, stack,
             )
             .map(|(yes, counts)| Given::Truth(yes, counts)),
             Call::Pairs => lent::pairs(
@@ -79,7 +79,8 @@ impl Calls for Proved {
                 query,
                 nodes,
                 triples,
-                pairs,
+                index,
+                pairs.slice(),
                 rows,
                 heads,
                 alive,
@@ -88,6 +89,7 @@ impl Calls for Proved {
                 seen.slice(),
                 own_nodes.slice(),
                 own_triples.slice(),
+                own_index.slice(),
             )
             .map(|(count, counts)| Given::Pairs(count, counts)),
             Call::ReadBack => lent::read_back(pack, text).map(Given::Term),

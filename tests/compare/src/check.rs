@@ -9,11 +9,11 @@ use ciravehy::{Counts, Term};
 use second::vectors::Answers;
 use second::{Clash, Graph, Refusal};
 
-/// What a call has to give, and to leave in front of the three lists:
-/// nodes, triples and pairs.
+/// What a call has to give, and to leave in front of the four lists:
+/// nodes, triples, index and pairs.
 pub struct Expected {
     answer: Result<Given, Refusal>,
-    fronts: [Vec<u16>; 3],
+    fronts: [Vec<u16>; 4],
 }
 
 /// What a call has to give for these lengths, if the second program's
@@ -70,7 +70,12 @@ impl Expected {
     fn graph(given: Given, graph: &Graph, pairs: &[[u16; 2]]) -> Expected {
         Expected {
             answer: Ok(given),
-            fronts: [graph.nodes.concat(), graph.triples.concat(), pairs.concat()],
+            fronts: [
+                graph.nodes.concat(),
+                graph.triples.concat(),
+                graph.index.concat(),
+                pairs.concat(),
+            ],
         }
     }
 

@@ -1,7 +1,9 @@
 //! For tests: the second program as a set of calls on lent buffers, right
 //! or with one fault.
 
-use crate::buffers::{is_short, is_working, lent_to, Buffers, Lengths, NODES, PAIRS, TRIPLES};
+use crate::buffers::{
+    is_short, is_working, lent_to, Buffers, Lengths, INDEX, NODES, PAIRS, TRIPLES,
+};
 use crate::calls::{Answer, Call, Calls, Given, Input};
 use ciravehy::{Clash, Counts, Refusal, Term};
 use second::vectors::answers;
@@ -53,6 +55,7 @@ fn write(buffers: &mut Buffers, graph: &Graph) -> Counts {
     for (buffer, numbers) in [
         (NODES, graph.nodes.concat()),
         (TRIPLES, graph.triples.concat()),
+        (INDEX, graph.index.concat()),
     ] {
         buffers.lent[buffer].slice()[..numbers.len()].copy_from_slice(&numbers);
     }

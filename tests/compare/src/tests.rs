@@ -9,7 +9,7 @@ use crate::model::{Faulty, Model, Peeking};
 use crate::tally::{outcomes, Tally};
 use ciravehy::{Clash, Refusal};
 use second::encode::encode;
-use second::generate::{case, sample, Random};
+use second::generate::{case, pairs_pack, sample, Random};
 use second::graph::all_clashing;
 use second::pack::Pack;
 use second::records::row;
@@ -69,6 +69,7 @@ fn the_lengths_are_those_of_the_wrapper() {
     let lengths = [
         ciravehy::NODE_LIST_LENGTH,
         ciravehy::TRIPLE_LIST_LENGTH,
+        ciravehy::INDEX_LENGTH,
         ciravehy::PAIR_LIST_LENGTH,
         ciravehy::ROWS_LENGTH,
         ciravehy::HEADS_LENGTH,
@@ -78,6 +79,7 @@ fn the_lengths_are_those_of_the_wrapper() {
         ciravehy::SEEN_WORDS,
         ciravehy::NODE_LIST_LENGTH,
         ciravehy::TRIPLE_LIST_LENGTH,
+        ciravehy::INDEX_LENGTH,
     ];
     assert_eq!(NEEDED, lengths);
 }
@@ -91,7 +93,7 @@ fn right_answers_pass() {
         let mut driver = Driver::new(Model);
         assert_eq!(driver.case(seed, Case { input, answers }), Ok(()));
         // Three calls on whole buffers, and one for each short buffer.
-        assert_eq!(driver.tally.total(), 4 * 3 + 4 + 7 + 11);
+        assert_eq!(driver.tally.total(), 4 * 3 + 5 + 8 + 13);
     }
     assert_eq!(compare(Model, &taken()), Ok(()));
     assert_eq!(compare(Model, &clashing()), Ok(()));
@@ -106,7 +108,7 @@ fn an_entry_less_is_too_short() {
     let case = Case { input, answers };
     let mut driver = Driver::new(Model);
     assert_eq!(driver.one_less(case), Ok(()));
-    assert_eq!(driver.tally.total(), 4 + 7 + 11);
+    assert_eq!(driver.tally.total(), 5 + 8 + 13);
     let mut driver = Driver::new(Faulty(|call, answer: &mut Answer, _: &mut Buffers| {
         if let (Call::YesNo, Err(refusal)) = (call, answer) {
             refusal.number = 2;
@@ -196,7 +198,12 @@ fn an_outcome_of_another_call_is_noticed() {
 
 #[test]
 fn a_changed_list_is_noticed() {
-    for (buffer, call) in [(NODES, "build"), (TRIPLES, "build"), (PAIRS, "pairs")] {
+    for (buffer, call) in [
+        (NODES, "build"),
+        (TRIPLES, "build"),
+        (INDEX, "build"),
+        (PAIRS, "pairs"),
+    ] {
         let front = said(&taken(), |_, answer, buffers| {
             if answer.is_ok() && buffers.lent[buffer].length() > 0 {
                 buffers.lent[buffer].slice::<u16>()[1] ^= 1;
@@ -217,6 +224,37 @@ fn a_changed_list_is_noticed() {
             }
         });
         assert!(refused.contains(": entry 0 is "), "{refused}");
+    }
+}
+
+#[test]
+fn a_wrong_index_is_noticed() {
+    // The sample's index: 0 2, 0 0 of a literal, 0 0, 2 2, 4 1.
+    for (entry, was, wrong) in [(0, 0, 1), (1, 2, 1), (2, 0, 2), (4, 0, 5), (9, 1, 0)] {
+        let said = said(&taken(), |_, answer, buffers| {
+            if answer.is_ok() && buffers.lent[INDEX].length() > 0 {
+                buffers.lent[INDEX].slice::<u16>()[entry] = wrong;
+            }
+        });
+        let expected = format!("index: entry {entry} is {wrong}, not {was}");
+        assert!(said.ends_with(&expected), "{said}");
+    }
+}
+
+#[test]
+fn a_list_changed_by_too_many_pairs_is_noticed() {
+    let pack = encode(&pairs_pack(64, 64, 1));
+    let input = Input::new(&pack, b"p/q|r", b"");
+    let answers = &answers(input.pack, input.query, input.text);
+    for (buffer, name) in NAMES.into_iter().enumerate().take(ROWS) {
+        let fault = |_, answer: &mut Answer, buffers: &mut Buffers| {
+            if matches!(answer, Err(refusal) if refusal.number == 12) {
+                buffers.lent[buffer].slice::<u16>()[0] ^= 1;
+            }
+        };
+        let said = Driver::new(Faulty(fault)).case(7, Case { input, answers });
+        let start = format!("pairs, exact lengths: {name}: entry 0 is ");
+        assert!(said.unwrap_err().starts_with(&start), "{name}");
     }
 }
 

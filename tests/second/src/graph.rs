@@ -1,5 +1,6 @@
 //! The graph: the core (refusal 9), the refusals without a graph (10 and
-//! 11), the invented nodes, and the ordered lists of nodes and triples.
+//! 11), the invented nodes, the ordered lists of nodes and triples, and the
+//! index.
 
 use crate::pack::{
     Atom, Head, Pack, Row, Rule, Term, LITERAL, MAX_PREDICATES, MAX_TYPES, MAX_VALUES,
@@ -9,6 +10,9 @@ use std::collections::{BTreeMap, BTreeSet, HashMap, HashSet};
 
 pub type NodeRecord = [u16; 7];
 pub type TripleRecord = [u16; 3];
+/// The number of a node's first triple as subject, and how many it has; 0
+/// and 0 where none.
+pub type IndexRecord = [u16; 2];
 
 /// Stands in the unused places of a node record.
 pub const UNUSED: u16 = 65_535;
@@ -27,11 +31,13 @@ pub const MAX_NODES: usize = MAX_IRIS + MAX_VALUES + 1 + MAX_INVENTED;
 /// from each IRI and each invented node.
 pub const MAX_GRAPH_TRIPLES: usize = MAX_TRIPLES + MAX_PREDICATES * (MAX_IRIS + MAX_INVENTED);
 
-/// The node list and the triple list, both in order.
+/// The node list and the triple list, both in order, and the index, which
+/// has a record for each node in the node list's order.
 #[derive(Clone, Debug, Default, PartialEq, Eq)]
 pub struct Graph {
     pub nodes: Vec<NodeRecord>,
     pub triples: Vec<TripleRecord>,
+    pub index: Vec<IndexRecord>,
 }
 
 /// A node. The derived order is the node order: IRIs by constructor and
@@ -525,7 +531,19 @@ fn lists(nodes: &BTreeMap<Node, Types>, triples: &Triples) -> Graph {
             .push([numbers[subject], u16::from(*predicate), numbers[object]]);
     }
     graph.triples.sort();
+    graph.index = index(graph.nodes.len(), &graph.triples);
     graph
+}
+
+/// The index of so many nodes.
+pub fn index(nodes: usize, triples: &[TripleRecord]) -> Vec<IndexRecord> {
+    // For each node the numbers of its triples as subject.
+    let mut own: Vec<Vec<u16>> = vec![Vec::new(); nodes];
+    for (number, [subject, _, _]) in (0..).zip(triples) {
+        own[usize::from(*subject)].push(number);
+    }
+    let record = |own: &Vec<u16>| [own.first().copied().unwrap_or(0), own.len() as u16];
+    own.iter().map(record).collect()
 }
 
 #[cfg(test)]

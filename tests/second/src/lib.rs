@@ -15,7 +15,7 @@ pub mod rounds;
 pub mod spelling;
 pub mod vectors;
 
-pub use graph::{Graph, NodeRecord, TripleRecord};
+pub use graph::{Graph, IndexRecord, NodeRecord, TripleRecord};
 
 /// A refusal: its number and, for number 10 only, the first clash of the
 /// core.

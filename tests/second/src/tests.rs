@@ -8,6 +8,7 @@ use crate::records::{row, shape};
 use crate::{build, certain, less_line_feed, pairs, read_back, yes_no, Clash, Graph};
 
 mod first_clash;
+mod index;
 mod rounds;
 mod twelve_types;
 

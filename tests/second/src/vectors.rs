@@ -1,8 +1,8 @@
 //! Written cases: reading the forms that `tests/vectors` describes, and the
 //! answers of the four calls as one value.
 
-use crate::graph::Clashing;
-use crate::{Clash, Graph, NodeRecord, Refusal};
+use crate::graph::{index, Clashing};
+use crate::{Clash, Graph, NodeRecord, Refusal, TripleRecord};
 use std::path::Path;
 
 /// What the four calls answer to one pack, query and text.
@@ -22,6 +22,9 @@ pub struct Written {
     pub query: Vec<u8>,
     pub text: Vec<u8>,
     pub answers: Answers,
+    /// Whether the index is written too. Else it is this program's, of the
+    /// triples that are written.
+    pub indexed: bool,
     /// What `certain` prints if the query is its standard input, where the
     /// case says so.
     pub certain: Option<String>,
@@ -48,14 +51,17 @@ pub fn answers(pack: &[u8], query: &[u8], text: &[u8]) -> Answers {
 
 // ------------------------------------------------------------ a case file
 
-/// The cases of a file.
+/// The cases of a file. It has index lines in every case with a graph, or
+/// is older than these.
 pub fn read_file(path: &Path) -> Vec<Written> {
     let text = std::fs::read_to_string(path).expect("the cases can be read");
     let lines: Vec<&str> = text.lines().collect();
     let ends = |line: &&str| *line == "end";
     let mut cases: Vec<&[&str]> = lines.split(ends).collect();
     assert_eq!(cases.pop(), Some(&[][..]), "the last line is `end`");
-    cases.into_iter().map(read_case).collect()
+    let indexed = lines.iter().any(|line| line.starts_with("index "));
+    let case = |lines| read_case(lines, indexed);
+    cases.into_iter().map(case).collect()
 }
 
 /// The lines of one case that begin with a word, without it.
@@ -100,6 +106,23 @@ impl<'a> Lines<'a> {
         refusal
     }
 
+    /// The graph, with the index that is written or that of the triples.
+    fn graph(&self, indexed: bool) -> Graph {
+        let nodes: Vec<NodeRecord> = self.records("node");
+        let triples: Vec<TripleRecord> = self.records("triple");
+        let index = if indexed {
+            self.records("index")
+        } else {
+            index(nodes.len(), &triples)
+        };
+        assert_eq!(index.len(), nodes.len(), "{}", self.lines[0]);
+        Graph {
+            nodes,
+            triples,
+            index,
+        }
+    }
+
     /// What `certain` prints, in a case that says so.
     fn certain(&self) -> Option<String> {
         let bytes = from_hex(self.all("certain").first()?);
@@ -107,12 +130,9 @@ impl<'a> Lines<'a> {
     }
 }
 
-fn read_case(lines: &[&str]) -> Written {
+fn read_case(lines: &[&str], indexed: bool) -> Written {
     let lines = Lines { lines };
-    let graph = Graph {
-        nodes: lines.records("node"),
-        triples: lines.records("triple"),
-    };
+    let graph = lines.graph(indexed);
     let counted = |counts: [u16; 2]| {
         let sizes = [graph.nodes.len(), graph.triples.len()];
         assert_eq!(counts.map(usize::from), sizes, "{}", lines.lines[0]);
@@ -139,6 +159,7 @@ fn read_case(lines: &[&str]) -> Written {
         query: from_hex(lines.one("query")),
         text: from_hex(lines.one("text")),
         answers,
+        indexed,
         certain: lines.certain(),
     }
 }
@@ -256,26 +277,34 @@ mod tests {
         let cases = compare("cases.txt");
         assert!(cases.len() > 500);
         assert!(cases.iter().all(|case| case.certain.is_none()));
+        assert!(cases.iter().all(|case| !case.indexed));
     }
 
-    /// The same, with what `certain` prints.
-    fn compare_printed(file: &str, count: usize) {
+    /// The same, with what `certain` prints, and from card 13 on with the
+    /// index.
+    fn compare_printed(file: &str, count: usize, indexed: bool) {
         let cases = compare(file);
         assert_eq!(cases.len(), count);
         for case in cases {
             let found = certain(&case.pack, less_line_feed(&case.query));
             assert_eq!(Some(found), case.certain, "{}", case.title);
+            assert_eq!(case.indexed, indexed, "{}", case.title);
         }
     }
 
     #[test]
     fn so_are_those_with_a_first_clash_and_what_certain_prints() {
-        compare_printed("card-08.txt", 300);
+        compare_printed("card-08.txt", 300, false);
     }
 
     #[test]
     fn so_are_those_with_twelve_types() {
-        compare_printed("card-14.txt", 320);
+        compare_printed("card-14.txt", 320, false);
+    }
+
+    #[test]
+    fn so_are_those_with_an_index() {
+        compare_printed("card-13.txt", 280, true);
     }
 
     #[test]
@@ -319,6 +348,39 @@ mod tests {
     /// A node of a kind, with a number, a type set and one argument.
     fn node(kind: u16, number: u16, types: u16, argument: u16) -> NodeRecord {
         [kind, number, types, argument, 5, 5, 5]
+    }
+
+    /// The index of a case with two nodes and a triple, which has these
+    /// index lines.
+    fn index_read(lines: &[&str], indexed: bool) -> Vec<[u16; 2]> {
+        let before = [
+            "case 0 small",
+            "pack -",
+            "query -",
+            "text -",
+            "build ok 2 1",
+            "node 0 0 0 0 5 5 5",
+            "node 1 0 0 5 5 5 5",
+            "triple 0 0 1",
+        ];
+        let behind = ["yesno refused 2", "pairs refused 2", "readback refused 13"];
+        let case = read_case(&[&before, lines, &behind].concat(), indexed);
+        case.answers.build.unwrap().index
+    }
+
+    #[test]
+    fn index_lines_are_read_as_they_stand() {
+        let right = ["index 0 1", "index 0 0"];
+        assert_eq!(index_read(&right, true), [[0, 1], [0, 0]]);
+        let wrong = ["index 0 2", "index 1 0"];
+        assert_eq!(index_read(&wrong, true), [[0, 2], [1, 0]]);
+        assert_eq!(index_read(&[], false), [[0, 1], [0, 0]]);
+    }
+
+    #[test]
+    #[should_panic(expected = "case 0 small")]
+    fn there_is_an_index_line_for_each_node() {
+        index_read(&["index 0 1"], true);
     }
 
     #[test]

@@ -1,7 +1,7 @@
 -- `alive::mark_alive` meets its contract. Assumes nothing.
 use borrow.Author.Needs.{needs}
 use native.Mathlib.Omega.{arith}
-use Rattle.alive.proofs.Linking.{chains-cause, heads-ready, link-ready, links-fit}
+use Rattle.alive.proofs.Linking.{heads-ready, link-ready, links-cause, links-fit, no-predicates}
 use Rattle.alive.proofs.mark_alive.Statement.{statement}
 use Rattle.alive.proofs.mark_alive.Tie as tie
 
@@ -14,22 +14,22 @@ mark-alive-spec =
     let entry = c .before .before .before .before .before .before .before .before .before .before in
     let h = entry .pre .0 .0 .query .few in
     (link-ready (entry .pre .0 .0), omega arith))  -- link-parts-requires
-    (λ c. search needs)  -- slice-aggregate-chain-by-object
-    (λ c. search needs)  -- mul-chain-by-object
-    (λ c. search needs)  -- slice-aggregate-chain-by-object-2
-    (λ c. search needs)  -- slice-aggregate-chain-by-object-3
+    (λ c. search needs)  -- slice-aggregate-list-by-object
+    (λ c. search needs)  -- mul-list-by-object
+    (λ c. search needs)  -- slice-aggregate-list-by-object-2
+    (λ c. search needs)  -- slice-aggregate-list-by-object-3
     (λ c κs.
     let at-link-parts = c .before .before .before .before .before in
     let entry = at-link-parts .before .before .before .before .before .before .before .before .before .before .before in
     let h = entry .pre .0 .0 .query .few in
-    (links-fit h (at-link-parts .link-parts .ensures), heads-ready h))  -- chain-by-object-requires
+    ((links-fit h (at-link-parts .link-parts .ensures), no-predicates h (at-link-parts .link-parts .ensures)), heads-ready h))  -- list-by-object-requires
     (λ c. search needs)  -- slice-aggregate-mark-all
     (λ c. search needs)  -- slice-aggregate-mark-all-2
     (λ c κs.
-    let at-chain-by-object = c .before .before .before .before .before .before .before in
-    let at-link-parts = at-chain-by-object .before .before .before .before .before .before in
+    let at-list-by-object = c .before .before .before .before .before .before .before in
+    let at-link-parts = at-list-by-object .before .before .before .before .before .before in
     let entry = at-link-parts .before .before .before .before .before .before .before .before .before .before .before in
-    ((entry .pre .0 .0, (entry .pre .0 .1, chains-cause (entry .pre .0 .0) (at-link-parts .link-parts .ensures) (at-chain-by-object .chain-by-object .ensures))), entry .pre .1))  -- mark-all-requires
+    ((entry .pre .0 .0, (entry .pre .0 .1, links-cause (entry .pre .0 .0) (at-link-parts .link-parts .ensures) (at-list-by-object .list-by-object .ensures))), entry .pre .1))  -- mark-all-requires
     (λ c. search needs)  -- same-length
     (λ c. search needs)  -- same-length-2
     (λ c. search needs)  -- same-length-3

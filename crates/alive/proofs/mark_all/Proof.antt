@@ -12,12 +12,12 @@ use Rattle.alive.proofs.mark_all.Statement.{statement}
 use Rattle.alive.proofs.mark_all.Tie as tie
 
 abbrev Inv-loop : tie.InvT-loop
-Inv-loop sizes triples earlier last tree next wanted heads rest alive₀ waiting₀ stack₀ top₀ alive waiting stack top =
+Inv-loop sizes triples starts into tree next wanted heads links alive₀ waiting₀ stack₀ top₀ alive waiting stack top =
     (length alive ≡ length alive₀) × (length waiting ≡ length waiting₀) × (length stack ≡ length stack₀)
     × Growing (lists sizes triples tree next wanted) (board alive waiting stack top)
 
 abbrev μ-loop : tie.MeasureT-loop
-μ-loop sizes triples earlier last tree next wanted heads rest alive₀ waiting₀ stack₀ top₀ alive waiting stack top = left stateWords (board alive waiting stack top)
+μ-loop sizes triples starts into tree next wanted heads links alive₀ waiting₀ stack₀ top₀ alive waiting stack top = left stateWords (board alive waiting stack top)
 
 pub mark-all-spec : {M : Type 1} → statement M
 mark-all-spec =
@@ -57,13 +57,16 @@ mark-all-spec =
     let entry = far .before .before .before .before in
     let k = at-take-word .take-word .ensures stateWords (at-loop .loop .inv .3 .marks .stacked) in (
       at-mark-back .mark-back .kept .1 .1 .1 .1 .1 .1 .1 .1 .1 .1 .1 .0 ∙ at-loop .loop .inv .0,
-      at-mark-back .mark-back .kept .1 .1 .1 .1 .1 .1 .1 .1 .1 .1 .1 .1 .0 ∙ at-take-word .take-word .kept .0 ∙ at-loop .loop .inv .1,
+      at-mark-back .mark-back .kept .1 .1 .1 .1 .1 .1 .1 .1 .1 .1 .1 .1 .0
+          ∙ at-take-word .take-word .kept .0 ∙ at-loop .loop .inv .1,
       at-mark-back .mark-back .kept .1 .1 .1 .1 .1 .1 .1 .1 .1 .1 .1 .1 .1 .0 ∙ at-loop .loop .inv .2,
       grow-again (entry .pre .0 .0) (at-loop .loop .inv .3) (k .1) (at-mark-back .mark-back .ensures),
     ))  -- loop-again
     (λ c. let at-mark-ends = c .before .before .before .before .before .before .before .before in c .before .loop .inv .0 ∙ at-mark-ends .mark-ends .kept .1 .1 .0)  -- same-length
     (λ c. let at-mark-ends = c .before .before .before .before .before .before .before .before in c .before .loop .inv .1 ∙ at-mark-ends .mark-ends .kept .1 .1 .1 .0)  -- same-length-2
-    (λ c. let at-mark-ends = c .before .before .before .before .before .before .before .before in c .before .loop .inv .2 ∙ at-mark-ends .mark-ends .kept .1 .1 .1 .1 .0)  -- same-length-3
+    (λ c.
+    let at-mark-ends = c .before .before .before .before .before .before .before .before in
+    c .before .loop .inv .2 ∙ at-mark-ends .mark-ends .kept .1 .1 .1 .1 .0)  -- same-length-3
     (λ c.
     let far = c .before .before .before .before .before .before .before .before .before .before .before .before .before .before .before .before .before .before .before in
     let entry = far .before .before .before .before in

@@ -9,18 +9,16 @@ pub some-joined-spec : {M : Type 1} → statement M
 some-joined-spec =
     tie.close
     (tie.spec
+    (λ c κs. let p = c .before .before .before .before .before .before .before .before .before .before .before .pre in ((p .fits .graph, p .predicates), p .lists))  -- list-by-object-requires
     (λ c κs.
-    let pre = c .before .before .before .before .before .before .before .before .before .before .before .pre in
-    (pre .fits .graph, pre .chains))  -- chain-by-object-requires
+    let at-list-by-object = c .before .before .before .before .before .before .before .before .before in
+    let entry = at-list-by-object .before .before .before .before .before .before .before .before .before .before .before .before in
+    ((entry .pre .fits, at-list-by-object .list-by-object .ensures), entry .pre .unmarked))  -- mark-alive-requires
     (λ c κs.
-    let at-chain-by-object = c .before .before .before .before .before .before .before .before .before in
-    let entry = at-chain-by-object .before .before .before .before .before .before .before .before .before .before .before .before in
-    ((entry .pre .fits, at-chain-by-object .chain-by-object .ensures), entry .pre .unmarked))  -- mark-alive-requires
-    (λ c κs.
-    let at-mark-alive = c .before .before .before .before .before .before .before in
-    let entry = at-mark-alive .before .before .before .before .before .before .before .before .before .before .before .before .before .before .before .before .before .before .before .before
-    .before .before in
-    ((entry .pre .fits .graph .few-nodes, (entry .pre .fits .query .some, entry .pre .fits .query .few)), at-mark-alive .mark-alive .ensures .0 .long))  -- some-alive-requires
+    let mark-alive = c .before .before .before .before .before .before .before .mark-alive in
+    let p = c .before .before .before .before .before .before .before .before .before .before .before .before .before .before .before .before .before .before .before .before .before .before
+    .before .before .before .before .before .before .before .pre in
+    ((p .fits .graph .few-nodes, (p .fits .query .some, p .fits .query .few)), mark-alive .ensures .0 .long))  -- some-alive-requires
     (λ c. search needs)  -- same-length
     (λ c. search needs)  -- same-length-2
     (λ c. search needs)  -- same-length-3

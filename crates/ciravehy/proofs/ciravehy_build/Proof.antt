@@ -12,13 +12,14 @@ ciravehy-build-spec =
     (tie.spec
     (λ c κs. search needs)  -- build-requires
     (λ c κs.
-    let build = c .before .before .before .before .before .before .before .before .before .build in
+    let build = c .before .before .before .before .before .before .before .before .before .before .before .build in
     let (n, t) = build-small (build .ensures) in
     (omega (arith, n, t), omega (arith, n, t), omega (arith, n, t)))  -- numbers-requires
     (λ c. search needs)  -- same-length
     (λ c. search needs)  -- same-length-2
     (λ c. search needs)  -- same-length-3
     (λ c. search needs)  -- same-length-4
+    (λ c. search needs)  -- same-length-5
     (λ c.
-    let a = c .before .before .before .before .before .before .before .before .before .before .build in
+    let a = c .before .before .before .before .before .before .before .before .before .before .before .before .build in
     record { answer = a .result; answers = a .ensures; refusal = refl; report = c .numbers .ensures }))  -- returns

@@ -13,7 +13,7 @@ ciravehy-pairs-spec =
     (λ c κs. search needs)  -- pairs-requires
     (λ c κs.
     let pairs = c .before .before .before .before .before .before .before .before .before .before .before .before .before .before .before .before .before .before .before .before .before
-    .before .before .before .pairs in
+    .before .before .before .before .before .before .before .pairs in
     let s = pairs-small (pairs .ensures) in
     (omega (arith, s .0, s .1, s .2), omega (arith, s .0, s .1, s .2), omega (arith, s .0, s .1, s .2)))  -- numbers-requires
     (λ c. search needs)  -- same-length
@@ -27,7 +27,9 @@ ciravehy-pairs-spec =
     (λ c. search needs)  -- same-length-9
     (λ c. search needs)  -- same-length-10
     (λ c. search needs)  -- same-length-11
+    (λ c. search needs)  -- same-length-12
+    (λ c. search needs)  -- same-length-13
     (λ c.
     let a = c .before .before .before .before .before .before .before .before .before .before .before .before .before .before .before .before .before .before .before .before .before .before
-    .before .before .before .pairs in
+    .before .before .before .before .before .before .before .pairs in
     record { answer = a .result; answers = a .ensures; refusal = refl; report = c .numbers .ensures }))  -- returns

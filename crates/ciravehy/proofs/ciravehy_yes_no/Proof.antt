@@ -14,7 +14,7 @@ ciravehy-yes-no-spec =
     (λ c κs. search needs)  -- yes-no-requires
     (λ c κs. search needs)  -- said-requires
     (λ c κs.
-    let yes-no = c .before .before .before .before .before .before .before .before .before .before .before .before .before .before .before .before .before .yes-no in
+    let yes-no = c .before .before .before .before .before .before .before .before .before .before .before .before .before .before .before .before .before .before .before .yes-no in
     let (n, t) = yes-no-small (yes-no .ensures) in
     (omega (arith, n, t), omega (arith, n, t), omega (arith, c .said .ensures .1)))  -- numbers-requires
     (λ c. search needs)  -- same-length
@@ -24,8 +24,9 @@ ciravehy-yes-no-spec =
     (λ c. search needs)  -- same-length-5
     (λ c. search needs)  -- same-length-6
     (λ c. search needs)  -- same-length-7
+    (λ c. search needs)  -- same-length-8
     (λ c.
-    let y = c .before .before .before .before .before .before .before .before .before .before .before .before .before .before .before .before .before .before .yes-no in
+    let y = c .before .before .before .before .before .before .before .before .before .before .before .before .before .before .before .before .before .before .before .before .yes-no in
     let g = y .result .graph in
     record {
       answer = y .result;

@@ -9,7 +9,7 @@ use Rattle.construct.proofs.construct.Tie as tie
 -- ---- places: the start, the check, past the first branch
 
 abbrev start : tie.After-check → tie.Start
-start c = c .before .before .before .before .before .before .before .before .before
+start c = c .before .before .before .before .before .before .before .before .before .before
 
 abbrev checked : tie.Else1 → tie.After-check
 checked c = c .before .before .before .before .before .before
@@ -26,13 +26,16 @@ construct-spec =
     (λ c κs. search needs)  -- refused-requires
     (λ c. search needs)  -- same-length
     (λ c. search needs)  -- same-length-2
-    (λ c. checked-answer (c .before .before .before .before .before .before .before .check .ensures) (c .before .if1 .taken) (c .refused .ensures) refl refl)  -- returns
-    (λ c κs. let e = c .before .before .before .before .before in let p = start (checked e) .pre in (is-resolved (accepted-at e), p .0, p .1, p .3))  -- from-rows-requires
+    (λ c.
+    let check = c .before .before .before .before .before .before .before .check in
+    checked-answer (check .ensures) (c .before .if1 .taken) (c .refused .ensures) (refl, (refl, (refl, tt))))  -- returns
+    (λ c κs. let e = c .before .before .before .before .before .before in let p = start (checked e) .pre in (is-resolved (accepted-at e), p .0, p .1, p .2, p .4))  -- from-rows-requires
     (λ c. search needs)  -- same-length-3
     (λ c. search needs)  -- same-length-4
     (λ c. search needs)  -- same-length-5
     (λ c. search needs)  -- same-length-6
     (λ c. search needs)  -- same-length-7
+    (λ c. search needs)  -- same-length-8
     (λ c.
-    let f = c .before .before .before .before .before .before in
-    rows-answer (accepted-at (f .before .before .before .before .before .before)) (f .from-rows .ensures)))  -- returns-2
+    let f = c .before .before .before .before .before .before .before .before in
+    rows-answer (accepted-at (f .before .before .before .before .before .before .before)) (f .from-rows .ensures)))  -- returns-2

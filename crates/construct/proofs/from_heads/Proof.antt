@@ -9,7 +9,7 @@ use Rattle.construct.proofs.from_heads.Tie as tie
 -- ---- places: the start, the tables, the core
 
 abbrev from-tables : tie.After-head-table → tie.Start
-from-tables c = c .before .before .before .before .before .before .before
+from-tables c = c .before .before .before .before .before .before .before .before
 
 abbrev from-core : tie.After-core → tie.After-head-table
 from-core c = c .before .before .before .before
@@ -26,8 +26,8 @@ pub from-heads-spec : {M : Type 1} → statement M
 from-heads-spec =
     tie.close
     (tie.spec
-    (λ c κs. setting-resolved (c .before .before .before .before .pre .0))  -- shape-table-requires
-    (λ c κs. setting-given (c .before .before .before .before .before .before .pre .0))  -- head-table-requires
+    (λ c κs. setting-resolved (c .before .before .before .before .before .pre .0))  -- shape-table-requires
+    (λ c κs. setting-given (c .before .before .before .before .before .before .before .pre .0))  -- head-table-requires
     (λ c. search needs)  -- slice-aggregate-core
     (λ c. search needs)  -- slice-aggregate-core-2
     (λ c. search needs)  -- slice-aggregate-core-3
@@ -46,13 +46,14 @@ from-heads-spec =
     (λ c. triples-taken (cored-at (c .before .before .before .before .before .before .before .before .before)) (c .before .before .before .before .n .given .1))  -- slice-aggregate-from-core-2
     (λ c. search needs)  -- slice-aggregate-from-core-3
     (λ c κs.
-    let at-arities = c .before .before .before .before .before in
+    let at-arities = c .before .before .before .before .before .before in
     let m = at-arities .before .before in
     let k = m .before .before .before .before .before in
     let p = from-tables (from-core k) .pre in
-    (core-given (cored-at k) (m .n .given .1) (at-arities .arities .ensures) (p .0), p .2, p .3))  -- from-core-requires
-    (λ c. large-answer (cored-at (c .before .before .before .before .before .before)) (c .before .enum-told .given .1) (c .refused .ensures) refl refl)  -- returns
+    (core-given (cored-at k) (m .n .given .1) (at-arities .arities .ensures) (p .0), p .2, p .3, p .4))  -- from-core-requires
+    (λ c. large-answer (cored-at (c .before .before .before .before .before .before)) (c .before .enum-told .given .1) (c .refused .ensures) (refl, (refl, (refl, tt))))  -- returns
     (λ c. search needs)  -- same-length
     (λ c. search needs)  -- same-length-2
-    (λ c. let f = c .before .before .before .before in let a = f .before .before .before .before .before .before in let m = a .before .before in  -- returns-2
+    (λ c. search needs)  -- same-length-3
+    (λ c. let f = c .before .before .before .before .before .before in let a = f .before .before .before .before .before .before .before in let m = a .before .before in  -- returns-2
     small-answer (cored-at (m .before .before .before .before .before)) (m .n .given .1) (a .arities .ensures) (f .from-core .ensures)))

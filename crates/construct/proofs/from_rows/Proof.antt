@@ -15,7 +15,7 @@ use Rattle.rule_heads.proofs.Flagged.{as-found, as-too-large}
 -- ---- places: the start, what was said of 8, the heads
 
 abbrev start : tie.After-is-broken → tie.Start
-start c = c .before .before .before .before .before .before
+start c = c .before .before .before .before .before .before .before
 
 abbrev from-all-heads : tie.After-all-heads → tie.After-is-broken
 from-all-heads c = c .before .before .before .before
@@ -35,17 +35,18 @@ from-rows-spec =
     (tie.spec
     (λ c κs. search needs)  -- is-broken-requires
     (λ c κs. search needs)  -- refused-requires
-    (λ c P g. dependency (sym (c .before .before .is-broken .ensures P g) ∙ c .before .if1 .taken) (c .refused .ensures) refl refl)  -- returns
+    (λ c P g. dependency (sym (c .before .before .is-broken .ensures P g) ∙ c .before .if1 .taken) (c .refused .ensures) (refl, (refl, (refl, tt))))  -- returns
     (λ c. search needs)  -- slice-aggregate-all-heads
     (λ c κs. search needs)  -- all-heads-requires
     (λ c κs. search needs)  -- refused-requires-2
     (λ c. search needs)  -- same-length
     (λ c P g. let h = c .before .before .before .before .before in  -- returns-2
-    kept (kept-at h g) (large (as-too-large _ _ (h .all-heads .ensures) g (c .before .if2 .taken)) (c .refused2 .ensures) refl refl))
-    (λ c κs. let e = c .before .before .before in let h = e .before .before .before .before in let p = start (from-all-heads h) .pre in  -- from-heads-requires
-    (record { pack = p .0 .pack; is = heads-at e (p .0 .is) }, omega (arith, h .all-heads .kept .1 .1 .1 .0, p .3), p .1, p .2))
+    kept (kept-at h g) (large (as-too-large _ _ (h .all-heads .ensures) g (c .before .if2 .taken)) (c .refused2 .ensures) (refl, (refl, (refl, tt)))))
+    (λ c κs. let e = c .before .before .before .before in let h = e .before .before .before .before in let p = start (from-all-heads h) .pre in  -- from-heads-requires
+    (record { pack = p .0 .pack; is = heads-at e (p .0 .is) }, omega (arith, h .all-heads .kept .1 .1 .1 .0, p .4), p .1, p .2, p .3))
     (λ c. search needs)  -- same-length-2
     (λ c. search needs)  -- same-length-3
     (λ c. search needs)  -- same-length-4
-    (λ c P g. let f = c .before .before .before .before in let e = f .before .before .before .before in  -- returns-3
+    (λ c. search needs)  -- same-length-5
+    (λ c P g. let f = c .before .before .before .before .before .before in let e = f .before .before .before .before .before in  -- returns-3
     kept (kept-at (e .before .before .before .before) g) (f .from-heads .ensures P (heads-at e g))))

@@ -3,22 +3,22 @@ use borrow.Author.Needs.{needs}
 use lib.ListN.{length}
 use mathlib.Core.Path.{_≡_, refl}
 use native.Mathlib.Omega.{arith}
+use Rattle.invent.specs.Invent.{OfTable}
 use Rattle.invent.proofs.Closing.{Closing, closing-again, closing-done, closing-start, following}
 use Rattle.invent.proofs.close.Statement.{statement}
 use Rattle.invent.proofs.close.Tie as tie
 use Rattle.meaning.specs.Limits.{setWords}
 use Rattle.meaning.specs.Pack.{Pack}
-use Rattle.shapes.specs.Shapes.{Tabled}
 use Rattle.worklist.proofs.Growth.{turn-left, turn-table}
 use Rattle.worklist.specs.Table.{Table, board, left}
 
 abbrev Inv-loop : tie.InvT-loop
-Inv-loop shapes flags₀ waiting₀ stack₀ top end₀ flags waiting stack end =
+Inv-loop demands flags₀ waiting₀ stack₀ top end₀ flags waiting stack end =
     (length flags ≡ length flags₀) × (length waiting ≡ length waiting₀) × (length stack ≡ length stack₀) × Table setWords (board flags waiting stack end)
-    × ((P : Pack) → Tabled (P .setting) shapes → Closing P flags₀ (board flags waiting stack end))
+    × ((P : Pack) → OfTable demands P → Closing P flags₀ (board flags waiting stack end))
 
 abbrev μ-loop : tie.MeasureT-loop
-μ-loop shapes flags₀ waiting₀ stack₀ top end₀ flags waiting stack end = left setWords (board flags waiting stack end)
+μ-loop demands flags₀ waiting₀ stack₀ top end₀ flags waiting stack end = left setWords (board flags waiting stack end)
 
 pub close-spec : {M : Type 1} → statement M
 close-spec =
@@ -32,9 +32,8 @@ close-spec =
     (λ c κs.
     let at-take = c .before .before .before .before .before .before in
     let at-loop = at-take .before .before .before .before in
-    let entry = at-loop .before .before .before .before in
     let t = at-loop .loop .inv .3 in
-    (turn-table t (at-take .take .ensures setWords (t .stacked)), entry .pre .2))  -- mark-all-requires
+    turn-table t (at-take .take .ensures setWords (t .stacked)))  -- mark-all-requires
     (λ c.
     let at-mark-all = c .before .before .before .before .before .before in
     let at-take = at-mark-all .before .before .before .before .before .before .before in

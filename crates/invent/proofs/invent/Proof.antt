@@ -11,19 +11,23 @@ pub invent-spec : {M : Type 1} → statement M
 invent-spec =
     tie.close
     (tie.spec
+    (λ c κs. search needs)  -- demand-table-requires
     (λ c. search needs)  -- slice-aggregate-seed
     (λ c. search needs)  -- slice-aggregate-seed-2
-    (λ c κs. let p = c .before .before .before .before .before .before .before .pre in (p .0, none-marked (p .1) refl refl, p .2))  -- seed-requires
+    (λ c κs. let p = c .before .before .before .before .before .before .before .before .before .pre in (p .0, none-marked (p .1) refl refl))  -- seed-requires
     (λ c. search needs)  -- slice-aggregate-close
     (λ c. search needs)  -- slice-aggregate-close-2
     (λ c κs.
-    let seed = c .before .before .before .before .before .before .before .seed in
-    let p = c .before .before .before .before .before .before .before .before .before .before .before .before .before .before .before .pre in
-    let m = seed .ensures in
-    (m .grows .after, all-wait (none-there (p .1)) (m .grows), p .2))  -- close-requires
+    let at-seed = c .before .before .before .before .before .before .before .before in
+    let p = at-seed .before .before .before .before .before .before .before .before .before .before .pre in
+    let m = at-seed .seed .ensures in
+    (m .grows .after, all-wait (none-there (p .1)) (m .grows)))  -- close-requires
     (λ c. search needs)  -- same-length
     (λ c.
     let at-close = c .before .before .before .before in
-    let at-seed = at-close .before .before .before .before .before .before .before .before in
-    let entry = at-seed .before .before .before .before .before .before .before .before in
-    λ P I. invented-sets I (marked-from (none-there (entry .pre .1)) (at-seed .seed .ensures .adds P (shaped I))) _ (at-close .close .ensures P (shaped I))))  -- returns
+    let at-seed = at-close .before .before .before .before .before .before .before .before .before in
+    let at-table = at-seed .before .before .before .before .before in
+    let entry = at-table .before .before .before .before .before in
+    λ P I.
+    let d = at-table .demand-table .ensures (P .setting) (shaped I) in
+    invented-sets I (marked-from (none-there (entry .pre .1)) (at-seed .seed .ensures .adds P d)) _ (at-close .close .ensures P d)))  -- returns

@@ -1,7 +1,9 @@
 -- `invent::mark_targets` meets its contract. Assumes nothing.
 use borrow.Author.Needs.{needs}
 use borrow.Author.Tests.{not-true, not-false}
+use mathlib.Core.Path.{sym, ap, _∙_}
 use native.Mathlib.Omega.{arith}
+use Rattle.invent.specs.Invent.{numberOf}
 use Rattle.invent.proofs.Marks.{marks-targets, not-required}
 use Rattle.invent.proofs.SetNumbers.{number-lt}
 use Rattle.invent.proofs.mark_targets.Statement.{statement}
@@ -13,13 +15,16 @@ mark-targets-spec =
     tie.close
     (tie.spec
     (λ c κs. search needs)  -- required-requires
-    (λ c. let r = c .before .required in not-required (c .before .before .before .before .before .pre .1) (r .result) (not-true (r .result) (c .if1 .taken)) (r .ensures))  -- returns
+    (λ c.
+    let pre = c .before .before .before .before .before .pre in
+    let r = c .before .required in
+    λ mask p. not-required (pre) (sym (r .ensures) ∙ not-true (r .result) (c .if1 .taken)))  -- returns
     (λ c κs. search needs)  -- targets-requires
     (λ c κs. search needs)  -- set-number-requires
     (λ c κs.
     let at-targets = c .before .before .before .before in
     let entry = at-targets .before .before .before .before .before .before in
-    (setWords, omega (arith, c .before .before .before .set-number .ensures, number-lt (at-targets .targets .result) (omega arith)), entry .pre .1))  -- mark-requires
+    (setWords, omega (arith, c .before .before .before .set-number .ensures, number-lt (at-targets .targets .result) (omega arith)), entry .pre))  -- mark-requires
     (λ c. search needs)  -- same-length
     (λ c. search needs)  -- same-length-2
     (λ c. search needs)  -- same-length-3
@@ -31,5 +36,5 @@ mark-targets-spec =
     let t = c .before .before .before .before .before .before .before .before .before .before .before .targets in
     let r = c .before .before .before .before .before .before .before .before .before .before .before .before .before .required in
     let small = number-lt (t .result) (omega arith) in
-    marks-targets (omega arith) (t .ensures) (r .result) (not-false (r .result) (at-if1 .if1 .left)) (r .ensures) (n .ensures)
-    (at-mark .mark .ensures setWords (omega (arith, n .ensures, small)) (entry .pre .1))))  -- returns-2
+    λ mask p. marks-targets (sym (r .ensures) ∙ not-false (r .result) (at-if1 .if1 .left)) (n .ensures ∙ ap numberOf (t .ensures))
+    (at-mark .mark .ensures setWords (omega (arith, n .ensures, small)) (entry .pre))))  -- returns-2

@@ -5,7 +5,7 @@ use mathlib.Core.Path.{_≡_}
 use native.Mathlib.Omega.{arith}
 use Prim.Native.Nat.{_-_, _≤_}
 use Rattle.core.specs.Keys.{originAt}
-use Rattle.invent.specs.Invent.{Marks, NodeLacks, Upto}
+use Rattle.invent.specs.Invent.{Marks, NodeLacks, OfTable, Upto}
 use Rattle.invent.proofs.Marks.{upto-again, upto-start}
 use Rattle.core_lists.proofs.Origin.{next-subject, no-subject}
 use Rattle.core_lists.specs.Origin.{keysBefore}
@@ -14,13 +14,13 @@ use Rattle.invent.proofs.seed.Tie as tie
 use Rattle.worklist.specs.Table.{board}
 
 abbrev Inv-loop : tie.InvT-loop
-Inv-loop shapes nodes triples masks flags₀ waiting₀ stack₀ next₀ s₀ s-end flags waiting stack next s =
+Inv-loop demands nodes triples masks flags₀ waiting₀ stack₀ next₀ s₀ s-end flags waiting stack next s =
     (s-end ≡ length nodes) × (s ≤ length nodes) × (length flags ≡ length flags₀) × (length waiting ≡ length waiting₀) × (length stack ≡ length stack₀)
     × (next .at ≡ keysBefore (originAt s 0) triples)
-    × Marks shapes (λ P. Upto (λ i. NodeLacks triples i (getD masks i 0) P) s) (board flags₀ waiting₀ stack₀ 0) (board flags waiting stack (next .top))
+    × Marks (OfTable demands) (λ P. Upto (λ i. NodeLacks triples i (getD masks i 0) P) s) (board flags₀ waiting₀ stack₀ 0) (board flags waiting stack (next .top))
 
 abbrev μ-loop : tie.MeasureT-loop
-μ-loop shapes nodes triples masks flags₀ waiting₀ stack₀ next₀ s₀ s-end flags waiting stack next s = s-end - s
+μ-loop demands nodes triples masks flags₀ waiting₀ stack₀ next₀ s₀ s-end flags waiting stack next s = s-end - s
 
 pub seed-spec : {M : Type 1} → statement M
 seed-spec =
@@ -34,7 +34,7 @@ seed-spec =
     (λ c κs.
     let p = c .before .before .before .before .before .before .before .before .before .before .before .before .pre in
     let l = c .before .before .before .before .before .loop in
-    (p .0 .triples-ascend, omega (arith, p .0 .few), l .inv .5, l .inv .6 .grows .after, p .2))  -- seed-node-requires
+    (p .0 .triples-ascend, omega (arith, p .0 .few), l .inv .5, l .inv .6 .grows .after))  -- seed-node-requires
     (λ c. search needs)  -- add-s
     (λ c. search needs)  -- loop-less
     (λ c.

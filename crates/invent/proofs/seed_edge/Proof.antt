@@ -16,8 +16,10 @@ seed-edge-spec =
     (λ c.
     let s = c .before .before .before .before .before .before in
     let m = c .before .after in
-    let a = s .args in
-    (edge-there (s .pre .4) (origin-some (a .triples .now) (originAt (a .subject) (a .p)) (a .from .at) (m .result) (s .pre .3) (m .ensures) (c .if1 .taken)), m .ensures))  -- returns
+    let a = s .args in (
+      λ mask. edge-there (s .pre .4) (origin-some (a .triples .now) (originAt (a .subject) (a .p)) (a .from .at) (m .result) (s .pre .3) (m .ensures) (c .if1 .taken)),
+      m .ensures,
+    ))  -- returns
     (λ c κs. search needs)  -- mark-targets-requires
     (λ c. search needs)  -- same-length
     (λ c. search needs)  -- same-length-2
@@ -28,7 +30,7 @@ seed-edge-spec =
     let s = at-if1 .before .before .before .before .before .before in
     let m = c .before .before .before .before .before .before .before .before .before .before .before .after in
     let a = s .args in (
-      edge-missing (origin-none (a .triples .now) (originAt (a .subject) (a .p)) (a .from .at) (m .result) (s .pre .3) (m .ensures) (at-if1 .if1 .left))
-          (at-mark-targets .mark-targets .ensures),
+      λ mask. edge-missing (origin-none (a .triples .now) (originAt (a .subject) (a .p)) (a .from .at) (m .result) (s .pre .3) (m .ensures) (at-if1 .if1 .left))
+          (at-mark-targets .mark-targets .ensures mask (a .p)),
       m .ensures,
     )))  -- returns-2

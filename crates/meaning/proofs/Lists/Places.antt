@@ -24,6 +24,13 @@ module _ {A : Type 0} where
   there-is (x ∷ xs) zero h = (x, refl)
   there-is (x ∷ xs) (suc i) h = there-is xs i (le-of-suc-le-suc h)
 
+  -- lists that hold the same at each place
+  pub same-places : (xs ys : List A) → length xs ≡ length ys → ((i : ℕ) (x y : A) → getElem? xs i ≡ some x → getElem? ys i ≡ some y → x ≡ y) → xs ≡ ys
+  same-places [] [] l h = refl
+  same-places [] (y ∷ ys) l h = absurd (omega arith)
+  same-places (x ∷ xs) [] l h = absurd (omega arith)
+  same-places (x ∷ xs) (y ∷ ys) l h = λ j. h 0 x y refl refl j ∷ same-places xs ys (omega arith) (λ i. h (suc i)) j
+
   pub entry-is : (xs : List A) (i : ℕ) (x d : A) → getElem? xs i ≡ some x → getD xs i d ≡ x
   entry-is [] i x d e = absurd (Option·none-ne-some x e)
   entry-is (y ∷ ys) zero x d e = Option·some-injective y x e

@@ -5,7 +5,7 @@ use mathlib.Core.Path.{_≡_}
 use native.Mathlib.Omega.{arith}
 use Prim.Native.Nat.{_+_, _*_, _-_, _≤_}
 use Rattle.core.specs.Keys.{originAt}
-use Rattle.invent.specs.Invent.{Upto}
+use Rattle.invent.specs.Invent.{OfTable, Upto}
 use Rattle.triple_list.specs.Triples.{RecordsListed, SubjectEdge}
 use Rattle.triple_list.proofs.EdgeLaws.{by-subject, iri-end, iri-room}
 use Rattle.triple_list.proofs.ListedLaws.{listed-again, listed-start}
@@ -18,12 +18,12 @@ use Rattle.sets.proofs.Rank.{rank-le}
 use Rattle.sets.specs.Ordered.{rankOf}
 
 abbrev Inv-loop : tie.InvT-loop
-Inv-loop shapes nodes triples masks places out₀ iris next₀ s₀ out next s =
+Inv-loop demands nodes triples masks places out₀ iris next₀ s₀ out next s =
     (s ≤ iris) × (iris ≡ rankOf firstLiteral nodes) × (length out ≡ length out₀) × (next .triple ≤ s * maxPredicates + next .at) × (next .at ≡ keysBefore (originAt s 0) triples)
-    × RecordsListed shapes (λ P. Upto (λ t. SubjectEdge P triples places t (getD masks t 0)) s) 0 out₀ out (next .triple)
+    × RecordsListed (OfTable demands) (λ P. Upto (λ t. SubjectEdge P triples places t (getD masks t 0)) s) 0 out₀ out (next .triple)
 
 abbrev μ-loop : tie.MeasureT-loop
-μ-loop shapes nodes triples masks places out₀ iris next₀ s₀ out next s = iris - s
+μ-loop demands nodes triples masks places out₀ iris next₀ s₀ out next s = iris - s
 
 pub list-iris-spec : {M : Type 1} → statement M
 list-iris-spec =
@@ -52,7 +52,6 @@ list-iris-spec =
       l .inv .4,
       iri-room (a .triples .now) (s .pre .0 .short) (l .s) (l .next .triple) (l .next .at) (l .inv .3) (omega (arith, s .pre .0 .iris, l .inv .1)),
       omega (arith, s .pre .2, l .inv .2),
-      s .pre .3,
     ))
     (λ c. search needs)  -- add-s
     (λ c. search needs)  -- loop-less

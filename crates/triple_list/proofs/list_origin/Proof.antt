@@ -1,6 +1,7 @@
 -- `triple_list::list_origin` meets its contract. Assumes nothing.
 use borrow.Author.Needs.{needs}
 use borrow.Author.Tests.{not-true, not-false}
+use mathlib.Core.Path.{sym, _∙_}
 use native.Mathlib.Omega.{arith}
 use Rattle.core.specs.Keys.{originAt}
 use Rattle.triple_list.proofs.EdgeLaws.{origin-free, origin-gets, origin-present}
@@ -21,7 +22,7 @@ list-origin-spec =
     (λ c.
     let s = c .before .before .before .before .before .before .before .before in
     let a = s .args in
-    origin-present (a .shapes .now) (a .triples .now) (a .places .now) (s .pre .0) (a .subject) (a .mask) (a .p) (a .next .at) (a .next .triple) (s .pre .4) (a .out .now) _ _
+    origin-present (a .demand) (a .triples .now) (a .places .now) (s .pre .0) (a .subject) (a .p) (a .next .at) (a .next .triple) (s .pre .4) (a .out .now) _ _
     (c .before .before .before .list-edges .ensures) (c .if1 .taken))  -- returns
     (λ c κs. search needs)  -- required-requires
     (λ c. search needs)  -- same-length-2
@@ -30,8 +31,8 @@ list-origin-spec =
     let s = at-list-edges .before .before .before .before .before in
     let q = c .before .required in
     let a = s .args in
-    origin-free (a .shapes .now) (a .triples .now) (a .places .now) (s .pre .0) (a .subject) (a .mask) (a .p) (a .next .at) (a .next .triple) (s .pre .4) (a .out .now) _ _
-    (at-list-edges .list-edges .ensures) (c .before .before .if1 .left) (q .result) (not-true (q .result) (c .if2 .taken)) (q .ensures))  -- returns-2
+    origin-free (a .demand) (a .triples .now) (a .places .now) (s .pre .0) (a .subject) (a .p) (a .next .at) (a .next .triple) (s .pre .4) (a .out .now) _ _
+    (at-list-edges .list-edges .ensures) (c .before .before .if1 .left) (sym (q .ensures) ∙ not-true (q .result) (c .if2 .taken)))  -- returns-2
     (λ c κs. search needs)  -- targets-requires
     (λ c. search needs)  -- cast-types
     (λ c. search needs)  -- cast-write-triple
@@ -53,6 +54,6 @@ list-origin-spec =
     let q = c .before .before .before .before .before .before .before .required in
     let t = c .before .before .before .before .before .targets in
     let a = s .args in
-    origin-gets (a .shapes .now) (a .triples .now) (a .places .now) (s .pre .0) (a .subject) (a .mask) (a .p) (a .next .at) (a .next .triple) (s .pre .4) (a .out .now) _ _
-    (at-list-edges .list-edges .ensures) (at-if1 .if1 .left) (q .result) (not-false (q .result) (at-if2 .if2 .left)) (q .ensures) (t .result) (omega arith) (t .ensures) _
+    origin-gets (a .demand) (a .triples .now) (a .places .now) (s .pre .0) (a .subject) (a .p) (a .next .at) (a .next .triple) (s .pre .4) (a .out .now) _ _
+    (at-list-edges .list-edges .ensures) (at-if1 .if1 .left) (sym (q .ensures) ∙ not-false (q .result) (at-if2 .if2 .left)) (t .result) (t .ensures) _
     (c .before .before .write-triple .ensures)))  -- returns-3

@@ -22,7 +22,6 @@ list-set-edges-spec =
       none-of (a .triples .now) (a .node) (s .pre .1),
       omega (arith, s .pre .4, keys-le (originAt (a .node) maxPredicates) (a .triples .now)),
       s .pre .5,
-      s .pre .6,
     ))  -- list-subject-requires
     (λ c. search needs)  -- same-length
     (λ c.

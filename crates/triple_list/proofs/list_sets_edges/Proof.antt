@@ -4,7 +4,7 @@ use lib.ListN.{length}
 use mathlib.Core.Path.{_≡_}
 use native.Mathlib.Omega.{arith}
 use Prim.Native.Nat.{_+_, _*_, _-_, _≤_}
-use Rattle.invent.specs.Invent.{Upto}
+use Rattle.invent.specs.Invent.{OfTable, Upto}
 use Rattle.node_list.proofs.SetList.{few-sets}
 use Rattle.triple_list.specs.Triples.{RecordsListed, SetEdge}
 use Rattle.triple_list.proofs.EdgeLaws.{by-set, lastBefore, set-after, set-room, sets-end}
@@ -14,12 +14,12 @@ use Rattle.meaning.specs.Limits.{maxPredicates}
 use Rattle.triple_list.proofs.list_sets_edges.Tie as tie
 
 abbrev Inv-loop : tie.InvT-loop
-Inv-loop shapes triples sets places node first out₀ next₀ i₀ i-end out next i =
+Inv-loop demands triples sets places node first out₀ next₀ i₀ i-end out next i =
     (i-end ≡ length sets) × (i ≤ length sets) × (length out ≡ length out₀) × (next ≤ first + lastBefore sets i * maxPredicates)
-    × RecordsListed shapes (λ P. Upto (SetEdge triples sets places node P) i) first out₀ out next
+    × RecordsListed (OfTable demands) (λ P. Upto (SetEdge triples sets places node P) i) first out₀ out next
 
 abbrev μ-loop : tie.MeasureT-loop
-μ-loop shapes triples sets places node first out₀ next₀ i₀ i-end out next i = i-end - i
+μ-loop demands triples sets places node first out₀ next₀ i₀ i-end out next i = i-end - i
 
 pub list-sets-edges-spec : {M : Type 1} → statement M
 list-sets-edges-spec =
@@ -43,7 +43,6 @@ list-sets-edges-spec =
       omega (arith, few-sets (s .pre .2), s .pre .4),
       omega (arith, set-room (s .pre .2) (l .i) (l .next) (a .first) (omega arith) (l .inv .3), s .pre .5),
       omega (arith, s .pre .6, l .inv .2),
-      s .pre .7,
     ))  -- list-set-edges-requires
     (λ c. search needs)  -- add-i
     (λ c. search needs)  -- loop-less

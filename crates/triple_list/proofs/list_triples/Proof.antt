@@ -10,15 +10,18 @@ pub list-triples-spec : {M : Type 1} → statement M
 list-triples-spec =
     tie.close
     (tie.spec
+    (λ c κs. search needs)  -- demand-table-requires
     (λ c κs. search needs)  -- list-iris-requires
     (λ c κs.
-    let p = c .before .before .before .before .before .before .before .before .before .before .before .pre in
-    (p .0 .triples-ascend, p .0 .subject, p .1, p .3, p .0 .few, c .before .before .before .list-iris .ensures .1, search needs, p .5))  -- list-sets-edges-requires
+    let at-list-iris = c .before .before .before .before in
+    let p = at-list-iris .before .before .before .before .before .before .before .before .before .before .pre in
+    (p .0 .triples-ascend, p .0 .subject, p .1, p .3, p .0 .few, at-list-iris .list-iris .ensures .1, search needs))  -- list-sets-edges-requires
     (λ c. search needs)  -- same-length
     (λ c.
-    let at-list-iris = c .before .before .before .before .before .before in
-    let s = at-list-iris .before .before .before .before .before .before .before .before in
+    let at-list-iris = c .before .before .before .before .before .before .before in
+    let at-table = at-list-iris .before .before .before in
+    let s = at-table .before .before .before .before .before .before .before in
     let m = at-list-iris .list-iris .ensures in
     let n = c .before .before .list-sets-edges .ensures in
-    λ P I listed clean bs ordered. triples-listed I listed clean bs ordered (s .args .places .now) (s .pre .2) (shaped I) (m .0) (n .0) (omega (arith, m .1, s .pre .4))
-    (n .1)))  -- returns
+    λ P I listed clean bs ordered. triples-listed I listed clean bs ordered (s .args .places .now) (s .pre .2) (at-table .demand-table .ensures (P .setting) (shaped I)) (m .0)
+    (n .0) (omega (arith, m .1, s .pre .4)) (n .1)))  -- returns

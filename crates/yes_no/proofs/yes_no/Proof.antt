@@ -20,11 +20,11 @@ yes-no-spec =
     (λ c.
     let t = c .before .before .long-enough in
     refused-1 tt (t .result) (t .ensures) (c .before .if1 .taken) (ap {B = YesNo} (λ g. record { graph = g; yes = false }) (c .refused .ensures))
-    (refl, (refl, (refl, (refl, (refl, (refl, (refl, tt))))))))  -- returns
+    (refl, (refl, (refl, (refl, (refl, (refl, (refl, (refl, tt)))))))))  -- returns
     (λ c κs.
-    let if1 = c .before .before .before .before .before .before .before .if1 in
-    let t = c .before .before .before .before .before .before .before .before .long-enough in
-    passed (t .result) (t .ensures) (if1 .left))  -- answer-requires
+    let at-if1 = c .before .before .before .before .before .before .before .before in
+    let at-long-enough = at-if1 .before in
+    passed (at-long-enough .long-enough .result) (at-long-enough .long-enough .ensures) (at-if1 .if1 .left))  -- answer-requires
     (λ c κs. search needs)  -- clear-u16-requires
     (λ c κs. search needs)  -- clear-u64-requires
     (λ c κs. search needs)  -- clear-u64-requires-2
@@ -37,26 +37,28 @@ yes-no-spec =
     (λ c. search needs)  -- same-length-5
     (λ c. search needs)  -- same-length-6
     (λ c. search needs)  -- same-length-7
+    (λ c. search needs)  -- same-length-8
     (λ c.
     let at-clear-u643 = c .before .before .before .before .before .before in
     let at-clear-u642 = at-clear-u643 .before .before .before .before in
     let at-clear-u64 = at-clear-u642 .before .before .before .before in
     let at-clear-u16 = at-clear-u64 .before .before .before .before in
     let at-if1 = at-clear-u16 .before .before .before .before .before .before .before .before .before .before .before .before .before .before .before .before .before .before .before .before
-    .before .before .before .before in
+    .before .before .before .before .before .before .before in
     let t = c .before .before .before .before .before .before .before .before .before .before .before .before .before .before .before .before .before .before .before .before .before .before
-    .before .before .before .before .before .before .before .before .before .before .before .before .before .before .before .before .before .before .before .before .before .long-enough in
+    .before .before .before .before .before .before .before .before .before .before .before .before .before .before .before .before .before .before .before .before .before .before .before
+    .before .long-enough in
     let q = c .before .before .before .before .before .before .before .before .before .before .before .before .before .before .before .before .before .before .before .before .before .before
-    .before .before .before .before .before .before .before .before .before .before .before .before .answer in
+    .before .before .before .before .before .before .before .before .before .before .before .before .before .before .answer in
     ran tt (t .result) (t .ensures) (at-if1 .if1 .left) (q .ensures) (
-      at-clear-u16 .clear-u16 .ensures ∙ ap zeros (q .kept .1 .1 .1 .1 .0),
+      at-clear-u16 .clear-u16 .ensures ∙ ap zeros (q .kept .1 .1 .1 .1 .1 .0),
       (
-        at-clear-u64 .clear-u64 .ensures ∙ ap zeros (q .kept .1 .1 .1 .1 .1 .0),
+        at-clear-u64 .clear-u64 .ensures ∙ ap zeros (q .kept .1 .1 .1 .1 .1 .1 .0),
         (
-          at-clear-u642 .clear-u642 .ensures ∙ ap zeros (q .kept .1 .1 .1 .1 .1 .1 .0),
+          at-clear-u642 .clear-u642 .ensures ∙ ap zeros (q .kept .1 .1 .1 .1 .1 .1 .1 .0),
           (
-            at-clear-u643 .clear-u643 .ensures ∙ ap zeros (q .kept .1 .1 .1 .1 .1 .1 .1 .0),
-            (c .before .before .clear-u162 .ensures ∙ ap zeros (q .kept .1 .1 .1 .1 .1 .1 .1 .1 .0), tt),
+            at-clear-u643 .clear-u643 .ensures ∙ ap zeros (q .kept .1 .1 .1 .1 .1 .1 .1 .1 .0),
+            (c .before .before .clear-u162 .ensures ∙ ap zeros (q .kept .1 .1 .1 .1 .1 .1 .1 .1 .1 .0), tt),
           ),
         ),
       ),

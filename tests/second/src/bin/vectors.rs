@@ -64,7 +64,9 @@ fn main() -> ExitCode {
 
 fn compare_file(path: &Path, tally: &mut Tally) {
     let cases = read_file(path);
-    println!("{}: {} cases", path.display(), cases.len());
+    let indexed = cases.iter().any(|case| case.indexed);
+    let index = if indexed { ", with the index" } else { "" };
+    println!("{}: {} cases{index}", path.display(), cases.len());
     for case in cases {
         let found = answers(&case.pack, &case.query, &case.text);
         let expected = case.answers;

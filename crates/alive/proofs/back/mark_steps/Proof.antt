@@ -1,13 +1,11 @@
 -- `alive::back::mark_steps` meets its contract. Assumes nothing.
 use borrow.Author.Needs.{needs}
 use lib.Count.{ones, trailing-le}
-use lib.ListN.{getD, length}
-use mathlib.Core.List.{List}
+use lib.ListN.{length}
 use mathlib.Core.Path.{refl, _∙_, _≡_}
 use mir.Facts.{fits-widen}
 use native.Mathlib.Omega.{arith}
-use Prim.Native.Nat.{ℕ}
-use Rattle.alive.specs.Steps.{FromWord, SubjectOn}
+use Rattle.alive.specs.Steps.{FromWord, SubjectTo}
 use Rattle.meaning.proofs.Lists.Lowest.{ones-cleared}
 use Rattle.meaning.specs.Limits.{stateWords}
 use Rattle.worklist.proofs.Growth.{Sweeping, next-in, sweep-done, sweep-start}
@@ -16,17 +14,14 @@ use Rattle.alive.proofs.Backward.{each-again}
 use Rattle.alive.proofs.back.mark_steps.Statement.{statement}
 use Rattle.alive.proofs.back.mark_steps.Tie as tie
 
-abbrev Steps : (triples earlier last : List ℕ) (kind want i : ℕ) → ℕ → ℕ → Type 0
-Steps triples earlier last kind want i m = SubjectOn triples earlier (getD last m 0) kind want i
-
 abbrev Inv-loop : tie.InvT-loop
-Inv-loop triples earlier last kind want i block bits alive₀ waiting₀ stack₀ top end₀ left₀ alive waiting stack end left =
+Inv-loop starts into kind want i block bits alive₀ waiting₀ stack₀ top end₀ left₀ alive waiting stack end left =
     (length alive ≡ length alive₀) × (length waiting ≡ length waiting₀) × (length stack ≡ length stack₀)
-    × Sweeping stateWords (FromWord block bits (Steps triples earlier last kind want i)) (Steps triples earlier last kind want i) block bits (board alive₀ waiting₀ stack₀ top)
+    × Sweeping stateWords (FromWord block bits (SubjectTo starts into kind want i)) (SubjectTo starts into kind want i) block bits (board alive₀ waiting₀ stack₀ top)
     (board alive waiting stack end) left
 
 abbrev μ-loop : tie.MeasureT-loop
-μ-loop triples earlier last kind want i block bits alive₀ waiting₀ stack₀ top end₀ left₀ alive waiting stack end left = ones left
+μ-loop starts into kind want i block bits alive₀ waiting₀ stack₀ top end₀ left₀ alive waiting stack end left = ones left
 
 pub mark-steps-spec : {M : Type 1} → statement M
 mark-steps-spec =
@@ -34,31 +29,39 @@ mark-steps-spec =
     (tie.spec
     Inv-loop
     μ-loop
-    (λ c. let entry = c .before .before .before .before .before .before in (refl, refl, refl, sweep-start (entry .pre .1 .1)))  -- loop-holds
+    (λ c. (refl, refl, refl, sweep-start (c .before .before .before .before .before .pre .1 .1)))  -- loop-holds
     (λ c. search needs)  -- mul-m
     (λ c. omega (arith, trailing-le 64 (c .before .loop .left)))  -- cast-m
     (λ c. omega (arith, trailing-le 64 (c .before .loop .left)))  -- add-m
     (λ c. search needs)  -- sub-left
     (λ c. omega (arith, trailing-le 64 (c .before .loop .left)))  -- mul-mark-subjects
     (λ c.
-    let entry = c .before .before .before .before .before .before .before .before .before in
-    entry .pre .0 .heads _ (next-in (c .before .before .loop .inv .3) (omega arith) (entry .fits .bits .fits)))  -- shared-slice-read-mark-subjects
-    (λ c. fits-widen tt (c .shared-slice-known4 .given _))  -- cast-mark-subjects
-    (λ c κs.
-    let at-loop = c .before .before .before .before .before in
-    let entry = at-loop .before .before .before .before .before .before .before in
-    (entry .pre .0 .chain _ (next-in (at-loop .loop .inv .3) (omega arith) (entry .fits .bits .fits)), (entry .pre .1 .0 .0, at-loop .loop .inv .3 .adds .after)))  -- mark-subjects-requires
+    let l = c .before .before .before .before .before .before .before .before .pre .0 .long _
+    (next-in (c .before .before .loop .inv .3) (omega arith) (c .before .before .before .before .before .before .before .before .fits .bits .fits)) in
+    omega arith)  -- shared-slice-read-mark-subjects
+    (λ c. fits-widen tt (c .shared-slice-known3 .given _))  -- cast-mark-subjects
+    (λ c. omega (arith, trailing-le 64 (c .before .before .loop .left)))  -- add-mark-subjects
+    (λ c. omega (arith, trailing-le 64 (c .before .before .loop .left)))  -- mul-mark-subjects-2
     (λ c.
-    let at-loop = c .before .before .before .before .before .before .before .before .before .before .before .before in
-    omega (arith, ones-cleared (at-loop .loop .left) (omega arith)))  -- loop-less
+    let entry = c .before .before .before .before .before .before .before .before .before in
+    entry .pre .0 .long _ (next-in (c .before .before .before .loop .inv .3) (omega arith) (entry .fits .bits .fits)))  -- shared-slice-read-mark-subjects-2
+    (λ c. fits-widen tt (c .shared-slice-known4 .given _))  -- cast-mark-subjects-2
+    (λ c κs.
+    let at-loop = c .before .before .before .before .before .before in
+    let entry = at-loop .before .before .before .before .before .before in
+    (entry .pre .0 .range _ (next-in (at-loop .loop .inv .3) (omega arith) (entry .fits .bits .fits)), (entry .pre .1 .0 .0, at-loop .loop .inv .3 .adds .after)))  -- mark-subjects-requires
+    (λ c.
+    let loop = c .before .before .before .before .before .before .before .before .before .before .before .before .before .loop in
+    omega (arith, ones-cleared (loop .left) (omega arith)))  -- loop-less
     (λ c.
     let at-mark-subjects = c .before .before .before .before .before .before in
-    let at-loop = at-mark-subjects .before .before .before .before .before .before in
-    let entry = at-loop .before .before .before .before .before .before .before in (
+    let at-loop = at-mark-subjects .before .before .before .before .before .before .before in
+    let at-fits = at-loop .before .before .before .before .before .before in (
       at-mark-subjects .mark-subjects .kept .1 .1 .1 .1 .1 .1 .0 ∙ at-loop .loop .inv .0,
-      at-mark-subjects .mark-subjects .kept .1 .1 .1 .1 .1 .1 .1 .0 ∙ at-loop .loop .inv .1,
+      at-mark-subjects .mark-subjects .kept .1 .1 .1 .1 .1 .1 .1 .0
+          ∙ at-loop .loop .inv .1,
       at-mark-subjects .mark-subjects .kept .1 .1 .1 .1 .1 .1 .1 .1 .0 ∙ at-loop .loop .inv .2,
-      each-again (at-loop .loop .inv .3) (omega arith) (entry .fits .bits .fits) (at-mark-subjects .mark-subjects .ensures),
+      each-again (at-loop .loop .inv .3) (omega arith) (at-fits .fits .bits .fits) (at-mark-subjects .mark-subjects .ensures),
     ))  -- loop-again
     (λ c. c .before .loop .inv .0)  -- same-length
     (λ c. c .before .loop .inv .1)  -- same-length-2

@@ -2,7 +2,8 @@
 use borrow.Author.Needs.{needs}
 use native.Mathlib.Omega.{arith}
 use Rattle.evaluate.proofs.CertainAnswers.{lists-fit, yes-answer}
-use Rattle.evaluate.proofs.Readied.{chain-ready, parts-few, threadable}
+use Rattle.evaluate.proofs.HeldGraph.{predicates-below}
+use Rattle.evaluate.proofs.Readied.{list-ready, parts-few, threadable}
 use Rattle.evaluate.proofs.yes.yes.Statement.{statement}
 use Rattle.evaluate.proofs.yes.yes.Tie as tie
 
@@ -22,12 +23,17 @@ yes-spec =
     (λ c. search needs)  -- slice-aggregate-some-joined
     (λ c. search needs)  -- slice-aggregate-some-joined-2
     (λ c. search needs)  -- slice-aggregate-some-joined-3
-    (λ c κs.  -- some-joined-requires
+    (λ c κs.
     let t = linked c .thread in
     let p = start (linked c .before) .pre in
     let r = p .0 .ready in
     let few = parts-few r in
-    record { fits = lists-fit r (t .last .1 .1 .0) (t .ensures) (omega (arith, t .kept .1 .1 .0)); chains = chain-ready r; unmarked = p .1 })
+    record {
+      fits = lists-fit r (t .last .1 .1 .0) (t .ensures) (omega (arith, t .kept .1 .1 .0));
+      predicates = predicates-below (r .graph .graph);
+      lists = list-ready r;
+      unmarked = p .1;
+    })  -- some-joined-requires
     (λ c. search needs)  -- same-length
     (λ c. search needs)  -- same-length-2
     (λ c. search needs)  -- same-length-3

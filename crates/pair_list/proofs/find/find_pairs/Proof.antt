@@ -16,10 +16,12 @@ find-pairs-spec =
     let at-clear-u643 = c .before .before .before .before .before .before .before in
     let at-clear-u642 = at-clear-u643 .before .before .before .before in
     let at-clear-u64 = at-clear-u642 .before .before .before .before in
-    let entry = at-clear-u64 .before .before .before .before .before .before .before .before .before .before .before in
-    let (ready, (alive, waiting, stack, seen), room) = entry .pre in (
+    let entry = at-clear-u64 .before .before .before .before .before .before .before .before .before .before .before .before in
+    let (ready, indexed, (alive, waiting, stack, seen), room) = entry .pre in (
       ready,
-      cleared (entry .args .alive .now) (entry .args .waiting .now) (at-clear-u64 .clear-u64 .ensures) (at-clear-u642 .clear-u642 .ensures) alive waiting stack,
+      indexed,
+      cleared (entry .args .alive .now) (entry .args .waiting .now) (at-clear-u64 .clear-u64 .ensures) (at-clear-u642 .clear-u642 .ensures) alive waiting
+          stack,
       record { long = omega (arith, at-clear-u643 .clear-u643 .kept .0); none = unseen (entry .args .seen .now) (at-clear-u643 .clear-u643 .ensures) seen },
       room,
     ))  -- pairs-requires

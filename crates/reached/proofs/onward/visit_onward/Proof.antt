@@ -57,7 +57,7 @@ visit-onward-spec =
     let at-if2 = c .before .before .before .before .before in
     let at-if1 = at-if2 .before .before in
     let entry = at-if1 .before .before .before .before .before .before .before .before .before .before .before .before in (
-      (omega arith, entry .pre .0 .ranges .long, all-ahead (entry .pre .0) (entry .args .w) (entry .args .bits) (entry .pre .1 .1) (omega (arith, at-if1 .if1 .left))),
+      (omega arith, all-ahead (entry .pre .0) (entry .args .w) (entry .args .bits) (entry .pre .1 .1) (omega (arith, at-if1 .if1 .left))),
       omega (arith, at-if2 .if2 .left),
       (let a = entry .pre .0 .fits .query .onward (entry .args .w / namedWords) (omega (arith, at-if1 .if1 .left))
           in let b = entry .pre .0 .fits .query .few in omega arith),

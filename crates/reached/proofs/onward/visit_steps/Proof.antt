@@ -1,15 +1,16 @@
 -- `reached::onward::visit_steps` meets its contract. Assumes nothing.
 use borrow.Author.Needs.{needs}
 use lib.Count.{ones, trailing-le, trailingZeros}
-use lib.ListN.{getD, length}
+use lib.ListN.{length}
 use mathlib.Core.Path.{refl, _∙_, _≡_}
 use mir.Facts.{fits-widen}
 use native.Mathlib.Omega.{arith}
-use Prim.Native.Nat.{ℕ, _*_, _+_, _<_}
+use Prim.Native.Nat.{_*_, _+_}
+use Rattle.index.specs.Subjects.{firstAt}
 use Rattle.meaning.proofs.Lists.Lowest.{ones-cleared}
-use Rattle.meaning.specs.Limits.{seenWords}
+use Rattle.meaning.specs.Limits.{indexWidth, seenWords}
 use Rattle.reached.proofs.Forward.{swept}
-use Rattle.reached.proofs.SeenNumbers.{block-small}
+use Rattle.reached.specs.Own.{endAt}
 use Rattle.reached.specs.Steps.{FromWord, ObjectIn}
 use Rattle.worklist.proofs.Growth.{Sweeping, adds-as, next-in, sweep-again, sweep-start}
 use Rattle.worklist.specs.Table.{board}
@@ -17,13 +18,13 @@ use Rattle.reached.proofs.onward.visit_steps.Statement.{statement}
 use Rattle.reached.proofs.onward.visit_steps.Tie as tie
 
 abbrev Inv-loop : tie.InvT-loop
-Inv-loop triples own first kind want to block bits seen₀ waiting₀ stack₀ top end₀ left₀ seen waiting stack end left =
+Inv-loop triples own index kind want to block bits seen₀ waiting₀ stack₀ top end₀ left₀ seen waiting stack end left =
     (length seen ≡ length seen₀) × (length waiting ≡ length waiting₀) × (length stack ≡ length stack₀)
-    × Sweeping seenWords (FromWord block bits (λ n. ObjectIn triples own (getD first n 0) (getD first (n + 1) 0) kind want to))
-    (λ n. ObjectIn triples own (getD first n 0) (getD first (n + 1) 0) kind want to) block bits (board seen₀ waiting₀ stack₀ top) (board seen waiting stack end) left
+    × Sweeping seenWords (FromWord block bits (λ n. ObjectIn triples own (firstAt index n) (endAt index n) kind want to))
+    (λ n. ObjectIn triples own (firstAt index n) (endAt index n) kind want to) block bits (board seen₀ waiting₀ stack₀ top) (board seen waiting stack end) left
 
 abbrev μ-loop : tie.MeasureT-loop
-μ-loop triples own first kind want to block bits seen₀ waiting₀ stack₀ top end₀ left₀ seen waiting stack end left = ones left
+μ-loop triples own index kind want to block bits seen₀ waiting₀ stack₀ top end₀ left₀ seen waiting stack end left = ones left
 
 pub visit-steps-spec : {M : Type 1} → statement M
 visit-steps-spec =
@@ -37,42 +38,39 @@ visit-steps-spec =
     (λ c. let a = c .before .before .before .before .before .before .before .before .pre .0 .0 in omega (arith, trailing-le 64 (c .before .loop .left)))  -- add-n
     (λ c. search needs)  -- sub-left
     (λ c.
-    let x = next-in (c .before .loop .inv .3) (omega arith) (c .before .before .before .before .before .before .before .before .fits .bits .fits) in
-    let a = block-small (c .before .before .before .before .before .before .before .before .args .block) (c .before .before .before .before .before .before .before .before .args .bits) _
-    (c .before .before .before .before .before .before .before .before .pre .0 .0) x in
-    let b = c .before .before .before .before .before .before .before .before .pre .0 .1 in
+    let entry = c .before .before .before .before .before .before .before .before in
+    let a = entry .pre .0 .1 _ (next-in (c .before .loop .inv .3) (omega arith) (entry .fits .bits .fits)) .0 in
+    omega arith)  -- mul-at
+    (λ c.
+    let entry = c .before .before .before .before .before .before .before .before in
+    let a = entry .pre .0 .1 _ (next-in (c .before .loop .inv .3) (omega arith) (entry .fits .bits .fits)) .0 in
     omega arith)  -- mul-lo
     (λ c.
-    let x = next-in (c .before .before .loop .inv .3) (omega arith) (c .before .before .before .before .before .before .before .before .before .fits .bits .fits) in
-    let a = block-small (c .before .before .before .before .before .before .before .before .before .args .block)
-    (c .before .before .before .before .before .before .before .before .before .args .bits) _ (c .before .before .before .before .before .before .before .before .before .pre .0 .0) x in
-    let b = c .before .before .before .before .before .before .before .before .before .pre .0 .1 in
+    let entry = c .before .before .before .before .before .before .before .before .before in
+    let a = entry .pre .0 .1 _ (next-in (c .before .before .loop .inv .3) (omega arith) (entry .fits .bits .fits)) .0 in
     omega arith)  -- shared-slice-read-lo
     (λ c. fits-widen tt (c .shared-slice-known4 .given _))  -- cast-lo
     (λ c.
-    let x = next-in (c .before .before .loop .inv .3) (omega arith) (c .before .before .before .before .before .before .before .before .before .fits .bits .fits) in
-    let a = block-small (c .before .before .before .before .before .before .before .before .before .args .block)
-    (c .before .before .before .before .before .before .before .before .before .args .bits) _ (c .before .before .before .before .before .before .before .before .before .pre .0 .0) x in
-    let b = c .before .before .before .before .before .before .before .before .before .pre .0 .1 in
+    let entry = c .before .before .before .before .before .before .before .before .before in
+    let a = entry .pre .0 .1 _ (next-in (c .before .before .loop .inv .3) (omega arith) (entry .fits .bits .fits)) .0 in
     omega arith)  -- add-hi
     (λ c.
-    let x = next-in (c .before .before .loop .inv .3) (omega arith) (c .before .before .before .before .before .before .before .before .before .fits .bits .fits) in
-    let a = block-small (c .before .before .before .before .before .before .before .before .before .args .block)
-    (c .before .before .before .before .before .before .before .before .before .args .bits) _ (c .before .before .before .before .before .before .before .before .before .pre .0 .0) x in
-    let b = c .before .before .before .before .before .before .before .before .before .pre .0 .1 in
+    let entry = c .before .before .before .before .before .before .before .before .before in
+    let a = entry .pre .0 .1 _ (next-in (c .before .before .loop .inv .3) (omega arith) (entry .fits .bits .fits)) .0 in
     omega arith)  -- mul-hi
     (λ c.
-    let x = next-in (c .before .before .before .loop .inv .3) (omega arith) (c .before .before .before .before .before .before .before .before .before .before .fits .bits .fits) in
-    let a = block-small (c .before .before .before .before .before .before .before .before .before .before .args .block)
-    (c .before .before .before .before .before .before .before .before .before .before .args .bits) _
-    (c .before .before .before .before .before .before .before .before .before .before .pre .0 .0) x in
-    let b = c .before .before .before .before .before .before .before .before .before .before .pre .0 .1 in
+    let entry = c .before .before .before .before .before .before .before .before .before .before in
+    let a = entry .pre .0 .1 _ (next-in (c .before .before .before .loop .inv .3) (omega arith) (entry .fits .bits .fits)) .0 in
     omega arith)  -- shared-slice-read-hi
     (λ c. fits-widen tt (c .shared-slice-known5 .given _))  -- cast-hi
+    (λ c.
+    let args = c .before .before .before .before .before .before .before .before .before .before .args in
+    let n = args .block * 64 + trailingZeros 64 (c .before .before .before .loop .left) in
+    omega (arith, c .shared-slice-known5 .given (n * indexWidth), c .shared-slice-known5 .given (n * indexWidth + 1)))  -- add-hi-2
     (λ c κs.
     let at-loop = c .before .before .before .before .before .before in
     let entry = at-loop .before .before .before .before .before .before .before in
-    (entry .pre .0 .2 _ (next-in (at-loop .loop .inv .3) (omega arith) (entry .fits .bits .fits)), entry .pre .1, at-loop .loop .inv .3 .adds .after))  -- visit-objects-requires
+    (entry .pre .0 .1 _ (next-in (at-loop .loop .inv .3) (omega arith) (entry .fits .bits .fits)) .1, entry .pre .1, at-loop .loop .inv .3 .adds .after))  -- visit-objects-requires
     (λ c.
     let loop = c .before .before .before .before .before .before .before .before .before .before .before .before .before .loop in
     omega (arith, ones-cleared (loop .left) (omega arith)))  -- loop-less

@@ -1,19 +1,20 @@
 -- `reached::own::own_by_subject` meets its contract. Assumes nothing.
 use borrow.Author.Needs.{needs}
-use lib.ListN.{length, length-set}
+use lib.ListN.{length}
 use mathlib.Core.Path.{refl, _∙_, _≡_}
+use mir.Facts.{fits-widen}
 use native.Mathlib.Omega.{arith}
-use Prim.Native.Nat.{_-_, _≤_}
-use Rattle.reached.proofs.Owning.{Indexing, index-again, index-done, index-start}
+use Prim.Native.Nat.{_*_, _+_, _-_, _≤_}
+use Rattle.meaning.specs.Limits.{indexWidth}
+use Rattle.reached.proofs.Owning.{PartsListed, part-inside, parts-again, parts-done, parts-start}
 use Rattle.reached.proofs.own.own_by_subject.Statement.{statement}
 use Rattle.reached.proofs.own.own_by_subject.Tie as tie
 
 abbrev Inv-loop : tie.InvT-loop
-Inv-loop triples edges named own₀ first₀ at₀ n₀ own first at n =
-    (n ≤ named) × (length own ≡ length own₀) × (length first ≡ length first₀) × Indexing triples edges named own first (at .0) (at .1) n
+Inv-loop triples index named own₀ n₀ own n = (n ≤ named) × (length own ≡ length own₀) × PartsListed triples named index own n
 
 abbrev μ-loop : tie.MeasureT-loop
-μ-loop triples edges named own₀ first₀ at₀ n₀ own first at n = named - n
+μ-loop triples index named own₀ n₀ own n = named - n
 
 pub own-by-subject-spec : {M : Type 1} → statement M
 own-by-subject-spec =
@@ -21,48 +22,35 @@ own-by-subject-spec =
     (tie.spec
     Inv-loop
     μ-loop
-    (λ c. search needs)  -- slice-write-first
-    (λ c. (omega arith, refl, refl, index-start (c .before .before .before .args .first .now) (let a = c .before .before .before .pre .3 in omega arith)))  -- loop-holds
+    (λ c. (omega arith, refl, parts-start))  -- loop-holds
+    (λ c. let a = c .before .before .before .before .before .pre .1 .by-subject .long in omega arith)  -- mul-at
+    (λ c. let a = c .before .before .before .before .before .pre .1 .by-subject .long in omega arith)  -- mul-lo
+    (λ c. let a = c .before .before .before .before .before .before .pre .1 .by-subject .long in omega (arith, c .before .loop-test .taken))  -- shared-slice-read-lo
+    (λ c. fits-widen tt (c .shared-slice-known3 .given _))  -- cast-lo
+    (λ c. let a = c .before .before .before .before .before .before .pre .1 .by-subject .long in omega (arith, c .before .loop-test .taken))  -- add-hi
+    (λ c. let a = c .before .before .before .before .before .before .pre .1 .by-subject .long in omega (arith, c .before .loop-test .taken))  -- mul-hi
+    (λ c. let a = c .before .before .before .before .before .before .before .pre .1 .by-subject .long in omega (arith, c .before .before .loop-test .taken))  -- shared-slice-read-hi
+    (λ c. fits-widen tt (c .shared-slice-known4 .given _))  -- cast-hi
+    (λ c. let n = c .before .before .before .loop .n in omega (arith, c .shared-slice-known4 .given (n * indexWidth), c .shared-slice-known4 .given (n * indexWidth + 1)))  -- add-hi-2
     (λ c κs.
-    let pre = c .before .before .before .before .before .before .pre in
-    let i = c .before .before .loop .inv in
-    ((pre .0 .0, pre .0 .1, (let a = pre .0 .2 in let b = i .1 in omega arith)), pre .1, i .3 .passed, i .3 .few))  -- own-from-requires
-    (λ c.
-    let o = c .before .before .before .own-from .ensures in
-    let a = o .few in
-    let b = o .passed .inside in
-    let d = c .before .before .before .before .before .before .before .before .before .before .pre .0 .0 in
-    omega arith)  -- cast-first
-    (λ c. search needs)  -- add-first
-    (λ c. search needs)  -- mul-first
-    (λ c.
-    let pre = c .before .before .before .before .before .before .before .before .before .before .pre in
-    let args = c .before .before .before .before .before .before .before .before .before .before .args in
-    let loop = c .before .before .before .before .before .before .loop in
-    let loop-test = c .before .before .before .before .before .loop-test in
-    let i = loop .inv in
-    let a = i .2 ∙ length-set (args .first .now) 0 0 in
-    let b = pre .3 in
-    let d = pre .2 in
-    omega (arith, loop-test .taken))  -- slice-write-first-2
+    let at-loop = c .before .before .before .before in
+    let entry = at-loop .before .before .before .before in
+    let r = entry .pre .1 in
+    let a = part-inside (r .by-subject) (at-loop .loop .n) (c .before .before .before .loop-test .taken) in
+    let f = r .few in
+    let w = r .whole in
+    let m = r .room in
+    let i = at-loop .loop .inv .1 in
+    (omega arith, omega arith, omega arith, omega arith))  -- own-from-requires
     (λ c. search needs)  -- add-n
     (λ c. search needs)  -- loop-less
     (λ c.
-    let at-own-from = c .before .before .before in
-    let at-loop-test = at-own-from .before .before in
+    let at-own-from = c .before .before in
+    let at-loop-test = at-own-from .before .before .before .before in
     let at-loop = at-loop-test .before in
     let entry = at-loop .before .before .before .before in
     let i = at-loop .loop .inv in
-    let k = at-own-from .own-from .kept .1 .1 .1 .1 .1 .0 in (
-      omega arith,
-      k ∙ i .1,
-      length-set (at-loop .loop .first) _ _ ∙ i .2,
-      index-again (i .3) (at-own-from .own-from .ensures) k
-          (let a = i .2 ∙ length-set (entry .args .first .now) 0 0 in let b = entry .pre .3 in let d = entry .pre .2 in omega (arith, at-loop-test .loop-test .taken)),
-    ))  -- loop-again
+    let l = at-loop-test .loop-test .taken in
+    (omega arith, at-own-from .own-from .kept .1 .1 .1 .1 .0 ∙ i .1, parts-again (entry .pre .1 .by-subject) l (i .2) (at-own-from .own-from .ensures)))  -- loop-again
     (λ c. c .before .loop .inv .1)  -- same-length
-    (λ c. c .before .loop .inv .2 ∙ length-set (c .before .before .before .before .before .args .first .now) 0 0)  -- same-length-2
-    (λ c.
-    let entry = c .before .before .before .before .before in
-    let i = c .before .loop .inv in
-    index-done (i .3) (omega arith) (let a = i .2 ∙ length-set (entry .args .first .now) 0 0 in let b = entry .pre .3 in omega arith)))  -- returns
+    (λ c edges r. let i = c .before .loop .inv in parts-done r (i .1) (c .loop-test .left) (i .2)))  -- returns

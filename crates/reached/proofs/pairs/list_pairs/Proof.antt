@@ -14,12 +14,12 @@ use Rattle.reached.proofs.pairs.list_pairs.Statement.{statement}
 use Rattle.reached.proofs.pairs.list_pairs.Tie as tie
 
 abbrev Inv-loop : tie.InvT-loop
-Inv-loop sizes named triples own first tree next wanted alive seen₀ waiting₀ stack₀ pairs₀ k₀ start₀ seen waiting stack pairs k start =
+Inv-loop sizes named triples own index tree next wanted alive seen₀ waiting₀ stack₀ pairs₀ k₀ start₀ seen waiting stack pairs k start =
     (start ≤ named) × (length seen ≡ length seen₀) × (length waiting ≡ length waiting₀) × (length stack ≡ length stack₀) × (length pairs ≡ length pairs₀)
     × Unmarked seenWords seen waiting stack × ListedBelow (lists sizes triples tree next wanted) named (pairKey start 0) pairs k
 
 abbrev μ-loop : tie.MeasureT-loop
-μ-loop sizes named triples own first tree next wanted alive seen₀ waiting₀ stack₀ pairs₀ k₀ start₀ seen waiting stack pairs k start = named - start
+μ-loop sizes named triples own index tree next wanted alive seen₀ waiting₀ stack₀ pairs₀ k₀ start₀ seen waiting stack pairs k start = named - start
 
 pub list-pairs-spec : {M : Type 1} → statement M
 list-pairs-spec =

@@ -15,12 +15,12 @@ use Rattle.reached.proofs.pairs.walk.Statement.{statement}
 use Rattle.reached.proofs.pairs.walk.Tie as tie
 
 abbrev Inv-loop : tie.InvT-loop
-Inv-loop sizes named triples own first tree next wanted alive start seen₀ waiting₀ stack₀ root top₀ seen waiting stack top =
+Inv-loop sizes named triples own index tree next wanted alive start seen₀ waiting₀ stack₀ root top₀ seen waiting stack top =
     (length seen ≡ length seen₀) × (length waiting ≡ length waiting₀) × (length stack ≡ length stack₀)
     × Walking (lists sizes triples tree next wanted) named start (board seen waiting stack top)
 
 abbrev μ-loop : tie.MeasureT-loop
-μ-loop sizes named triples own first tree next wanted alive start seen₀ waiting₀ stack₀ root top₀ seen waiting stack top = left seenWords (board seen waiting stack top)
+μ-loop sizes named triples own index tree next wanted alive start seen₀ waiting₀ stack₀ root top₀ seen waiting stack top = left seenWords (board seen waiting stack top)
 
 pub walk-spec : {M : Type 1} → statement M
 walk-spec =

@@ -8,11 +8,11 @@ use second::{build, pairs, yes_no, Graph, Refusal};
 const SHOWN: usize = 16;
 
 /// The numbers of the lists and buffers that a call is lent: nodes 1,
-/// triples 2, pairs 3, rows 4, heads 5, alive 6, waiting 7, stack 8, seen 9,
-/// own_nodes 10, own_triples 11.
-const BUILD: &[u8] = &[1, 2, 4, 5];
-const YES_NO: &[u8] = &[1, 2, 4, 5, 6, 7, 8];
-const PAIRS: &[u8] = &[1, 2, 3, 4, 5, 6, 7, 8, 9, 10, 11];
+/// triples 2, index 3, pairs 4, rows 5, heads 6, alive 7, waiting 8, stack 9,
+/// seen 10, own_nodes 11, own_triples 12, own_index 13.
+const BUILD: &[u8] = &[1, 2, 3, 5, 6];
+const YES_NO: &[u8] = &[1, 2, 3, 5, 6, 7, 8, 9];
+const PAIRS: &[u8] = &[1, 2, 3, 4, 5, 6, 7, 8, 9, 10, 11, 12, 13];
 
 pub fn output(case: &Case) -> String {
     let mut text = format!("{}\n", case.title);
@@ -78,15 +78,16 @@ fn lent<T>(
 fn outcome(result: Result<&Graph, &Refusal>) -> String {
     let first = match result {
         Ok(graph) => format!(
-            " graph {} {} digests {} {}",
+            " graph {} {} digests {} {} {}",
             graph.nodes.len(),
             graph.triples.len(),
             digest(&graph.nodes.concat()),
             digest(&graph.triples.concat()),
+            digest(&graph.index.concat()),
         ),
         Err(refusal) => format!(" refused {}", refusal.number),
     };
-    format!("{first}, nodes kept, triples kept")
+    format!("{first}, nodes kept, triples kept, index kept")
 }
 
 /// Working buffers are zero after every call, but 1 touches nothing.
@@ -103,7 +104,8 @@ fn records(graph: &Graph) -> String {
     }
     let nodes = graph.nodes.iter().map(|node| line("node", node));
     let triples = graph.triples.iter().map(|triple| line("triple", triple));
-    nodes.chain(triples).collect()
+    let index = graph.index.iter().map(|record| line("index", record));
+    nodes.chain(triples).chain(index).collect()
 }
 
 fn pair_list(pairs: &[[u16; 2]]) -> String {
