@@ -21,7 +21,7 @@ use Rattle.states.specs.Living.{SomeAt}
 use Rattle.states.specs.State.{state, wordAt}
 use Rattle.worklist.proofs.Growth.{adds-as, adds-for, adds-none, adds-then, nothing-marked}
 use Rattle.worklist.specs.Table.{Adds, AddsOnly, Board, InWord, Marked, Unmarked, board, mark}
-use Rattle.alive.proofs.Backward.{at-nodes}
+use Rattle.backward.proofs.Backward.{at-nodes}
 
 -- ---- the nodes of a block
 
@@ -58,7 +58,7 @@ module _ {nodes parts : ℕ} {b₁ b₂ : Board} {block : ℕ} (g : Ending nodes
   end-again {b₃} r l t a = record {
     adds =
         adds-as {Y′ = λ y. ⊥} (adds-then (g .adds) (adds-as {S′ = EndAt nodes parts} {Y′ = λ y. ⊥} (at-nodes parts l a)
-        (λ y (m, x, e). record { node = m; is = t m (x .word) .0 (x .is); state = e }) (λ y h. absurd h))) (λ y e. e) (λ y h. absurd h);
+        (λ y f. record { node = f .from; is = t (f .from) (f .is .word) .0 (f .is .is); state = f .leads }) (λ y h. absurd h))) (λ y e. e) (λ y h. absurd h);
     before = λ m h k. go m h k (decLt m (block * 64));
   }
     where
@@ -66,7 +66,7 @@ module _ {nodes parts : ℕ} {b₁ b₂ : Board} {block : ℕ} (g : Ending nodes
       go m h k (yes x) = a .more (state parts m) (g .before m h x)
       go m h k (no x) =
           let e : m / 64 ≡ block = omega arith in
-          at-nodes parts l a .all (state parts m) (m, record { word = e; is = t m e .1 h }, refl)
+          at-nodes parts l a .all (state parts m) (record { from = m; is = record { word = e; is = t m e .1 h }; leads = refl })
 
   pub end-done : nodes ≤ block * 64 → AddsOnly stateWords (EndAt nodes parts) b₁ b₂
   end-done l = adds-for (g .adds) (λ y e. e) (λ y e. let h = e .is in subst (Marked (b₂ .marked)) (sym (e .state)) (g .before (e .node) h (omega arith)))

@@ -7,9 +7,10 @@ use mathlib.Core.Path.{ap, refl, subst, sym, _≡_}
 use native.Mathlib.Omega.{arith}
 use Prim.Native.Nat.{ℕ, _%_, _*_, _+_, _-_, _/_, _<_, _≤_}
 use Rattle.alive.specs.Links.{Caused}
-use Rattle.alive.specs.Steps.{AllAlive, AllMarked, BackAt, BackTo, BackToWord, EndAt, FromWord, Led, PartBack, StateAlive, Touches, leads, turns}
+use Rattle.backward.specs.Steps.{Led, PartBack}
+use Rattle.alive.specs.Steps.{AllAlive, AllMarked, BackAt, BackTo, EndAt, StateAlive, Touches, leads, turns}
 use Rattle.index.proofs.Stands.{stands-first, stands-none, stands-split}
-use Rattle.index.specs.Index.{ByObject, Stands}
+use Rattle.index.specs.Objects.{ByObject, Stands}
 use Rattle.meaning.specs.Limits.{maxPredicates, nodeWords, stateWords}
 use Rattle.meaning.specs.Query.{Joins}
 use Rattle.states.proofs.Leaves.{leaf-says, leaf-to}
@@ -24,7 +25,7 @@ use Rattle.walk.proofs.Alive.{alive-least}
 use Rattle.walk.specs.Parts.{Child, Part, chain, either, leaf, listed, partOf, repeat, test}
 use Rattle.walk.specs.Walk.{Saturated, StepBy, ended}
 use Rattle.worklist.proofs.Growth.{adds-as, adds-for, adds-none, adds-sound, adds-then, all-looked, turn-looked, turn-marked}
-use Rattle.worklist.specs.Table.{Adds, AddsOnly, Board, InWord, Looked, Marked, Table, Takes, Unmarked, board}
+use Rattle.worklist.specs.Table.{Adds, AddsOnly, Board, FromWord, InWord, Looked, Marked, Table, Takes, Unmarked, board}
 use Rattle.alive.proofs.States.{alive-at, back-part, led-more, part-alive, state-alive, word-alive}
 
 -- ---- one word, part by part
@@ -83,16 +84,16 @@ module _ {L : Lists} {heads links : List ℕ} {w bits : ℕ} {b₁ b₂ : Board}
       part = getD links e 0 / maxPredicates
 
       sound : (y : ℕ) → FromWord (w % nodeWords) bits (PartBack starts into (L .tree) (L .next) (L .wanted) (b₂ .marked) part (w / nodeWords)) y → StateAlive L y
-      sound y (m, h, x) =
-          let (p, n, v) = word-alive f (b₁ .marked) a k lw m h in
-          part-alive f b (adds-sound (g .adds) (StateAlive L) a (λ x h. h)) (w / nodeWords) m n v part y link-part x
+      sound y x =
+          let (p, n, v) = word-alive f (b₁ .marked) a k lw (x .from) (x .is) in
+          part-alive f b (adds-sound (g .adds) (StateAlive L) a (λ x h. h)) (w / nodeWords) (x .from) n v part y link-part (x .leads)
 
       one : (s i y : ℕ) → InWord w bits s → BackAt L (b₁ .marked) s i y → part ≡ i → Marked (b₃ .marked) y
       one s i y h x p =
           let m = of-block w bits s h in
           let n = word-alive f (b₁ .marked) a k lw (nodeAt s) m .1 in
           let t = back-part f b (g .adds .more) s part y n link-part (subst (λ z. BackAt L (b₁ .marked) s z y) (sym p) x) in
-          d .all y (nodeAt s, m, subst (λ j. PartBack starts into (L .tree) (L .next) (L .wanted) (b₂ .marked) part j (nodeAt s) y) (of-word w bits s h) t)
+          d .all y (record { from = nodeAt s; is = m; leads = subst (λ j. PartBack starts into (L .tree) (L .next) (L .wanted) (b₂ .marked) part j (nodeAt s) y) (of-word w bits s h) t })
 
       split : (s i y : ℕ) → InWord w bits s → BackAt L (b₁ .marked) s i y
           → (getD links e 0 ≡ i * maxPredicates) ⊎ Stands links (e + 1) (getD heads (w / nodeWords + 1) 0) (i * maxPredicates)
@@ -101,8 +102,8 @@ module _ {L : Lists} {heads links : List ℕ} {w bits : ℕ} {b₁ b₂ : Board}
       split s i y h x (inr m) = inr m
 
 pub back-done : {L : Lists} {heads links : List ℕ} {w bits : ℕ} {b₁ b₂ : Board} {e : ℕ} → Backing L heads links w bits b₁ b₂ e → getD heads (w / nodeWords + 1) 0 ≤ e
-    → Adds stateWords (StateAlive L) (BackToWord L (b₁ .marked) w bits) b₁ b₂
-back-done g z = adds-for (g .adds) (λ y x. x) (λ y (s, h, b). ⊎-elim (λ e. e) (λ m. absurd (stands-none z m)) (g .left s (b .part) y h (b .is) (b .back)))
+    → Adds stateWords (StateAlive L) (FromWord w bits (BackTo L (b₁ .marked))) b₁ b₂
+back-done g z = adds-for (g .adds) (λ y x. x) (λ y x. ⊎-elim (λ e. e) (λ m. absurd (stands-none z m)) (g .left (x .from) (x .leads .part) y (x .is) (x .leads .is) (x .leads .back)))
 
 -- ---- word by word
 
@@ -145,9 +146,9 @@ module _ {L : Lists} (f : ListsFit L) where
       none : (x : ℕ) → x < stateWords * 64 → Looked b x → ⊥
       none x l h = let y = a .looked x l h .is in let z = u .none x l in omega arith
 
-  module _ {T : ℕ → Type 0} {marked waiting stack waiting′ : List ℕ} {top top′ : ℕ} (g : Growing L (board marked waiting stack top))
-      (k : Takes stateWords T waiting stack waiting′ top′) where
-    pub grow-again : {b : Board} → Adds stateWords (StateAlive L) (λ y. (x : ℕ) × T x × BackTo L marked x y) (board marked waiting′ stack top′) b → Growing L b
+  module _ {w bits : ℕ} {marked waiting stack waiting′ : List ℕ} {top top′ : ℕ} (g : Growing L (board marked waiting stack top))
+      (k : Takes stateWords (InWord w bits) waiting stack waiting′ top′) where
+    pub grow-again : {b : Board} → Adds stateWords (StateAlive L) (FromWord w bits (BackTo L marked)) (board marked waiting′ stack top′) b → Growing L b
     grow-again {b} a = record {
       marks = a .after;
       sound = adds-sound a (StateAlive L) (g .sound) (λ x h. h);
@@ -157,19 +158,19 @@ module _ {L : Lists} (f : ListsFit L) where
     }
       where
         by-leaf : (x i n : ℕ) → x < stateWords * 64 → i < L .parts → partOf (L .tree) i ≡ leaf → getD (L .next) i 0 ≡ partAt x
-            → Joins (numbered L) (leafAt L i) n (nodeAt x) → T x ⊎ Looked (board marked waiting stack top) x → Marked (b .marked) (state i n)
-        by-leaf x i n l r e p j (inl z) = a .all (state i n) (x, z, record { part = i; is = r; back = leads n e p j refl })
+            → Joins (numbered L) (leafAt L i) n (nodeAt x) → InWord w bits x ⊎ Looked (board marked waiting stack top) x → Marked (b .marked) (state i n)
+        by-leaf x i n l r e p j (inl z) = a .all (state i n) (record { from = x; is = z; leads = record { part = i; is = r; back = leads n e p j refl } })
         by-leaf x i n l r e p j (inr h) = a .more (state i n) (g .led x l h i n r e p j)
 
         marked-now : (m j : ℕ) → Passed b m j → AliveAt marked m j
         marked-now m j p = ⊎-elim (turn-marked (g .marks) k (state j m)) (λ h. h .is) (turn-looked (g .marks) k a (state j m) (p .inside) (p .looked))
 
         -- passed before, or one of the states that are passed now
-        passed-split : (m j : ℕ) → Passed b m j → Passed (board marked waiting stack top) m j ⊎ T (state j m)
+        passed-split : (m j : ℕ) → Passed b m j → Passed (board marked waiting stack top) m j ⊎ InWord w bits (state j m)
         passed-split m j p = ⊎-elim (λ z. inr z) (λ h. inl (record { inside = p .inside; looked = h })) (turn-looked (g .marks) k a (state j m) (p .inside) (p .looked))
 
         -- so what makes a part alive was passed before, or a state that is passed now touches it
-        split-led : (m after : ℕ) (p : Part) → Led (Passed b m) after p → Led (Passed (board marked waiting stack top) m) after p ⊎ ((j : ℕ) × T (state j m) × Touches after p j)
+        split-led : (m after : ℕ) (p : Part) → Led (Passed b m) after p → Led (Passed (board marked waiting stack top) m) after p ⊎ ((j : ℕ) × InWord w bits (state j m) × Touches after p j)
         split-led m after leaf x = absurd x
         split-led m after (test c) (x, y) = ⊎-elim (λ u. ⊎-elim (λ v. inl (u, v)) (λ v. inr (after, v, inr refl)) (passed-split m after y)) (λ u. inr (c, u, inl refl)) (passed-split m c x)
         split-led m after (repeat c) (inl x) = ⊎-elim (λ u. inl (inl u)) (λ u. inr (after, u, inl refl)) (passed-split m after x)
@@ -180,23 +181,23 @@ module _ {L : Lists} (f : ListsFit L) where
 
         by-part : (i m : ℕ) → i < L .parts → m < L .nodes → Led (Passed b m) (getD (L .next) i 0) (partOf (L .tree) i)
             → Led (Passed (board marked waiting stack top) m) (getD (L .next) i 0) (partOf (L .tree) i)
-            ⊎ ((j : ℕ) × T (state j m) × Touches (getD (L .next) i 0) (partOf (L .tree) i) j) → Marked (b .marked) (state i m)
+            ⊎ ((j : ℕ) × InWord w bits (state j m) × Touches (getD (L .next) i 0) (partOf (L .tree) i) j) → Marked (b .marked) (state i m)
         by-part i m r h x (inl y) = a .more (state i m) (g .turned i m r h y)
         by-part i m r h x (inr (j, z, y)) =
             let q = f .graph .few-nodes in
             let u : m ≡ nodeAt (state j m) = sym (state-node j m (state j m) (omega arith) refl) in
             let v : j ≡ partAt (state j m) = sym (state-part j m (state j m) (omega arith) refl) in
-            a .all (state i m) (
-              state j m,
-              z,
-              record {
+            a .all (state i m) (record {
+              from = state j m;
+              is = z;
+              leads = record {
                 part = i;
                 is = r;
                 back = turns (subst (λ y. Led (AliveAt marked y) (getD (L .next) i 0) (partOf (L .tree) i)) u
                     (led-more f (Passed b m) (AliveAt marked m) (marked-now m) (getD (L .next) i 0) (partOf (L .tree) i) x))
                     (subst (Touches (getD (L .next) i 0) (partOf (L .tree) i)) v y) (ap (λ y. state i y) u);
-              },
-            )
+              };
+            })
 
   -- Nothing waits: the marked states are saturated.
   module _ {b : Board} (g : Growing L b) (done : b .top ≡ 0) where

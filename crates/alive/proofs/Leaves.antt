@@ -3,9 +3,9 @@ use mathlib.Core.List.{List}
 use mathlib.Core.Path.{ap, refl, _∙_, _≡_}
 use native.Mathlib.Omega.{arith}
 use Prim.Native.Nat.{ℕ, _%_, _*_, _+_, _/_, _<_}
-use Rattle.alive.specs.Steps.{LeafBack}
+use Rattle.backward.specs.Steps.{LeafBack}
 use Rattle.index.proofs.Stands.{stands-triple}
-use Rattle.index.specs.Index.{ByObject}
+use Rattle.index.specs.Objects.{ByObject}
 use Rattle.index.specs.Triples.{predicateAt}
 use Rattle.meaning.specs.Limits.{maxPredicates}
 use Rattle.states.proofs.Leaves.{LeafJoins, goes, is-at, rests}

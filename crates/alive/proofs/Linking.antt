@@ -10,7 +10,7 @@ use Prim.Native.Nat.{ℕ, _*_, _+_, _-_, _/_, _<_, _≤_}
 use Rattle.alive.specs.Links.{Caused, Link, LinksListed, LinkReady, maxCauses, maxLinks}
 use Rattle.alive.specs.Steps.{Touches}
 use Rattle.index.proofs.Stands.{stands-triple}
-use Rattle.index.specs.Index.{ByObject, ListReady, Stands}
+use Rattle.index.specs.Objects.{ByObject, ListReady, Stands}
 use Rattle.index.specs.Triples.{GraphFits, PredicatesFit, objectAt, predicateAt, subjectAt}
 use Rattle.meaning.specs.Limits.{maxParts, maxPredicates}
 use Rattle.query.specs.Tree.{firstNumber, kindOf}

@@ -5,9 +5,10 @@ use mathlib.Core.Logic.{inl, inr}
 use mathlib.Core.Path.{refl, subst, sym, _≡_}
 use native.Mathlib.Omega.{arith}
 use Prim.Native.Nat.{ℕ, _%_, _+_, _/_, _<_, _≤_}
-use Rattle.alive.specs.Steps.{AllAlive, AllMarked, BackAt, Led, PartBack, Range, Ranges, StateAlive, leads, leaves, turns}
+use Rattle.backward.specs.Steps.{Led, PartBack, Range, Ranges, leaves, turns}
+use Rattle.alive.specs.Steps.{AllAlive, AllMarked, BackAt, StateAlive, leads}
 use Rattle.index.proofs.Stands.{stands-triple}
-use Rattle.index.specs.Index.{ByObject}
+use Rattle.index.specs.Objects.{ByObject}
 use Rattle.meaning.specs.Limits.{maxNodes, nodeWords, stateWords}
 use Rattle.query.specs.Tree.{kindOf}
 use Rattle.states.proofs.Leaves.{LeafJoins, leaf-from, leaf-says, says-leaf}

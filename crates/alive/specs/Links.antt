@@ -4,7 +4,7 @@ use mathlib.Core.List.{List}
 use mathlib.Core.Path.{_≡_}
 use Prim.Native.Nat.{ℕ, _%_, _*_, _+_, _-_, _/_, _<_, _≤_}
 use Rattle.alive.specs.Steps.{Touches}
-use Rattle.index.specs.Index.{Stands}
+use Rattle.index.specs.Objects.{Stands}
 use Rattle.index.specs.Triples.{objectAt, predicateAt, subjectAt}
 use Rattle.meaning.specs.Limits.{maxParts, maxPredicates}
 use Rattle.query.specs.Tree.{firstNumber, kindOf}

@@ -1,20 +1,19 @@
 // The states of a query over a graph in number lists from which the end is reached, found backward from the ends, a word of
 // states at a time.
 mod links; // the parts that each part can make alive
-mod back; // the states from which a step leads to one
 
 ghost use lib.ListN.{length};
 ghost use Prim.Native.Nat.{_*_, _-_, _<_, _≤_};
 ghost use Rattle.alive.specs.Links.{Caused};
-ghost use Rattle.alive.specs.Steps.{AllAlive, AllMarked, BackToWord, EndAt, RealNodes, StateAlive};
-ghost use Rattle.index.specs.Index.{ByObject};
+ghost use Rattle.alive.specs.Steps.{AllAlive, AllMarked, BackTo, EndAt, RealNodes, StateAlive};
+ghost use Rattle.index.specs.Objects.{ByObject};
 ghost use Rattle.meaning.specs.Limits.{maxNodes, maxParts, stateWords};
 ghost use Rattle.states.specs.Fits.{ListsFit};
 ghost use Rattle.states.specs.Lists.{lists};
 ghost use Rattle.states.specs.Living.{Living, SomeAt};
-ghost use Rattle.worklist.specs.Table.{Adds, AddsOnly, Stacked, Table, Unmarked, board};
-use crate::back::mark_part;
+ghost use Rattle.worklist.specs.Table.{Adds, AddsOnly, FromWord, Stacked, Table, Unmarked, board};
 use crate::links::link_parts;
+use backward::mark_part;
 use index::objects::list_by_object;
 use meaning::MAX_PARTS;
 use meaning::MAX_PREDICATES;
@@ -93,7 +92,7 @@ fn mark_back(
         × ((AllAlive (lists sizes (now triples) (now tree) (now next) (now wanted)) (now alive) × ((w < stateWords) × AllMarked (now alive) w bits))
         × Table stateWords (board (now alive) (now waiting) (now stack) top)) ⌝ }
     ensures { λ r. ⌜ Adds stateWords (StateAlive (lists sizes (now (triples .entry)) (now (tree .entry)) (now (next .entry)) (now (wanted .entry))))
-        (BackToWord (lists sizes (now (triples .entry)) (now (tree .entry)) (now (next .entry)) (now (wanted .entry))) (now (alive .entry)) w bits)
+        (FromWord w bits (BackTo (lists sizes (now (triples .entry)) (now (tree .entry)) (now (next .entry)) (now (wanted .entry))) (now (alive .entry))))
         (board (now (alive .entry)) (now (waiting .entry)) (now (stack .entry)) top) (board (now (alive .exit)) (now (waiting .exit)) (now (stack .exit)) r) ⌝ }
 {
     let j = w / NODE_WORDS;

@@ -4,11 +4,11 @@ use lib.ListN.{length}
 use mathlib.Core.List.{List}
 use mathlib.Core.Path.{_≡_}
 use Prim.Native.Nat.{ℕ, _*_, _<_, _≤_}
-use Rattle.index.specs.Index.{ListReady}
+use Rattle.index.specs.Objects.{ListReady}
 use Rattle.index.specs.Subjects.{BySubject}
 use Rattle.index.specs.Triples.{PredicatesFit}
 use Rattle.meaning.specs.Limits.{maxCoreNodes, maxPairs, seenWords, stateWords}
-use Rattle.reached.specs.Own.{Inward}
+use Rattle.forward.specs.Own.{Inward}
 use Rattle.states.specs.Fits.{ListsFit}
 use Rattle.states.specs.Lists.{Lists}
 use Rattle.worklist.specs.Table.{Unmarked, mark}

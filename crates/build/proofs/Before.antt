@@ -2,7 +2,7 @@
 -- answered by build as it was. Assumes nothing.
 use mathlib.Core.List.{List}
 use mathlib.Core.Logic.{_↔_}
-use mathlib.Core.Path.{_≡_, subst, sym}
+use mathlib.Core.Path.{subst, sym}
 use Prim.Native.Nat.{ℕ}
 use Rattle.build.specs.Before.{GivenBy, RefusedBy}
 use Rattle.build.specs.Before as By

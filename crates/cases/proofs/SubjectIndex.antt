@@ -14,7 +14,7 @@ use Rattle.graph.proofs.SubjectEntries.{entry-says}
 use Rattle.graph.proofs.TripleNumbers.{subjects-rise}
 use Rattle.graph.specs.Fronts.{GraphListed}
 use Rattle.index.proofs.BySubject.{Ending, end-again, end-last, end-start, end-stop, range-is}
-use Rattle.index.specs.Subjects.{SubjectRange, SubjectsBelow}
+use Rattle.index.specs.Subjects.{SubjectRange, SubjectsSplit}
 use Rattle.index.specs.Triples.{SubjectsRise, subjectAt}
 use Rattle.meaning.specs.Listing.{SubjectIndex}
 use Rattle.meaning.specs.Pack.{Pack}
@@ -30,15 +30,15 @@ abbrev endFrom : ℕ → List ℕ → ℕ → ℕ → ℕ → ℕ
 endFrom zero triples edges m k = k
 endFrom (suc fuel) triples edges m k = onward (ltb k edges) (eqb (subjectAt triples k) m) (endFrom fuel triples edges m (k + 1)) k
 
-module _ {triples : List ℕ} {edges m k : ℕ} (up : SubjectsRise triples edges) (s : SubjectsBelow triples edges m k) where
+module _ {triples : List ℕ} {edges m k : ℕ} (up : SubjectsRise triples edges) (s : SubjectsSplit triples edges m k) where
   ends : (fuel end : ℕ) → Ending triples edges m k end → edges ≤ end + fuel
-      → (k ≤ endFrom fuel triples edges m end) × SubjectsBelow triples edges (m + 1) (endFrom fuel triples edges m end)
+      → (k ≤ endFrom fuel triples edges m end) × SubjectsSplit triples edges (m + 1) (endFrom fuel triples edges m end)
   ends zero end x l = end-last x s (omega arith)
   ends (suc fuel) end x l = go (λ y. ends fuel (end + 1) y (omega arith)) (ltb end edges) (eqb (subjectAt triples end) m) refl refl
     where
-      go : (Ending triples edges m k (end + 1) → (k ≤ endFrom fuel triples edges m (end + 1)) × SubjectsBelow triples edges (m + 1) (endFrom fuel triples edges m (end + 1)))
+      go : (Ending triples edges m k (end + 1) → (k ≤ endFrom fuel triples edges m (end + 1)) × SubjectsSplit triples edges (m + 1) (endFrom fuel triples edges m (end + 1)))
           → (a b : Bool) → ltb end edges ≡ a → eqb (subjectAt triples end) m ≡ b
-          → (k ≤ onward a b (endFrom fuel triples edges m (end + 1)) end) × SubjectsBelow triples edges (m + 1) (onward a b (endFrom fuel triples edges m (end + 1)) end)
+          → (k ≤ onward a b (endFrom fuel triples edges m (end + 1)) end) × SubjectsSplit triples edges (m + 1) (onward a b (endFrom fuel triples edges m (end + 1)) end)
       go rest true true p q = rest (end-again x (ltb-true end edges p) (eqb-true (subjectAt triples end) m q))
       go rest true false p q = end-stop x s up (ltb-true end edges p) (eqb-false (subjectAt triples end) m q)
       go rest false b p q = end-last x s (ltb-false end edges p)
@@ -70,7 +70,7 @@ record Entry (triples : List ℕ) (edges node : ℕ) (numbers : List ℕ) : Type
   range : SubjectRange triples edges node first count
   are : numbers ≡ first ∷ count ∷ []
 
-entries : {triples : List ℕ} {edges : ℕ} → SubjectsRise triples edges → (n m k : ℕ) → SubjectsBelow triples edges m k → (j : ℕ) (r : List ℕ)
+entries : {triples : List ℕ} {edges : ℕ} → SubjectsRise triples edges → (n m k : ℕ) → SubjectsSplit triples edges m k → (j : ℕ) (r : List ℕ)
     → getElem? (indexFrom n triples edges m k) j ≡ some r → Entry triples edges (m + j) r
 entries up zero m k s j r e = absurd (Option·none-ne-some r e)
 entries {triples} {edges} up (suc n) m k s zero r e =

@@ -9,7 +9,7 @@ use mathlib.Core.Path.{_≡_, sym, ap, subst, _∙_}
 use native.Mathlib.Decide.{decLt, ℕ-discrete}
 use native.Mathlib.Omega.{arith}
 use Prim.Native.Nat.{ℕ, zero, suc, _+_, _-_, _%_, _<_, _≤_}
-use Rattle.core.specs.Keys.{keyOf, objectOf, originOf, predicateOf, subjectOf, tripleKey}
+use Rattle.spread.specs.Keys.{keyOf, objectOf, originOf, predicateOf, subjectOf, tripleKey}
 use Rattle.clash.specs.Clash.{ClashAt, Clashes, LimitedAt, SameOrigin}
 use Rattle.core_lists.specs.Input.{Input}
 use Rattle.core_lists.proofs.Keys.{key-less, less-key}

@@ -6,7 +6,7 @@ use mathlib.Core.Option.{some}
 use mathlib.Core.Path.{_≡_, sym, ap, subst, _∙_}
 use native.Mathlib.Omega.{arith}
 use Prim.Native.Nat.{ℕ, suc, _+_, _<_, _≤_}
-use Rattle.core.specs.Keys.{keyOf, objectOf, predicateOf, subjectOf, tripleKey}
+use Rattle.spread.specs.Keys.{keyOf, objectOf, predicateOf, subjectOf, tripleKey}
 use Rattle.clash.specs.Clash.{ClashAt, ClashWritten}
 use Rattle.core_lists.specs.Input.{Input, KeysSmall, CoreFits}
 use Rattle.node_list.specs.Records.{Arities, coreNumbers, overwritten}

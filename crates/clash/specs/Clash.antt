@@ -5,7 +5,7 @@ use mathlib.Core.List.{List, [], _∷_, _++_}
 use mathlib.Core.Option.{some}
 use mathlib.Core.Path.{_≡_}
 use Prim.Native.Nat.{ℕ, suc, _-_}
-use Rattle.core.specs.Keys.{keyOf, originOf, predicateOf, subjectOf, tripleKey}
+use Rattle.spread.specs.Keys.{keyOf, originOf, predicateOf, subjectOf, tripleKey}
 use Rattle.core_lists.specs.Input.{Input}
 use Rattle.node_list.specs.Records.{Arities}
 use Rattle.meaning.specs.Clash.{ClashGiven, FirstClash}

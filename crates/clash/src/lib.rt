@@ -1,7 +1,7 @@
 // Refusal 10: a node with two p-objects and a type that allows one.
 ghost use lib.ListN.{getD, length};
 ghost use Prim.Native.Nat.{_+_, _<_, _≤_};
-ghost use Rattle.core.specs.Keys.{predicateOf, subjectOf};
+ghost use Rattle.spread.specs.Keys.{predicateOf, subjectOf};
 ghost use Rattle.clash.specs.Clash.{ClashRecorded, ClashShown, Clashes};
 ghost use Rattle.core_lists.specs.Input.{KeysSmall, CoreFits};
 ghost use Rattle.meaning.specs.Limits.{clashWidth, maxPredicates};

@@ -9,14 +9,14 @@ use native.Mathlib.Omega.{arith}
 use Prim.Native.Nat.{ℕ, _≤_, _<_}
 use Rattle.core.proofs.NodeKeys.{link-keys, subject-in}
 use Rattle.core.proofs.TripleKeys.{link-triple, no-triple}
-use Rattle.core.proofs.Rounds.{rounds-over, rounds-some}
+use Rattle.spread.proofs.Rounds.{rounds-over, rounds-some}
 use Rattle.core.proofs.TypeSources.{decoded, spread-over, start-at, types-at}
 use Rattle.core.specs.Bounds.{HeadFits, HeadsFit}
 use Rattle.core.specs.Collected.{FromRules, SetGrown, KnownMatch, KnownRules, TypesMarked, HeadType, nodeKeys, objectKey, subjectKey, tripleKeys}
 use Rattle.core.specs.Heads.{kindNumber, namedNumber}
 use Rattle.core.specs.Outcomes.{CoreListed, NodeKeysListed, TripleKeysListed, TypesAnswer}
-use Rattle.core.specs.Rounds.{RoundsMadeOn}
-use Rattle.core.specs.Spread.{AllTriplesFit, TripleFits, SpreadFrom}
+use Rattle.spread.specs.Rounds.{RoundsMadeOn}
+use Rattle.spread.specs.Spread.{AllTriplesFit, TripleFits, SpreadFrom}
 use Rattle.meaning.specs.Limits.{maxCoreNodes, maxCoreTriples, maxIris}
 use Rattle.meaning.specs.Member.{_∈_}
 use Rattle.meaning.specs.NoGraph.{CoreIri, CoreTriple}

@@ -11,7 +11,7 @@ use Rattle.core.proofs.NodeSources.{Fine, bytes-of, core-in, fine}
 use Rattle.core.proofs.Packed.{Bytes, packed-injective, packed-lt, packed-padded}
 use Rattle.core.proofs.Powers.{padded-lt, up-to-four}
 use Rattle.core.specs.Bounds.{Bounded}
-use Rattle.core.specs.Keys.{keyOf}
+use Rattle.spread.specs.Keys.{keyOf}
 use Rattle.meaning.proofs.Lists.Members.{∈-append}
 use Rattle.meaning.proofs.Lists.Places.{inside}
 use Rattle.meaning.proofs.Model.Core.{nodesIn}

@@ -7,7 +7,7 @@ use Prim.Native.Nat.{ℕ, _+_, _≤_, _<_}
 use Rattle.core.proofs.DistinctKeys.{Proper, core-proper, iri-low, key-injective, literal-key}
 use Rattle.core.specs.Bounds.{Bounded}
 use Rattle.core.specs.CoreHeld.{NodeKey}
-use Rattle.core.specs.Keys.{keyOf}
+use Rattle.spread.specs.Keys.{keyOf}
 use Rattle.meaning.specs.Core.{CoreNode, Node, iriNode, literalNode}
 use Rattle.meaning.specs.Limits.{firstLiteral, maxIris, maxValues}
 use Rattle.meaning.specs.Member.{_∈_}

@@ -13,9 +13,6 @@ pub mod TypeSources
 pub mod NodeKeys
 pub mod TripleKeys
 pub mod Marking
-pub mod Walks
-pub mod Rounds
-pub mod Spreading
 pub mod Declared
 pub mod Shapes
 pub mod Fits

@@ -11,7 +11,7 @@ use Rattle.core.proofs.Sources.{Source, link-object, link-subject, type
 use Rattle.core.specs.Bounds.{Bounded}
 use Rattle.core.specs.Collected.{nodeKeys}
 use Rattle.core.specs.CoreHeld.{NodeKey}
-use Rattle.core.specs.Keys.{keyOf}
+use Rattle.spread.specs.Keys.{keyOf}
 use Rattle.meaning.proofs.Lists.Members.{element, ∈-append, ∈-map⁻¹}
 use Rattle.meaning.proofs.Model.Core.{nodesIn}
 use Rattle.meaning.proofs.Model.Resolved.{Bound, headTerms, headVariables, resolved}

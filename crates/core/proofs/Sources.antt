@@ -9,7 +9,7 @@ use Prim.Native.Nat.{ℕ, _*_, _+_, _-_, _/_, _%_, _^_, _≤_, _<_}
 use Rattle.core.proofs.Packed.{Bytes, one-packed, packed-back, packed-front, packed-padded, single}
 use Rattle.core.specs.Collected.{FromRules, objectKey, subjectKey}
 use Rattle.core.specs.Heads.{HeadsHeld}
-use Rattle.core.specs.Keys.{keyOf}
+use Rattle.spread.specs.Keys.{keyOf}
 use Rattle.meaning.proofs.Lists.Members.{element}
 use Rattle.meaning.proofs.Lists.Places.{inside, placed, there-is}
 use Rattle.meaning.specs.Core.{Assignment, Matches, literalNode, nodeOf}

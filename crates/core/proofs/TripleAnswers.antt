@@ -14,7 +14,7 @@ use Rattle.core.specs.Bounds.{Bounded, HeadFits, HeadsFit}
 use Rattle.core.specs.Collected.{Adding, Beyond, FromRules, SetGrown, tripleKeys}
 use Rattle.core.specs.Heads.{HeadsHeld}
 use Rattle.core.specs.CoreHeld.{NodeKey, TripleKey}
-use Rattle.core.specs.Keys.{keyOf, tripleKey}
+use Rattle.spread.specs.Keys.{keyOf, tripleKey}
 use Rattle.core.specs.Outcomes.{TriplesAnswer, TripleKeysListed}
 use Rattle.core.specs.declared.counted.Counted.{Counted}
 use Rattle.core.specs.declared.counted.Counted.the-variants.{Count, TooLarge}

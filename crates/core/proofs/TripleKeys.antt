@@ -8,7 +8,7 @@ use Prim.Native.Nat.{ℕ, _+_, _*_, _≤_, _<_}
 use Rattle.core.proofs.Growing.{grown-start}
 use Rattle.core.specs.Collected.{SetGrown, objectKey, subjectKey, tripleKeys}
 use Rattle.core.specs.Heads.{kindNumber, namedNumber}
-use Rattle.core.specs.Keys.{tripleKey}
+use Rattle.spread.specs.Keys.{tripleKey}
 use Rattle.meaning.specs.Limits.{placeRoom, predicateRoom}
 use Rattle.meaning.specs.Member.{_∈_, here}
 use Rattle.meaning.specs.Ordered.{InOrder}

@@ -13,7 +13,7 @@ use Rattle.core.proofs.TripleKeys.{link-triple, no-triple}
 use Rattle.core.specs.Bounds.{Bounded}
 use Rattle.core.specs.Collected.{tripleKeys}
 use Rattle.core.specs.CoreHeld.{NodeKey, TripleKey}
-use Rattle.core.specs.Keys.{keyOf, tripleKey}
+use Rattle.spread.specs.Keys.{keyOf, tripleKey}
 use Rattle.meaning.proofs.Lists.Members.{element, ∈-append}
 use Rattle.meaning.proofs.Lists.Places.{entry-at}
 use Rattle.meaning.proofs.Model.Resolved.{headTerms, headVariables}

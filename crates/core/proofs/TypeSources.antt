@@ -14,9 +14,9 @@ use Rattle.core.specs.Bounds.{Bounded, HeadsFit}
 use Rattle.core.specs.Collected.{FromRules, TypesMarked, HeadType}
 use Rattle.core.specs.Heads.{HeadsHeld}
 use Rattle.core.specs.CoreHeld.{NodeKey, TripleKey}
-use Rattle.core.specs.Keys.{keyOf, objectOf, predicateOf, subjectOf, tripleKey}
-use Rattle.core.specs.Rounds.{AddedFact}
-use Rattle.core.specs.Spread.{Passed, SpreadFrom, along, held}
+use Rattle.spread.specs.Keys.{keyOf, objectOf, predicateOf, subjectOf, tripleKey}
+use Rattle.spread.specs.Rounds.{AddedFact}
+use Rattle.spread.specs.Spread.{Passed, SpreadFrom, along, held}
 use Rattle.meaning.proofs.Lists.Counting.{over-carried}
 use Rattle.meaning.proofs.Lists.Places.{inside}
 use Rattle.meaning.proofs.Model.Resolved.{headTerms}

@@ -7,7 +7,7 @@ use mathlib.Core.Logic.{_↔_, _⊎_}
 use mathlib.Core.Path.{_≡_}
 use Prim.Native.Nat.{ℕ, _+_, _*_, _-_, _/_, _%_, _^_, _≤_, _<_}
 use Rattle.core.specs.Heads.{keysOf, kindNumber, namedNumber, objectArguments, objectConstructor, subjectArguments, subjectConstructor}
-use Rattle.core.specs.Keys.{tripleKey}
+use Rattle.spread.specs.Keys.{tripleKey}
 use Rattle.core.specs.declared.counted.Counted.{Counted}
 use Rattle.core.specs.declared.counted.Counted.the-variants.{Count, TooLarge}
 use Rattle.meaning.specs.Limits.{firstLiteral, maxArguments, maxValues, termRoom}

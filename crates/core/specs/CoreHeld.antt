@@ -6,7 +6,7 @@ use mathlib.Core.Logic.{_↔_}
 use mathlib.Core.Option.{some}
 use mathlib.Core.Path.{_≡_}
 use Prim.Native.Nat.{ℕ, _<_, _≤_}
-use Rattle.core.specs.Keys.{keyOf, tripleKey}
+use Rattle.spread.specs.Keys.{keyOf, tripleKey}
 use Rattle.meaning.specs.Core.{Node, CoreEdge, CoreNode, CoreType}
 use Rattle.meaning.specs.Ordered.{ListOf}
 use Rattle.meaning.specs.Pack.{Pack, Target}

@@ -6,7 +6,7 @@ use Rattle.core.specs.Bounds.{Bounded}
 use Rattle.core.specs.Collected.{FromRules, SetGrown, nodeKeys, tripleKeys}
 use Rattle.core.specs.Heads.{HeadsHeld}
 use Rattle.core.specs.CoreHeld.{CoreHeld, NodeKey, TripleKey, TypesAt}
-use Rattle.core.specs.Rounds.{SettledIn}
+use Rattle.spread.specs.Rounds.{SettledIn}
 use Rattle.core.specs.declared.Outcome.{Outcome}
 use Rattle.core.specs.declared.Outcome.the-variants.{Held, TooLarge as NotHeld}
 use Rattle.core.specs.declared.counted.Counted.{Counted}

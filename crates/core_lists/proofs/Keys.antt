@@ -7,7 +7,7 @@ use mathlib.Core.Path.{_≡_, refl, sym, ap, subst, _∙_}
 use native.Mathlib.Omega.{arith}
 use Prim.Native.Nat.{ℕ, _+_, _*_, _<_, _≤_}
 use Rattle.core.specs.Bounds.{Bounded}
-use Rattle.core.specs.Keys.{keyOf}
+use Rattle.spread.specs.Keys.{keyOf}
 use Rattle.core_lists.proofs.ResolvedNodes.{Proper}
 use Rattle.meaning.proofs.Lists.Members.{element}
 use Rattle.meaning.proofs.Lists.Ordered.{take-less}

@@ -8,7 +8,7 @@ use mathlib.Core.Path.{_≡_, refl, sym, subst, _∙_}
 use native.Mathlib.Decide.{decLt, ℕ-discrete}
 use native.Mathlib.Omega.{arith}
 use Prim.Native.Nat.{ℕ, _+_, _*_, _<_, _≤_}
-use Rattle.core.specs.Keys.{originAt, originOf, predicateOf}
+use Rattle.spread.specs.Keys.{originAt, originOf, predicateOf}
 use Rattle.core_lists.specs.Origin.{group, HasOrigin, keysBefore}
 use Rattle.meaning.specs.Limits.{maxPredicates, placeRoom}
 use Rattle.meaning.specs.Member.{_∈_, here, there}

@@ -8,7 +8,7 @@ use native.Mathlib.Omega.{arith}
 use Prim.Native.Nat.{ℕ, _%_, _<_}
 use Rattle.core.proofs.Declared.{edge-predicate}
 use Rattle.core.proofs.Shapes.{codes-fit, tabled}
-use Rattle.core.specs.Keys.{keyOf, objectOf, predicateOf, subjectOf, tripleKey}
+use Rattle.spread.specs.Keys.{keyOf, objectOf, predicateOf, subjectOf, tripleKey}
 use Rattle.core_lists.specs.Input.{Input, CoreFits}
 use Rattle.core_lists.proofs.Keys.{key-one}
 use Rattle.core_lists.proofs.ResolvedNodes.{proper}

@@ -4,7 +4,7 @@ use mathlib.Core.List.{List}
 use Prim.Native.Nat.{ℕ, _+_, _<_, _≤_}
 use Rattle.core.specs.Bounds.{Bounded}
 use Rattle.core.specs.CoreHeld.{CoreHeld}
-use Rattle.core.specs.Keys.{objectOf, predicateOf, subjectOf}
+use Rattle.spread.specs.Keys.{objectOf, predicateOf, subjectOf}
 use Rattle.meaning.specs.Limits.{firstLiteral, maxCoreNodes, maxCoreTriples, maxIris, maxPredicates, maxValues}
 use Rattle.meaning.specs.Member.{_∈_}
 use Rattle.meaning.specs.Ordered.{InOrder}

@@ -4,7 +4,7 @@ use mathlib.Core.Bool.{cond}
 use mathlib.Core.List.{List, [], _∷_}
 use mathlib.Core.Path.{_≡_}
 use Prim.Native.Nat.{ℕ, _+_}
-use Rattle.core.specs.Keys.{originOf}
+use Rattle.spread.specs.Keys.{originOf}
 use Rattle.meaning.specs.Member.{_∈_}
 
 -- how many keys are of earlier origins

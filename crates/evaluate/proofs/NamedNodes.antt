@@ -1,10 +1,10 @@
 -- The named nodes of a listed graph: what leads to one starts at one, and there are no more than the core may have. Assumes
 -- nothing.
-use lib.ListN.{getD, getElem?, length}
+use lib.ListN.{getD, getElem?}
 use mathlib.Core.List.{List}
 use mathlib.Core.Logic.{inl, ⊎-elim}
 use mathlib.Core.Option.{Option, none, some}
-use mathlib.Core.Path.{ap, refl, subst, sym, _∙_, _≡_}
+use mathlib.Core.Path.{ap, refl, subst, sym, _≡_}
 use native.Mathlib.Decide.{decLt}
 use native.Mathlib.Omega.{arith}
 use Prim.Native.Nat.{ℕ, _<_, _≤_}
@@ -25,13 +25,12 @@ use Rattle.meaning.proofs.Theory.Simulated.{is-core}
 use Rattle.meaning.specs.Built.{BuiltEdge, BuiltNode, core, invented}
 use Rattle.meaning.specs.Core.{CoreNode, Node, iriNode, literalNode}
 use Rattle.meaning.specs.Limits.{maxCoreNodes, maxIris, maxValues}
-use Rattle.meaning.specs.Listing.{NodesInOrder}
 use Rattle.meaning.specs.NoGraph.{CoreIri}
 use Rattle.meaning.specs.Ordered.{Over}
 use Rattle.meaning.specs.Pack.{Pack, Text}
 use Rattle.pack.proofs.Accepted.{well-formed}
 use Rattle.pack.proofs.Unpacking.{unpacked}
-use Rattle.reached.specs.Own.{Inward}
+use Rattle.forward.specs.Own.{Inward}
 use Rattle.spelling.proofs.CoreTerms.{core-in-pack}
 use Rattle.spelling.specs.Iri.{plain}
 

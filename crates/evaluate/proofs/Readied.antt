@@ -4,7 +4,7 @@ use mathlib.Core.List.{List}
 use native.Mathlib.Omega.{arith}
 use Prim.Native.Nat.{ℕ, _+_, _≤_}
 use Rattle.evaluate.specs.Answered.{Ready}
-use Rattle.index.specs.Index.{ListReady}
+use Rattle.index.specs.Objects.{ListReady}
 use Rattle.meaning.specs.Limits.{maxNodes, maxParts, maxTriples}
 use Rattle.meaning.specs.Pack.{Text}
 use Rattle.sets.specs.Buffers.{zeros}

@@ -6,7 +6,7 @@ use mathlib.Core.Path.{refl, sym, subst, ap, _∙_, _≡_}
 use native.Mathlib.Decide.{decLt, ℕ-discrete}
 use native.Mathlib.Omega.{arith}
 use Prim.Native.Nat.{suc, zero, ℕ, _*_, _+_, _-_, _<_, _≤_}
-use Rattle.index.specs.Subjects.{Indexed, SubjectRange, SubjectsBelow, countAt, firstAt}
+use Rattle.index.specs.Subjects.{Indexed, SubjectRange, SubjectsSplit, countAt, firstAt}
 use Rattle.index.specs.Triples.{SubjectsRise, subjectAt}
 use Rattle.meaning.specs.Limits.{indexWidth}
 
@@ -38,19 +38,19 @@ module _ {triples : List ℕ} {edges n k : ℕ} where
         go j a b (yes h) = x .subjects j a h
         go j a b (no h) = let p : end ≡ j = omega arith in subst (λ y. subjectAt triples y ≡ n) p e
 
-    module _ (s : SubjectsBelow triples edges n k) where
+    module _ (s : SubjectsSplit triples edges n k) where
       -- what follows is of later subjects
-      ended : ((j : ℕ) → end ≤ j → j < edges → n + 1 ≤ subjectAt triples j) → (k ≤ end) × SubjectsBelow triples edges (n + 1) end
+      ended : ((j : ℕ) → end ≤ j → j < edges → n + 1 ≤ subjectAt triples j) → (k ≤ end) × SubjectsSplit triples edges (n + 1) end
       ended above = (x .from, record { inside = x .inside; below = λ j a. below j a (decLt j k); above = above })
         where
           below : (j : ℕ) → j < end → Dec (j < k) → subjectAt triples j < n + 1
           below j a (yes h) = let z = s .below j h in omega arith
           below j a (no h) = let z = x .subjects j (omega arith) a in omega arith
 
-      pub end-last : edges ≤ end → (k ≤ end) × SubjectsBelow triples edges (n + 1) end
+      pub end-last : edges ≤ end → (k ≤ end) × SubjectsSplit triples edges (n + 1) end
       end-last l = ended (λ j a b. absurd (omega arith))
 
-      pub end-stop : SubjectsRise triples edges → end < edges → (subjectAt triples end ≡ n → ⊥) → (k ≤ end) × SubjectsBelow triples edges (n + 1) end
+      pub end-stop : SubjectsRise triples edges → end < edges → (subjectAt triples end ≡ n → ⊥) → (k ≤ end) × SubjectsSplit triples edges (n + 1) end
       end-stop up l d = ended above
         where
           above : (j : ℕ) → end ≤ j → j < edges → n + 1 ≤ subjectAt triples j
@@ -62,7 +62,7 @@ module _ {triples : List ℕ} {edges n k : ℕ} where
               omega arith
 
 -- the triples of n stand between those of the subjects below it and those of the subjects above
-module _ {triples : List ℕ} {edges n k end : ℕ} (s : SubjectsBelow triples edges n k) (t : SubjectsBelow triples edges (n + 1) end) where
+module _ {triples : List ℕ} {edges n k end : ℕ} (s : SubjectsSplit triples edges n k) (t : SubjectsSplit triples edges (n + 1) end) where
   its : (j : ℕ) → ((j < edges) × (subjectAt triples j ≡ n)) → (k ≤ j) × (j < end)
   its j (l, e) = go (decLt j k) (decLt j end)
     where
@@ -91,7 +91,7 @@ module _ {triples : List ℕ} {edges n k end : ℕ} (s : SubjectsBelow triples e
 
 -- The subjects below n are in the list; k triples are passed.
 pub record Indexing (triples : List ℕ) (edges : ℕ) (index₀ index : List ℕ) (k n : ℕ) : Type 0 where
-  pub passed : SubjectsBelow triples edges n k
+  pub passed : SubjectsSplit triples edges n k
   pub long : length index ≡ length index₀
   pub ranges : (m : ℕ) → m < n → SubjectRange triples edges m (firstAt index m) (countAt index m)
   pub kept : drop (n * indexWidth) index ≡ drop (n * indexWidth) index₀
@@ -106,7 +106,7 @@ module _ {triples : List ℕ} {edges : ℕ} {index₀ : List ℕ} where
   }
 
   module _ {index : List ℕ} {k n : ℕ} (x : Indexing triples edges index₀ index k n) (room : (n + 1) * indexWidth ≤ length index₀) where
-    pub index-again : (first count end : ℕ) → SubjectsBelow triples edges (n + 1) end → SubjectRange triples edges n first count
+    pub index-again : (first count end : ℕ) → SubjectsSplit triples edges (n + 1) end → SubjectRange triples edges n first count
         → Indexing triples edges index₀ (set (set index (n * 2) first) (n * 2 + 1) count) end (n + 1)
     index-again first count end s r = record {
       passed = s;

@@ -6,7 +6,7 @@ use mathlib.Core.Path.{ap, refl, subst, _∙_, _≡_}
 use native.Mathlib.Decide.{ℕ-discrete}
 use native.Mathlib.Omega.{arith}
 use Prim.Native.Nat.{ℕ, _%_, _*_, _+_, _/_, _<_, _≤_}
-use Rattle.index.specs.Index.{ByObject, Stands}
+use Rattle.index.specs.Objects.{ByObject, Stands}
 use Rattle.index.specs.Triples.{TripleIn}
 use Rattle.meaning.specs.Limits.{maxPredicates}
 

@@ -28,7 +28,7 @@ pub record BySubject (triples : List ℕ) (nodes edges : ℕ) (index : List ℕ)
 -- ---- how it is made: subject by subject, over triples whose subjects do not fall
 
 -- Exactly the first r triples have a subject below n.
-pub record SubjectsBelow (triples : List ℕ) (edges n r : ℕ) : Type 0 where
+pub record SubjectsSplit (triples : List ℕ) (edges n r : ℕ) : Type 0 where
   pub inside : r ≤ edges
   pub below : (k : ℕ) → k < r → subjectAt triples k < n
   pub above : (k : ℕ) → r ≤ k → k < edges → n ≤ subjectAt triples k

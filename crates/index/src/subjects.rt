@@ -2,7 +2,7 @@
 ghost use lib.ListN.{length};
 ghost use mathlib.Core.Path.{_≡_};
 ghost use Prim.Native.Nat.{_+_, _*_, _≤_};
-ghost use Rattle.index.specs.Subjects.{Indexed, SubjectsBelow};
+ghost use Rattle.index.specs.Subjects.{Indexed, SubjectsSplit};
 ghost use Rattle.index.specs.Triples.{GraphFits, SubjectsRise};
 ghost use Rattle.meaning.specs.Limits.{indexWidth};
 use meaning::INDEX_WIDTH;
@@ -10,8 +10,8 @@ use meaning::TRIPLE_WIDTH;
 
 // Where the triples of the subject n end, which begin at k if there are any.
 fn subject_end(triples: &[u16], edges: usize, n: usize, k: usize) -> usize
-    requires { ⌜ (edges * 3 ≤ length (now triples)) × SubjectsRise (now triples) edges × SubjectsBelow (now triples) edges n k ⌝ }
-    ensures { λ r. ⌜ (k ≤ r) × SubjectsBelow (now (triples .entry)) edges (n + 1) r ⌝ }
+    requires { ⌜ (edges * 3 ≤ length (now triples)) × SubjectsRise (now triples) edges × SubjectsSplit (now triples) edges n k ⌝ }
+    ensures { λ r. ⌜ (k ≤ r) × SubjectsSplit (now (triples .entry)) edges (n + 1) r ⌝ }
 {
     let mut end = k;
     while end < edges {

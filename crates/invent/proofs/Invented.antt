@@ -11,7 +11,7 @@ use lib.Pow.{pow-mono}
 use native.Mathlib.Nat.{lt-of-lt-of-le}
 use native.Mathlib.Omega.{arith}
 use Prim.Native.Nat.{ℕ, _+_, _%_, _<_}
-use Rattle.core.specs.Keys.{keyOf, originAt, predicateOf, subjectOf, tripleKey}
+use Rattle.spread.specs.Keys.{keyOf, originAt, predicateOf, subjectOf, tripleKey}
 use Rattle.core_lists.specs.Input.{Input}
 use Rattle.invent.specs.Invent.{CoreLacks, Follows, InventedSets, Lacks, Leads, follows, marked, setAt}
 use Rattle.core_lists.proofs.Places.{edge-at, edge-key, masked, node-at, place-of, place-small, requires-masked, same-node-at, targets-masked, masked-targets, well}

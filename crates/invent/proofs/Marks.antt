@@ -8,7 +8,7 @@ use native.Mathlib.Decide.{ℕ-discrete}
 use native.Mathlib.Nat.{not-suc-le-zero}
 use native.Mathlib.Omega.{arith}
 use Prim.Native.Nat.{ℕ, _+_, _^_, _<_}
-use Rattle.core.specs.Keys.{originAt}
+use Rattle.spread.specs.Keys.{originAt}
 use Rattle.core_lists.specs.Origin.{HasOrigin}
 use Rattle.invent.specs.Invent.{Lacks, Leads, Marks, OfDemand, Upto, numberOf, setAt}
 use Rattle.core_lists.proofs.Places.{types-below}

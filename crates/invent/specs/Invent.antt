@@ -4,7 +4,7 @@ use lib.ListN.{getD, length}
 use mathlib.Core.List.{List}
 use mathlib.Core.Logic.{_↔_}
 use Prim.Native.Nat.{ℕ, _+_, _*_, _/_, _%_, _<_}
-use Rattle.core.specs.Keys.{originAt}
+use Rattle.spread.specs.Keys.{originAt}
 use Rattle.core_lists.specs.Input.{Input}
 use Rattle.core_lists.specs.Origin.{HasOrigin}
 use Rattle.meaning.specs.Built.{BuiltNode, IsBuilt, PTargets, Requires, invented}

@@ -2,7 +2,7 @@
 ghost use lib.ListN.{replicate};
 ghost use mathlib.Core.Path.{_≡_};
 ghost use Prim.Native.Nat.{ℕ, _+_, _<_};
-ghost use Rattle.core.specs.Keys.{originAt};
+ghost use Rattle.spread.specs.Keys.{originAt};
 ghost use Rattle.core_lists.specs.Input.{CoreFits};
 ghost use Rattle.core_lists.specs.Origin.{keysBefore};
 ghost use Rattle.invent.specs.Invent.{AllWait, CloseShown, CoreLacks, InventShown, Lacks, Leads, Marks, Next, NodeLacks, OfDemand, OfTable, maskOf, numberOf};
@@ -22,8 +22,8 @@ use meaning::TYPE_SETS;
 use shapes::demand::DemandTable;
 use shapes::demand::demand_table;
 use shapes::demand::demands_of;
-use shapes::demand::required;
-use shapes::demand::targets;
+use shapes::demand::required_in;
+use shapes::demand::targets_in;
 use worklist::mark;
 use worklist::take;
 
@@ -59,10 +59,10 @@ fn mark_targets(
     ensures { λ r. ⌜ ((mask p : ℕ) → Marks (OfDemand mask p demand) (λ P. Leads P (invented (setOfMask mask)) p)
         (board (now (flags .entry)) (now (waiting .entry)) (now (stack .entry)) top) (board (now (flags .exit)) (now (waiting .exit)) (now (stack .exit)) r)) ⌝ }
 {
-    if !required(demand) {
+    if !required_in(demand) {
         return top;
     }
-    mark(set_number(targets(demand)), flags, waiting, stack, top)
+    mark(set_number(targets_in(demand)), flags, waiting, stack, top)
 }
 
 // The same for all that a set demands.

@@ -11,7 +11,7 @@ use mathlib.Core.Path.{_≡_, refl, sym, ap, subst, _∙_}
 use native.Mathlib.Decide.{decLt, ℕ-discrete}
 use native.Mathlib.Omega.{arith}
 use Prim.Native.Nat.{ℕ, suc, _+_, _*_, _/_, _%_, _^_, _<_, _≤_}
-use Rattle.core.specs.Keys.{keyOf}
+use Rattle.spread.specs.Keys.{keyOf}
 use Rattle.core_lists.specs.Input.{Input, KeysSmall}
 use Rattle.invent.specs.Invent.{InventedSets, setAt}
 use Rattle.mixed.specs.Mixed.{MixedCore, MixedFlag, MixedFlags, Somewhere, mixedNode}

@@ -10,7 +10,7 @@ use mathlib.Core.Path.{_≡_, refl, sym, ap, subst, subst₂, _∙_}
 use native.Mathlib.Omega.{arith}
 use Prim.Native.Nat.{ℕ, zero, suc, _+_, _%_, _<_, _≤_}
 use Rattle.core.specs.CoreHeld.{NodeKey}
-use Rattle.core.specs.Keys.{keyOf}
+use Rattle.spread.specs.Keys.{keyOf}
 use Rattle.core_lists.specs.Input.{Input}
 use Rattle.invent.specs.Invent.{InventedSets, setAt}
 use Rattle.node_list.specs.NodeList.{InventedNodes}

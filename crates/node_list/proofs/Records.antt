@@ -7,7 +7,7 @@ use borrow.Author.Tests.{lt-ltb}
 use native.Mathlib.Omega.{arith}
 use Prim.Native.Nat.{ℕ, _+_, _*_, _-_, _/_, _%_, _^_, _≤_}
 use Rattle.core.specs.Bounds.{Bounded}
-use Rattle.core.specs.Keys.{keyOf}
+use Rattle.spread.specs.Keys.{keyOf}
 use Rattle.node_list.specs.Records.{Arities, argumentAt, coreNumbers, iriNumbers, literalNumbers}
 use Rattle.core_lists.proofs.Keys.{Small, all-small, four, iri-key-lt, packed-lt}
 use Rattle.core_lists.proofs.Places.{Masked}

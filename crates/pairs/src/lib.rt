@@ -1,7 +1,7 @@
 // Pairs, an open call: the pairs of named nodes that a query joins in every finite graph that obeys a pack.
-ghost use Rattle.calls.specs.Call.{lent};
+ghost use Rattle.calls.specs.Call.{Zero, lent};
 ghost use Rattle.pair_list.specs.Written.{TableRoom};
-ghost use Rattle.pairs.specs.Answer.{PairsAnswers};
+ghost use Rattle.pairs.specs.Answer.{PairsAnswers, buffers};
 ghost use Rattle.pairs.specs.Inner.{Comes, CountedGraph, ForCounted, ListRoom, Room};
 use calls::long_enough;
 use construct::Constructed;
@@ -154,6 +154,31 @@ fn answer(
     )
 }
 
+// Sets every number of the working buffers to 0.
+fn clear(
+    rows: &mut [u16],
+    heads: &mut [u64],
+    alive: &mut [u64],
+    waiting: &mut [u64],
+    stack: &mut [u16],
+    seen: &mut [u64],
+    own_nodes: &mut [u16],
+    own_triples: &mut [u16],
+    own_index: &mut [u16],
+)
+    ensures { λ _. ⌜ Zero (buffers (lent rows) (lent heads) (lent alive) (lent waiting) (lent stack) (lent seen) (lent «own_nodes») (lent «own_triples») (lent «own_index»)) ⌝ }
+{
+    clear_u16(rows);
+    clear_u64(heads);
+    clear_u64(alive);
+    clear_u64(waiting);
+    clear_u16(stack);
+    clear_u64(seen);
+    clear_u16(own_nodes);
+    clear_u16(own_triples);
+    clear_u16(own_index);
+}
+
 // What each list and buffer must hold at least, in the order in which they are lent.
 const LEAST_LENGTHS: [usize; 13] = [
     NODE_LIST_LENGTH,
@@ -232,14 +257,16 @@ pub fn pairs(
         own_triples,
         own_index,
     );
-    clear_u16(rows);
-    clear_u64(heads);
-    clear_u64(alive);
-    clear_u64(waiting);
-    clear_u16(stack);
-    clear_u64(seen);
-    clear_u16(own_nodes);
-    clear_u16(own_triples);
-    clear_u16(own_index);
+    clear(
+        rows,
+        heads,
+        alive,
+        waiting,
+        stack,
+        seen,
+        own_nodes,
+        own_triples,
+        own_index,
+    );
     said
 }

@@ -1,6 +1,2 @@
-pub mod SeenNumbers
-pub mod Owning
-pub mod Forward
-pub mod Stepping
 pub mod Walking
 pub mod Listing

@@ -18,7 +18,7 @@ use Rattle.reached.specs.Walked.{EndsAre, ListedBelow, ListedUpTo, PairI
 use Rattle.reached.specs.declared.pairs.Pairs.{Pairs}
 use Rattle.reached.specs.declared.pairs.Pairs.the-variants.{Listed, TooMany}
 use Rattle.reached.specs.Keys.{pairKey}
-use Rattle.reached.specs.Seen.{seenState}
+use Rattle.forward.specs.Seen.{seenState}
 use Rattle.meaning.specs.Limits.{maxCoreNodes, maxNodes, maxPairs, namedWords}
 use Rattle.meaning.proofs.Lists.Bits.{bit-shift, mask-lt, zero-bits}
 use Rattle.meaning.proofs.Lists.Lowest.{Lowest, lowest}

@@ -4,16 +4,17 @@ use mathlib.Core.Logic.{⊎-elim}
 use mathlib.Core.Path.{refl, subst, sym, _≡_}
 use native.Mathlib.Omega.{arith}
 use Prim.Native.Nat.{ℕ, _*_, _-_, _<_, _≤_}
-use Rattle.meaning.specs.Limits.{maxCoreNodes, seenWords}
-use Rattle.reached.specs.Seen.{seenNode, seenPart, seenState}
-use Rattle.reached.specs.Steps.{FromWord, StateIn, StepFrom}
-use Rattle.reached.specs.Walked.{WalkReady, Walked}
-use Rattle.reached.proofs.SeenNumbers.{part-below, seen-inside, seen-node, seen-part}
-use Rattle.reached.proofs.Stepping.{step-in, step-named}
+use Rattle.meaning.specs.Limits.{seenWords}
+use Rattle.forward.specs.Seen.{seenNode, seenPart, seenState}
+use Rattle.forward.specs.Steps.{StateIn, StepFrom}
+use Rattle.forward.specs.Ready.{WalkReady}
+use Rattle.reached.specs.Walked.{Walked}
+use Rattle.forward.proofs.SeenNumbers.{part-below, seen-inside, seen-node, seen-part}
+use Rattle.forward.proofs.Stepping.{step-in, step-named}
 use Rattle.states.specs.Lists.{Lists, ReachedIn, StepIn}
 use Rattle.walk.specs.Walk.{onward, start}
 use Rattle.worklist.proofs.Growth.{adds-sound, all-looked, turn-looked, turn-marked}
-use Rattle.worklist.specs.Table.{Adds, AddsOnly, Board, InWord, Looked, Marked, Table, Takes, Unmarked, board}
+use Rattle.worklist.specs.Table.{AddsOnly, Board, FromWord, InWord, Looked, Marked, Table, Takes, Unmarked, board}
 
 -- The number x is a state at a named node that is reached.
 pub record StateReached (L : Lists) (named v x : ℕ) : Type 0 where

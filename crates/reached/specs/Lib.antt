@@ -1,5 +1,2 @@
 pub mod Keys
-pub mod Own
-pub mod Seen
-pub mod Steps
 pub mod Walked

@@ -11,21 +11,9 @@ use Rattle.meaning.specs.Ordered.{ListOf, Over}
 use Rattle.reached.specs.declared.pairs.Pairs.{Pairs}
 use Rattle.reached.specs.declared.pairs.Pairs.the-variants.{Listed, TooMany}
 use Rattle.reached.specs.Keys.{pairKey}
-use Rattle.reached.specs.Own.{Inward, OwnBySubject}
-use Rattle.reached.specs.Seen.{seenState}
-use Rattle.states.specs.Fits.{ListsFit}
+use Rattle.forward.specs.Seen.{seenState}
 use Rattle.states.specs.Lists.{Lists, ReachedIn}
-use Rattle.states.specs.Living.{Living}
 use Rattle.worklist.specs.Table.{Marked, mark}
-
--- What every walk of a query is given: the lists, the triples that end at named nodes, and which states are alive.
-pub record WalkReady (L : Lists) (named : ℕ) (own index alive : List ℕ) : Type 0 where
-  pub fits : ListsFit L
-  pub nodes : named ≤ L .nodes
-  pub few : named ≤ maxCoreNodes
-  pub inward : Inward (L .triples) (L .edges) named
-  pub listed : OwnBySubject (L .triples) (L .edges) named own index
-  pub living : Living L alive
 
 -- The marked states are those that are reached from the root at v, at named nodes; they are of the parts and the end.
 pub record Walked (L : Lists) (named v : ℕ) (seen : List ℕ) : Type 0 where

@@ -22,14 +22,14 @@ pub type Demands = [u16; MAX_PREDICATES];
 pub type DemandTable = [[u16; MAX_PREDICATES]; MAX_TYPES];
 
 // Whether an edge is required.
-pub fn required(demand: u16) -> bool
+pub fn required_in(demand: u16) -> bool
     ensures { λ r. ⌜ r ≡ requiredIn demand ⌝ }
 {
     demand / REQUIRED % 2 == 1
 }
 
 // The mask of the targets.
-pub fn targets(demand: u16) -> u16
+pub fn targets_in(demand: u16) -> u16
     ensures { λ r. ⌜ r ≡ targetsIn demand ⌝ }
 {
     demand & TARGETS

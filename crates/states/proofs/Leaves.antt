@@ -2,8 +2,8 @@
 use borrow.Author.Tests.{eq-eqb, eqb-true, ne-eqb}
 use lib.ListN.{getD}
 use mathlib.Core.Bool.{true}
-use mathlib.Core.List.{List, [], _∷_}
-use mathlib.Core.Path.{ap, refl, subst, sym, _∙_, _≡_}
+use mathlib.Core.List.{[], _∷_}
+use mathlib.Core.Path.{refl, subst, sym, _∙_, _≡_}
 use native.Mathlib.Decide.{ℕ-discrete}
 use native.Mathlib.Omega.{arith}
 use Prim.Native.Nat.{ℕ, _<_, _≤_}

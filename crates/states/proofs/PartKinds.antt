@@ -1,5 +1,4 @@
 -- The kinds of parts: leaves, and parts that have parts, which stand behind these. Assumes nothing.
-use lib.ListN.{getD}
 use mathlib.Core.List.{List}
 use mathlib.Core.Logic.{inr}
 use mathlib.Core.Path.{refl, subst, sym, _∙_, _≡_}

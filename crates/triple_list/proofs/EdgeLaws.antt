@@ -8,7 +8,7 @@ use mathlib.Core.Path.{_≡_, refl, sym, ap, subst, subst₂, _∙_}
 use native.Mathlib.Numerals.{add-one}
 use native.Mathlib.Omega.{arith}
 use Prim.Native.Nat.{ℕ, min, suc, zero, _+_, _*_, _-_, _%_, _<_, _≤_}
-use Rattle.core.specs.Keys.{objectOf, originAt, originOf}
+use Rattle.spread.specs.Keys.{objectOf, originAt, originOf}
 use Rattle.invent.specs.Invent.{OfDemand, numberOf}
 use Rattle.node_list.specs.Records.{SetsFit, overwritten}
 use Rattle.triple_list.specs.Triples.{EdgeFrom, EdgesListed, NodeEdge, RecordsListed, SubjectEdge, SubjectsBelow, edgeRecord, edgeRecords, gotten, present}

@@ -12,7 +12,7 @@ use native.Mathlib.Nat.{le-refl}
 use native.Mathlib.Numerals.{add-one}
 use native.Mathlib.Omega.{arith}
 use Prim.Native.Nat.{ℕ, zero, suc, _+_, _*_, _-_, _<_, _≤_}
-use Rattle.core.specs.Keys.{objectOf, originAt, originOf}
+use Rattle.spread.specs.Keys.{objectOf, originAt, originOf}
 use Rattle.node_list.specs.Records.{overwritten}
 use Rattle.triple_list.specs.Triples.{EdgesListed, edgeRecord, edgeRecords}
 use Rattle.core_lists.proofs.Origin.{keys-next, keys-rank, not-earlier, pass}

@@ -8,7 +8,7 @@ use mathlib.Core.Option.{Option, some, Option·none-ne-some, Option·some-inject
 use mathlib.Core.Path.{_≡_, refl, sym, ap, subst, subst₂, _∙_}
 use native.Mathlib.Omega.{arith}
 use Prim.Native.Nat.{ℕ, zero, suc, _+_, _*_, _%_, _<_, _≤_}
-use Rattle.core.specs.Keys.{keyOf, objectOf, originAt, originOf, predicateOf, subjectOf, tripleKey}
+use Rattle.spread.specs.Keys.{keyOf, objectOf, originAt, originOf, predicateOf, subjectOf, tripleKey}
 use Rattle.core_lists.specs.Input.{Input}
 use Rattle.invent.specs.Invent.{Upto, setAt}
 use Rattle.node_list.specs.Records.{SetPlaces, nodeSet}

@@ -4,7 +4,7 @@ use lib.ListN.{drop, getD, length}
 use mathlib.Core.List.{List, [], _∷_, _++_, map, flatten}
 use mathlib.Core.Path.{_≡_}
 use Prim.Native.Nat.{ℕ, _+_, _*_, _%_, _≤_, _<_}
-use Rattle.core.specs.Keys.{objectOf, originAt, originOf, subjectOf}
+use Rattle.spread.specs.Keys.{objectOf, originAt, originOf, subjectOf}
 use Rattle.core_lists.specs.Input.{Input}
 use Rattle.core_lists.specs.Origin.{group}
 use Rattle.invent.specs.Invent.{Lacks, Upto}

@@ -3,7 +3,7 @@ ghost use lib.ListN.{length};
 ghost use mathlib.Core.List.{[], _∷_};
 ghost use mathlib.Core.Path.{_≡_};
 ghost use Prim.Native.Nat.{ℕ, min, _+_, _*_, _<_, _≤_};
-ghost use Rattle.core.specs.Keys.{originAt};
+ghost use Rattle.spread.specs.Keys.{originAt};
 ghost use Rattle.core_lists.specs.Input.{CoreFits};
 ghost use Rattle.core_lists.specs.Origin.{keysBefore};
 ghost use Rattle.invent.specs.Invent.{OfDemand, OfTable, Upto};
@@ -23,8 +23,8 @@ use sets::ordered::rank;
 use shapes::demand::DemandTable;
 use shapes::demand::demand_table;
 use shapes::demand::demands_of;
-use shapes::demand::required;
-use shapes::demand::targets;
+use shapes::demand::required_in;
+use shapes::demand::targets_in;
 
 // How many sets of types there are, as masks have them.
 const SETS: u16 = TYPE_SETS as u16;
@@ -105,10 +105,10 @@ fn list_origin(
             at,
         };
     }
-    if !required(demand) {
+    if !required_in(demand) {
         return next;
     }
-    let types = (targets(demand) % SETS) as usize;
+    let types = (targets_in(demand) % SETS) as usize;
     write_triple(out, first, subject as u16, p as u16, places[types]);
     Next {
         triple: first + 1,

@@ -2,7 +2,7 @@
 use lib.Count.{trailingZeros}
 use lib.ListN.{getD, getD-replicate, length, replicate}
 use mathlib.Core.List.{List}
-use mathlib.Core.Logic.{inl, inr, ⊎-elim, _⊎_, _≢_}
+use mathlib.Core.Logic.{inl, inr, ⊎-elim, _⊎_}
 use mathlib.Core.Path.{ap, subst, sym, _∙_, _≡_}
 use native.Mathlib.Decide.{decLt, ℕ-discrete}
 use native.Mathlib.Omega.{arith}
@@ -11,12 +11,12 @@ use Rattle.meaning.proofs.Lists.Bits.{zero-bits}
 use Rattle.meaning.specs.TypeSet.{bit}
 use Rattle.meaning.proofs.Lists.Lowest.{cleared, cleared-le, cleared-member, lowest}
 use Rattle.meaning.proofs.Lists.Masks.{bit-small}
-use Rattle.worklist.specs.Table.{Adds, AddsOnly, Board, Cleared, InWord, Looked, Marked, Stacked, Table, Takes, Unmarked, board, left, mark}
+use Rattle.worklist.specs.Table.{Adds, AddsOnly, Board, Cleared, FromWord, InWord, Looked, Marked, Stacked, Table, Takes, Unmarked, board, left, mark}
 use Rattle.worklist.proofs.Marks.{mark-lt, mark-zero, marked-word, one-in, zero-word}
 use Rattle.worklist.proofs.Stack.{stacked-none}
 use Rattle.worklist.proofs.Sums.{sum-less, sum-same}
 
--- ---- more (n * 64) are marked
+-- ---- more numbers are marked
 
 module _ {n : ℕ} {S Y : ℕ → Type 0} {a : Board} where
   -- None is to be marked.
@@ -60,11 +60,11 @@ module _ {n : ℕ} {S Y : ℕ → Type 0} {a : Board} where
       → (x : ℕ) → x < n * 64 → Marked (b .marked) x → P x
   adds-sound d P f g x l e = ⊎-elim (f x l) (g x) (d .new x e)
 
--- The same (n * 64), said twice.
+-- The same numbers, said twice.
 pub adds-same : {n : ℕ} {Y Z : ℕ → Type 0} {a b : Board} → Adds n Y Y a b → ((y : ℕ) → Y y → Z y) → ((y : ℕ) → Z y → Y y) → Adds n Z Z a b
 adds-same d f g = adds-as d f g
 
--- One group of (n * 64), then another.
+-- One group of numbers, then another.
 pub adds-both : {n : ℕ} {Y Z X : ℕ → Type 0} {a b c : Board} → Adds n Y Y a b → Adds n Z Z b c → ((y : ℕ) → Y y → X y) → ((y : ℕ) → Z y → X y)
     → ((y : ℕ) → X y → Y y ⊎ Z y) → Adds n X X a c
 adds-both {n} {Y} {Z} {X} d e f g h =
@@ -102,7 +102,7 @@ adds-left {n} {S} {Y} {a} {b} d = sum-same (todo b) (todo a) (n * 64) (λ x l. g
     go x l (yes p) (no q) = not x l (λ h. q (h .waits-not))
     go x l (no p) q = not x l (λ h. p (h .is))
 
--- ---- a turn: (n * 64) are taken, and more are marked
+-- ---- a turn: numbers are taken, and more are marked
 
 module _ {n : ℕ} {T : ℕ → Type 0} {marked waiting stack waiting′ : List ℕ} {top top′ : ℕ} (t : Table n (board marked waiting stack top))
     (k : Takes n T waiting stack waiting′ top′) where
@@ -138,21 +138,25 @@ module _ {n : ℕ} {T : ℕ → Type 0} {marked waiting stack waiting′ : List 
     pub turn-left : left n b < left n (board marked waiting stack top)
     turn-left = let p = adds-left d in let q = taken-left in omega arith
 
--- ---- the (n * 64) of a word, one after another
+-- ---- the numbers of a word, one after another
 
--- What R leads to from the (n * 64) of a word is marked, but for the (n * 64) that are left.
-pub record Sweeping (n : ℕ) (S : ℕ → Type 0) (R : ℕ → ℕ → Type 0) (w bits : ℕ) (a b : Board) (rest : ℕ) : Type 0 where
+-- R says of each what S says
+pub from-same : {w bits : ℕ} {R S : ℕ → ℕ → Type 0} → ((x y : ℕ) → InWord w bits x → R x y → S x y) → (y : ℕ) → FromWord w bits R y → FromWord w bits S y
+from-same f y r = record { from = r .from; is = r .is; leads = f (r .from) y (r .is) (r .leads) }
+
+-- What R leads to from the numbers of a word is marked, but for the numbers that are left.
+pub record Sweeping (n : ℕ) (R : ℕ → ℕ → Type 0) (w bits : ℕ) (a b : Board) (rest : ℕ) : Type 0 where
   pub within : (t : ℕ) → bit t rest ≡ 1 → bit t bits ≡ 1
   pub small : rest ≤ bits
-  pub adds : Adds n S (λ y. ⊥) a b
+  pub adds : Adds n (FromWord w bits R) (λ y. ⊥) a b
   pub done : (x : ℕ) → InWord w bits x → bit (x % 64) rest ≡ 0 → (y : ℕ) → R x y → Marked (b .marked) y
 
-module _ {n : ℕ} {S : ℕ → Type 0} {R : ℕ → ℕ → Type 0} {w bits : ℕ} {a : Board} where
-  pub sweep-start : Table n a → Sweeping n S R w bits a a bits
+module _ {n : ℕ} {R : ℕ → ℕ → Type 0} {w bits : ℕ} {a : Board} where
+  pub sweep-start : Table n a → Sweeping n R w bits a a bits
   sweep-start t = record { within = λ t e. e; small = omega arith; adds = adds-none t (λ y h. h); done = λ x h e. absurd (let g = h .is in omega arith) }
 
-  module _ {b : Board} {rest : ℕ} (g : Sweeping n S R w bits a b rest) where
-    -- the state that is next
+  module _ {b : Board} {rest : ℕ} (g : Sweeping n R w bits a b rest) where
+    -- the number that is next
     pub next-in : 0 < rest → bits < 2 ^ 64 → InWord w bits (w * 64 + trailingZeros 64 rest)
     next-in l h =
         let k = g .small in
@@ -161,21 +165,24 @@ module _ {n : ℕ} {S : ℕ → Type 0} {R : ℕ → ℕ → Type 0} {w bits : �
         let e : (w * 64 + trailingZeros 64 rest) % 64 ≡ trailingZeros 64 rest = omega arith in
         record { word = omega arith; is = ap (λ t. bit t bits) e ∙ g .within (trailingZeros 64 rest) (lowest 64 rest l f .member) }
 
-    pub sweep-again : {Y : ℕ → Type 0} {c : Board} → 0 < rest → bits < 2 ^ 64 → Adds n S Y b c
-        → ((y : ℕ) → R (w * 64 + trailingZeros 64 rest) y → Y y) → Sweeping n S R w bits a c (cleared rest)
-    sweep-again {Y} {c} l h d f = record {
+    -- what R leads to from it is marked
+    pub sweep-again : {c : Board} → 0 < rest → bits < 2 ^ 64 → AddsOnly n (R (w * 64 + trailingZeros 64 rest)) b c → Sweeping n R w bits a c (cleared rest)
+    sweep-again {c} l h d = record {
       within = λ t e. g .within t (cleared-member t rest e);
       small = let p = cleared-le rest in let q = g .small in omega arith;
-      adds = adds-as {Y′ = λ y. ⊥} (adds-then (g .adds) d) (λ y s. s) (λ y e. absurd e);
+      adds = adds-as {Y′ = λ y. ⊥} (adds-then (g .adds) (adds-as {S′ = FromWord w bits R} {Y′ = λ y. ⊥} d from-next (λ y e. absurd e))) (λ y s. s) (λ y e. absurd e);
       done = λ x i e y r. go x i e y r (ℕ-discrete (x % 64) (trailingZeros 64 rest));
     }
       where
+        from-next : (y : ℕ) → R (w * 64 + trailingZeros 64 rest) y → FromWord w bits R y
+        from-next y r = record { from = w * 64 + trailingZeros 64 rest; is = next-in l h; leads = r }
+
         go : (x : ℕ) → InWord w bits x → bit (x % 64) (cleared rest) ≡ 0 → (y : ℕ) → R x y → Dec (x % 64 ≡ trailingZeros 64 rest) → Marked (c .marked) y
-        go x i e y r (yes p) = let q = i .word in let u : x ≡ w * 64 + trailingZeros 64 rest = omega arith in d .all y (f y (subst (λ z. R z y) u r))
+        go x i e y r (yes p) = let q = i .word in let u : x ≡ w * 64 + trailingZeros 64 rest = omega arith in d .all y (subst (λ z. R z y) u r)
         go x i e y r (no n) = let k = g .small in let v : rest < 2 ^ 64 = omega arith in d .more y (g .done x i (sym (lowest 64 rest l v .others (x % 64) n) ∙ e) y r)
 
-    pub sweep-done : rest ≡ 0 → Adds n S (λ y. (x : ℕ) × InWord w bits x × R x y) a b
-    sweep-done z = adds-for (g .adds) (λ y s. s) (λ y (x, i, r). g .done x i (ap (bit (x % 64)) z ∙ zero-bits (x % 64)) y r)
+    pub sweep-done : rest ≡ 0 → AddsOnly n (FromWord w bits R) a b
+    sweep-done z = adds-for (g .adds) (λ y s. s) (λ y f. g .done (f .from) (f .is) (ap (bit (f .from % 64)) z ∙ zero-bits (f .from % 64)) y (f .leads))
 
 -- ---- the beginning and the end
 

@@ -3,13 +3,13 @@ use lib.Bits.{bitOr}
 use lib.Count.{trailingZeros}
 use lib.ListN.{getD, length, set}
 use lib.Seq.{getD-set-other, getD-set-same}
-use mathlib.Core.List.{List, [], _∷_}
+use mathlib.Core.List.{List}
 use mathlib.Core.Logic.{_↔_, _≢_}
 use mathlib.Core.Path.{ap, refl, subst, sym, _∙_, _≡_}
 use native.Mathlib.Decide.{ℕ-discrete}
 use native.Mathlib.Omega.{arith}
-use Prim.Native.Nat.{max, suc, zero, ℕ, _%_, _*_, _+_, _/_, _<_, _^_, _≤_}
-use Rattle.meaning.proofs.Lists.Bits.{bit-lt, bits-equal, bit-one, bit-or, bit-other, bit-shift, zero-bits}
+use Prim.Native.Nat.{max, ℕ, _%_, _*_, _+_, _/_, _<_, _^_}
+use Rattle.meaning.proofs.Lists.Bits.{bit-lt, bit-one, bit-or, bit-other, bit-shift, zero-bits}
 use Rattle.meaning.specs.TypeSet.{bit}
 use Rattle.meaning.proofs.Lists.Lowest.{Lowest, cleared, lowest}
 use Rattle.meaning.proofs.Lists.Masks.{bit-small}

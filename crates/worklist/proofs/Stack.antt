@@ -3,11 +3,11 @@ use lib.ListN.{getD, length, length-set, set}
 use lib.Seq.{getD-set-other, getD-set-same}
 use mathlib.Core.List.{List}
 use mathlib.Core.Logic.{_≢_}
-use mathlib.Core.Path.{ap, refl, subst, sym, _∙_, _≡_}
+use mathlib.Core.Path.{ap, subst, sym, _∙_, _≡_}
 use native.Mathlib.Decide.{decLt, ℕ-discrete}
 use native.Mathlib.Omega.{arith}
 use Prim.Native.Nat.{min, suc, ℕ, _+_, _-_, _<_, _^_, _≤_}
-use Rattle.worklist.specs.Table.{Stacked, busy, sum}
+use Rattle.worklist.specs.Table.{Stacked, busy}
 use Rattle.worklist.proofs.Sums.{sum-most, sum-none, sum-one, sum-same}
 
 -- The number that `busy` adds up.

@@ -4,7 +4,7 @@ use lib.ListN.{getD, length, length-set, set}
 use lib.Seq.{getD-set-other, getD-set-same}
 use mathlib.Core.List.{List}
 use mathlib.Core.Logic.{inl, inr, ⊎-elim, _⊎_, _≢_}
-use mathlib.Core.Path.{ap, refl, subst, sym, _∙_, _≡_}
+use mathlib.Core.Path.{ap, refl, sym, _∙_, _≡_}
 use native.Mathlib.Decide.{ℕ-discrete}
 use native.Mathlib.Omega.{arith}
 use Prim.Native.Nat.{min, ℕ, _%_, _*_, _+_, _-_, _/_, _<_, _^_, _≤_}
@@ -12,12 +12,12 @@ use Rattle.meaning.specs.TypeSet.{bit}
 use Rattle.meaning.proofs.Lists.Gained.{gained, gained-bit, or-le, xor-equal}
 use Rattle.meaning.proofs.Lists.Lowest.{cleared}
 use Rattle.meaning.proofs.Lists.Places.{set-getD}
-use Rattle.worklist.specs.Table.{AddsOnly, Board, Cleared, InWord, Looked, Marked, Stacked, Table, Takes, board, mark}
+use Rattle.worklist.specs.Table.{AddsOnly, Cleared, InWord, Looked, Marked, Stacked, Table, Takes, board, mark}
 use Rattle.worklist.proofs.Marks.{cut, cut-other, cut-out, first-in, first-word, firstIn, in-word, joined}
 use Rattle.worklist.proofs.Marks.{joined-in, joined-more, joined-other, joined-word, low-small, mark-bit, mark-zero, same-word, zero-word}
 use Rattle.worklist.proofs.Stack.{has-room, stacked-pop, stacked-push, stacked-same}
 
--- ---- (n * 64) of a word are marked
+-- ---- numbers of a word are marked
 
 module _ {n : ℕ} {marked waiting stack : List ℕ} {top w : ℕ} (t : Table n (board marked waiting stack top)) (lt : w < n) (bits : ℕ) where
   in-marked : w < length marked
@@ -26,7 +26,7 @@ module _ {n : ℕ} {marked waiting stack : List ℕ} {top w : ℕ} (t : Table n 
   in-waiting : w < length waiting
   in-waiting = let a = t .stacked .long in omega arith
 
-  -- the (n * 64) that wait from now on
+  -- the numbers that wait from now on
   abbrev new : ℕ
   new = gained (getD marked w 0) bits
 
@@ -206,7 +206,7 @@ module _ {n : ℕ} {waiting stack : List ℕ} {top : ℕ} (d : Stacked n waiting
         which x h g (yes e) = record { word = e; is = mark-bit waiting x (getD stack (top - 1) 0) e ∙ h }
         which x h g (no n) = absurd (let y = same x n in omega arith)
 
--- ---- (n * 64) are cleared
+-- ---- numbers are cleared
 
 pub record Zeroed (i : ℕ) (table table′ : List ℕ) : Type 0 where
   pub long : length table′ ≡ length table

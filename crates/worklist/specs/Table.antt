@@ -18,6 +18,12 @@ pub record InWord (w bits x : ℕ) : Type 0 where
   pub word : x / 64 ≡ w
   pub is : bit (x % 64) bits ≡ 1
 
+-- R leads to y from one of them.
+pub record FromWord (w bits : ℕ) (R : ℕ → ℕ → Type 0) (y : ℕ) : Type 0 where
+  pub from : ℕ
+  pub is : InWord w bits from
+  pub leads : R from y
+
 unfoldable pub sum : (ℕ → ℕ) → ℕ → ℕ
 sum f zero = 0
 sum f (suc n) = f n + sum f n

@@ -4,7 +4,7 @@ ghost use lib.Dec.{eqb};
 ghost use lib.ListN.{length};
 ghost use mathlib.Core.Path.{_≡_};
 ghost use Prim.Native.Nat.{_*_, _-_, _/_, _<_, _≤_};
-ghost use Rattle.worklist.specs.Table.{AddsOnly, Board, Cleared, ForStacked, ForTable, InWord, SomeStacked, SomeTable, Takes, board, mark as marked};
+ghost use Rattle.worklist.specs.Table.{AddsOnly, Cleared, ForStacked, ForTable, InWord, SomeStacked, SomeTable, Takes, board, mark as marked};
 use meaning::WORD_BITS;
 
 // A number that was taken, and how many words are left on the stack.

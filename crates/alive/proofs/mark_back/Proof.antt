@@ -8,7 +8,7 @@ use native.Mathlib.Omega.{arith}
 use Prim.Native.Nat.{ℕ, _+_, _-_, _/_, _<_, _^_}
 use Rattle.alive.specs.Links.{Caused}
 use Rattle.alive.specs.Steps.{AllAlive, AllMarked}
-use Rattle.index.specs.Index.{ByObject}
+use Rattle.index.specs.Objects.{ByObject}
 use Rattle.meaning.specs.Limits.{nodeWords, stateWords}
 use Rattle.states.proofs.Numbers.{word-part}
 use Rattle.states.proofs.PartKinds.{part-ready}

@@ -1,7 +1,7 @@
 -- `answers::joined_pairs` meets its contract. Assumes nothing.
 use mathlib.Core.Path.{_∙_}
 use native.Mathlib.Omega.{arith}
-use Rattle.reached.proofs.Owning.{own-ready}
+use Rattle.forward.proofs.Owning.{own-ready}
 use Rattle.worklist.proofs.Stack.{stacked-fewer}
 use Rattle.answers.proofs.joined_pairs.Statement.{statement}
 use Rattle.answers.proofs.joined_pairs.Tie as tie

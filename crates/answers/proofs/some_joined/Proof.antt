@@ -1,6 +1,5 @@
 -- `answers::some_joined` meets its contract. Assumes nothing.
 use borrow.Author.Needs.{needs}
-use native.Mathlib.Omega.{arith}
 use Rattle.alive.proofs.Growing.{some-yes}
 use Rattle.answers.proofs.some_joined.Statement.{statement}
 use Rattle.answers.proofs.some_joined.Tie as tie

@@ -4,7 +4,7 @@ use lib.ListN.{getD, length}
 use mathlib.Core.Path.{_≡_}
 use native.Mathlib.Omega.{arith}
 use Prim.Native.Nat.{_-_, _≤_}
-use Rattle.core.specs.Keys.{originAt}
+use Rattle.spread.specs.Keys.{originAt}
 use Rattle.invent.specs.Invent.{Marks, NodeLacks, OfTable, Upto}
 use Rattle.invent.proofs.Marks.{upto-again, upto-start}
 use Rattle.core_lists.proofs.Origin.{next-subject, no-subject}

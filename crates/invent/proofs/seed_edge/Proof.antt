@@ -1,6 +1,6 @@
 -- `invent::seed_edge` meets its contract. Assumes nothing.
 use borrow.Author.Needs.{needs}
-use Rattle.core.specs.Keys.{originAt}
+use Rattle.spread.specs.Keys.{originAt}
 use Rattle.core_lists.proofs.Origin.{origin-none, origin-some}
 use Rattle.invent.proofs.Marks.{edge-missing, edge-there}
 use Rattle.invent.proofs.seed_edge.Statement.{statement}

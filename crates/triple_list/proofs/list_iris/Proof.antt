@@ -4,7 +4,7 @@ use lib.ListN.{getD, length}
 use mathlib.Core.Path.{_≡_}
 use native.Mathlib.Omega.{arith}
 use Prim.Native.Nat.{_+_, _*_, _-_, _≤_}
-use Rattle.core.specs.Keys.{originAt}
+use Rattle.spread.specs.Keys.{originAt}
 use Rattle.invent.specs.Invent.{OfTable, Upto}
 use Rattle.triple_list.specs.Triples.{RecordsListed, SubjectEdge}
 use Rattle.triple_list.proofs.EdgeLaws.{by-subject, iri-end, iri-room}

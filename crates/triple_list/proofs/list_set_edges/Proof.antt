@@ -1,7 +1,7 @@
 -- `triple_list::list_set_edges` meets its contract. Assumes nothing.
 use borrow.Author.Needs.{needs}
 use native.Mathlib.Omega.{arith}
-use Rattle.core.specs.Keys.{originAt}
+use Rattle.spread.specs.Keys.{originAt}
 use Rattle.triple_list.proofs.EdgeLaws.{node-none, node-some, none-of}
 use Rattle.core_lists.proofs.Origin.{keys-le}
 use Rattle.triple_list.proofs.list_set_edges.Statement.{statement}

@@ -3,7 +3,7 @@ use borrow.Author.Needs.{needs}
 use lib.Count.{trailing-le, trailingZeros}
 use lib.ListN.{length, length-set}
 use mathlib.Core.Logic.{⊎-elim}
-use mathlib.Core.Path.{_∙_, _≡_, refl}
+use mathlib.Core.Path.{_≡_, refl}
 use native.Mathlib.Omega.{arith}
 use Prim.Native.Nat.{_*_, _+_, _-_, _/_}
 use Rattle.reached.proofs.Listing.{Ends, endsAt, ends-add, ends-done, ends-over, ends-past, ends-skip, ends-start, first-small, first-there, none-before, none-there}

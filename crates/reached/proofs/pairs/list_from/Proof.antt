@@ -1,7 +1,6 @@
 -- `reached::pairs::list_from` meets its contract. Assumes nothing.
 use borrow.Author.Needs.{needs}
-use borrow.Author.Tests.{not-false, not-true}
-use mathlib.Core.Path.{_∙_}
+use borrow.Author.Tests.{not-true}
 use native.Mathlib.Omega.{arith}
 use Prim.Native.Nat.{_*_, _+_}
 use Rattle.meaning.specs.Limits.{namedWords}

@@ -4,8 +4,8 @@ use lib.ListN.{length}
 use mathlib.Core.Path.{refl, _∙_, _≡_}
 use native.Mathlib.Omega.{arith}
 use Rattle.meaning.specs.Limits.{seenWords}
-use Rattle.reached.proofs.Forward.{marked-state}
-use Rattle.reached.proofs.SeenNumbers.{mark-room}
+use Rattle.forward.proofs.Forward.{marked-state}
+use Rattle.forward.proofs.SeenNumbers.{mark-room}
 use Rattle.reached.proofs.Walking.{Walking, now-reached, walk-again, walk-done, walk-start}
 use Rattle.states.specs.Lists.{lists}
 use Rattle.worklist.proofs.Growth.{nothing-marked, turn-left, turn-table}

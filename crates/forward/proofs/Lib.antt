@@ -1,0 +1,4 @@
+pub mod SeenNumbers
+pub mod Owning
+pub mod Forward
+pub mod Stepping
