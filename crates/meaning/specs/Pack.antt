@@ -1,7 +1,7 @@
 -- The decoded pack: what its nine bodies say (document 01, "The pack"). Numbers are those of the records' fields, texts are
 -- lists of bytes. Everything but the rows is the setting. Assumes nothing.
 use Rattle.std.specs.Prelude.{List, [], ◌∷◌, Bool, true, false, ◌≡◌, ℕ}
-use Rattle.std.proofs.Math.Logic.{Dec·and}
+use Rattle.std.proofs.Math.Logic.Dec.{and as dec_and}
 use Rattle.std.proofs.Math.Option.{Option, none, some}
 use Rattle.std.proofs.Math.Decide.{ℕ_discrete}
 
@@ -114,9 +114,9 @@ first_shape (yes q) s o = some s
 first_shape (no n) s o = o
 
 unfoldable pub shape_in : List ShapeRecord → ℕ → ℕ → Option Shape
-unfolding Dec·and first_shape ℕ_discrete
+unfolding dec_and first_shape ℕ_discrete
 shape_in [] t p = none
-shape_in (r ∷ rs) t p = first_shape (Dec·and (ℕ_discrete t r.owner) (ℕ_discrete p r.predicate)) r.shape (shape_in rs t p)
+shape_in (r ∷ rs) t p = first_shape (dec_and (ℕ_discrete t r.owner) (ℕ_discrete p r.predicate)) r.shape (shape_in rs t p)
 
 -- Type t's shape for p. (Two shapes that share type and predicate are refusal 5, so the first is the only one.)
 unfoldable pub shape_of : Setting → ℕ → ℕ → Option Shape

@@ -58,5 +58,6 @@ pub bytes_known : (s : List ℕ) → ((k : ℕ) → get_or s k 0 < 256) → AllB
 bytes_known s small = record { each = go s small }
   where
     go : (s : List ℕ) → ((k : ℕ) → get_or s k 0 < 256) → (x : ℕ) → x ∈ s → x < 256
+    go [] h x x4 = elim x4 [ ]
     go (y ∷ ys) h x (here e) = let z = h 0 in omega (arith, e)
     go (y ∷ ys) h x (there m) = go ys (λ k. h (suc k)) x m

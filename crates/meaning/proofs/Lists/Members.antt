@@ -259,6 +259,7 @@ module _ {A : Type 0} where
 
 -- two functions that map a list to one list agree at each element
 pub map_each : {A B : Type 0} (f g : A → B) (xs : List A) → map f xs ≡ map g xs → (x : A) → x ∈ xs → f x ≡ g x
+map_each {A = A} {B = B} f g [] e y x3 = elim x3 [ ]
 map_each f g (x ∷ xs) e y (here p) = let h : f x ≡ g x = cc in ap f p ∙ h ∙ ap g (sym p)
 map_each f g (x ∷ xs) e y (there m) = let t : map f xs ≡ map g xs = cc in map_each f g xs t y m
 

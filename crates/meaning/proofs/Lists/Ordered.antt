@@ -28,6 +28,9 @@ pub ≺_trans : {xs ys zs : List ℕ} → xs ≺ ys → ys ≺ zs → xs ≺ zs
 
 -- with the same numbers behind
 pub take_less : (n : ℕ) (vs ws r : List ℕ) → vs ≺ ws → length vs ≡ length ws → length vs ≤ n → take n (vs ++ r) ≺ take n (ws ++ r)
+take_less n [] [] r h e l = elim h [ ]
+take_less zero (v ∷ vs) [] r h e l = elim h [ ]
+take_less (suc n) (v ∷ vs) [] r h e l = elim h [ ]
 take_less n [] (w ∷ ws) r h e l = absurd (let z : ⊥ = omega arith in z)
 take_less zero (v ∷ vs) (w ∷ ws) r h e l = absurd (not-suc-le-zero l)
 take_less (suc n) (v ∷ vs) (w ∷ ws) r (less h) e l = less h
@@ -35,6 +38,7 @@ take_less (suc n) (v ∷ vs) (w ∷ ws) r (equal q h) e l = equal q (take_less n
 
 pub first_rises : (r s : List ℕ) → 0 < length r → r ≺ s → get_or r 0 0 ≤ get_or s 0 0
 first_rises [] s l h = absurd (omega arith)
+first_rises (x ∷ r) [] l h = elim h [ ]
 first_rises (x ∷ r) (y ∷ s) l (less h) = omega arith
 first_rises (x ∷ r) (y ∷ s) l (equal e h) = omega arith
 

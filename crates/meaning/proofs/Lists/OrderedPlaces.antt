@@ -49,6 +49,7 @@ next_le (z ∷ zs) (before f a) zero x y e (here q) l = absurd (let r = some-inj
 next_le (z ∷ zs) (before f a) zero x y e (there m) l = first zs a m f
   where
     first : (ws : List ℕ) → InOrder ◌<◌ ws → y ∈ ws → ((w : ℕ) → w ∈ ws → z < w) → (suc 0 < suc (length ws)) × (x < get_or ws 0 0) × (get_or ws 0 0 ≤ y)
+    first [] b x16 g = elim x16 [ ]
     first (w ∷ ws) b (here q) g = let r = some-injective z x e in (omega arith, omega arith, omega arith)
     first (w ∷ ws) (before p b) (there n) g = let r = some-injective z x e in let h = g w (here refl) in let k = p y n in (omega arith, omega arith, omega arith)
 next_le (z ∷ zs) (before f a) (suc i) x y e (here q) l = absurd (let h = f x (element zs i x e) in let w : ⊥ = omega arith in w)

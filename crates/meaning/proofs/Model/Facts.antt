@@ -96,11 +96,13 @@ module _ (σ : Assignment) where
 
   pairs_have : (vs : List ℕ) (v : ℕ) → v ∈ vs → (v, σ v) ∈ pairs vs (map σ vs)
   unfolding pairs
+  pairs_have [] v x' = elim x' [ ]
   pairs_have (w ∷ vs) v (here e) = here (λ i. (e i, σ (e i)))
   pairs_have (w ∷ vs) v (there h) = there (pairs_have vs v h)
 
   cells_have : (atoms : List Atom) (a : Atom) (v : ℕ) → a ∈ atoms → v ∈ a.variables → (v, σ v) ∈ cells_at atoms (map (row_of σ) atoms)
   unfolding cells_at
+  cells_have [] a v x'' h = elim x'' [ ]
   cells_have (b ∷ more) a v (here e) h =
       ∈_append (pairs b.variables (map σ b.variables)) _ (inl (pairs_have b.variables v (subst (λ x. v ∈ x.variables) e h)))
   cells_have (b ∷ more) a v (there i) h = ∈_append (pairs b.variables (map σ b.variables)) _ (inr (cells_have more a v i h))

@@ -22,6 +22,10 @@ module _ (P : Pack) where
       x.are ∙ ap (λ k. kind b ∷ number b ∷ k ∷ arguments b) m ∙ sym y.are
 
   records_unique : (nodes : List BuiltNode) (rs ss : List (List ℕ)) → Forall₂ (NodeRecord P) nodes rs → Forall₂ (NodeRecord P) nodes ss → rs ≡ ss
+  records_unique [] [] (s ∷ ss) _ x7 = elim x7 [ ]
+  records_unique [] (r ∷ rs) ss x5 _ = elim x5 [ ]
+  records_unique (b ∷ bs) [] ss x5 _ = elim x5 [ ]
+  records_unique (b ∷ bs) (r ∷ rs) [] _ x9 = elim x9 [ ]
   records_unique [] [] [] Forall₂.nil Forall₂.nil = refl
   records_unique (b ∷ bs) (r ∷ rs) (s ∷ ss) (Forall₂.cons x xs) (Forall₂.cons y ys) =
       λ i. record_unique b r s x y i ∷ records_unique bs rs ss xs ys i
