@@ -1,5 +1,7 @@
 // The states of a query over a graph in number lists from which the end is reached, found backward from the ends, a word of
 // states at a time.
+#![tactic(auto)]
+
 mod links; // the parts that each part can make alive
 
 ghost use Rattle.std.specs.Prelude.{length, ◌*◌, ◌-◌, ◌<◌, ◌≤◌};

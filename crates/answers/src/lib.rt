@@ -1,4 +1,6 @@
 // A query's answers over a graph in number lists: yes or no by the states that are alive, pairs by a walk from each start.
+#![tactic(auto)]
+
 ghost use Rattle.answers.specs.Ready.{PairsReady, YesReady};
 ghost use Rattle.reached.specs.Walked.{PairsAre};
 ghost use Rattle.states.specs.Lists.{lists};

@@ -1,4 +1,6 @@
 // The states from which a step leads to one of a word, a word at a time where nodes do not change.
+#![tactic(auto)]
+
 ghost use Rattle.std.specs.Prelude.{get_or, length, ◌≡◌, ◌/◌, ◌<◌, ◌≤◌};
 ghost use Rattle.backward.specs.Steps.{LeafBack, PartBack, Range, Ranges, SubjectAt, SubjectOn, SubjectTo, Turned};
 ghost use Rattle.meaning.specs.Limits.{max_nodes, max_parts, max_predicates, node_words, state_words};

@@ -1,4 +1,6 @@
 // Build, an open call: from a pack to its graph.
+#![tactic(auto)]
+
 ghost use Rattle.build.specs.Answer.{BuildAnswers};
 ghost use Rattle.calls.specs.Call.{lent};
 

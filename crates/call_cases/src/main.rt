@@ -4,6 +4,8 @@
 // Standard input has a pack after another. A pack: lengths of its title, of the pack (three bytes) and number of its queries
 // (two bytes), lowest byte first; how much is lent for build (src/calls.rt); title; pack; queries. A query: how much is lent,
 // length (two bytes), text.
+#![tactic(auto)]
+
 mod calls; // the calls
 mod held; // what lists and buffers hold
 mod outcome; // what is written of a call

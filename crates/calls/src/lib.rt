@@ -1,4 +1,6 @@
 // What every open call does with the lists and working buffers that it is lent: in specs/, and the test for 1.
+#![tactic(auto)]
+
 ghost use Rattle.std.specs.Prelude.{T, length, ◌↔◌, ◌≡◌, ◌≤◌};
 ghost use Rattle.calls.specs.Call.{Each₂};
 

@@ -1,6 +1,8 @@
 // Cases of packs and of read-back that are compared, not proved: the sample, damaged packs for every refusal from 3 to 8,
 // and texts. Standard input has a case after another: two 16-bit lengths, lowest byte first, then a pack and a text. For
 // each the program writes the first refusal of the pack from 3 to 8, or 0, and what read-back answers.
+#![tactic(auto)]
+
 ghost use Rattle.std.specs.Prelude.{◌≤◌, ◌+◌};
 
 use checks::check;

@@ -1,5 +1,7 @@
 // The program certain: reads the pack from catalogue.pack and the query from standard input, and prints whether the query is
 // certain, how many certain pairs it has, and the pairs, spelled.
+#![tactic(auto)]
+
 mod input; // the pack and the query
 mod spelled; // nodes, spelled
 

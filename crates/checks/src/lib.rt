@@ -1,4 +1,6 @@
 // The check of a pack, refusals 3 to 7 in checking order: its records are loaded as numbers, once, and looked at there.
+#![tactic(auto)]
+
 ghost use Rattle.std.specs.Prelude.{length, ◌≤◌, ◌≡◌};
 ghost use Rattle.checks.specs.Checked.{CheckedAs};
 ghost use Rattle.meaning.specs.Limits.{rows_length, setting_length};

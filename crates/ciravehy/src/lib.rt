@@ -1,4 +1,6 @@
 // The four open calls, exported for C and whatever calls C: numbers, slices and one array in the place of an answer's struct.
+#![tactic(auto)]
+
 ghost use Rattle.calls.specs.Call.{lent};
 ghost use Rattle.ciravehy.specs.Exported.{Builds, Decides, Finds, Reads};
 

@@ -1,4 +1,6 @@
 // Refusal 10: a node with two p-objects and a type that allows one.
+#![tactic(auto)]
+
 ghost use Rattle.std.specs.Prelude.{get_or, length, ◌+◌, ◌<◌, ◌≤◌};
 ghost use Rattle.spread.specs.Keys.{predicate_of, subject_of};
 ghost use Rattle.clash.specs.Clash.{ClashRecorded, ClashShown, Clashes};

@@ -1,4 +1,6 @@
 // From a pack's bytes to its graph: its records are loaded as numbers and checked, and the graph is built from the numbers.
+#![tactic(auto)]
+
 ghost use Rattle.std.specs.Prelude.{◌≡◌, ◌≤◌, length};
 ghost use Rattle.calls.specs.Call.{lent};
 ghost use Rattle.construct.specs.Loaded.{LoadedIf};

@@ -1,4 +1,6 @@
 // The core of a pack, in lent slices: its nodes and triples as ordered sets of keys, and its types as masks.
+#![tactic(auto)]
+
 ghost use Rattle.core_graph.specs.Prelude.{◌≡◌, length};
 ghost use Rattle.meaning.specs.Limits.{max_core_nodes, max_core_triples};
 ghost use Rattle.sets.specs.Buffers.{zeros};

@@ -1,4 +1,6 @@
 // Refusal 8 on loaded rows: rows break a dependency. A row's left columns, and its right ones, are compared as one number.
+#![tactic(auto)]
+
 ghost use Rattle.std.specs.Prelude.{not, ◌&&◌, ◌≡◌, ◌+◌, ◌≤◌, eqb, length, take};
 ghost use Rattle.std.proofs.Math.Seq.{slice};
 ghost use Rattle.meaning.specs.Limits.{max_columns, max_rows, rows_length};

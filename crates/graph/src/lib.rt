@@ -1,4 +1,6 @@
 // The pack's graph as records in the two lists, or that it has none.
+#![tactic(auto)]
+
 ghost use Rattle.std.specs.Prelude.{length, ◌≤◌};
 ghost use Rattle.graph.specs.Build.{BuildShown};
 ghost use Rattle.core_lists.specs.Input.{KeysSmall, CoreFits};

@@ -1,4 +1,6 @@
 // The sets of the invented nodes, as bits by set number: those that the core leads to, and what follows from each.
+#![tactic(auto)]
+
 ghost use Rattle.std.specs.Prelude.{replicate, ◌≡◌, ℕ, ◌+◌, ◌<◌};
 ghost use Rattle.spread.specs.Keys.{origin_at};
 ghost use Rattle.core_lists.specs.Input.{CoreFits};

@@ -1,4 +1,6 @@
 // A pack's records as numbers, body by body; refusal 4 where a body is not whole, or over its limit.
+#![tactic(auto)]
+
 ghost use Rattle.std.specs.Prelude.{length, false, ◌≡◌, ◌*◌, ◌≤◌, ◌<◌};
 ghost use Rattle.load.specs.Loaded.{BodyShown, PackShown, PartShown, BodyRoom};
 ghost use Rattle.meaning.specs.Limits.{bodies, max_pack_bytes, rows_length, setting_length};

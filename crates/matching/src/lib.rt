@@ -1,4 +1,6 @@
 // Matching: the keys of a rule's heads over all matches of its atoms.
+#![tactic(auto)]
+
 mod keys; // a head's key under bindings
 mod spans; // the candidate rows that bindings leave
 mod binding; // an atom's variables bound to a candidate row

@@ -1,5 +1,7 @@
 // The limits of documents 01 and 02 as code names them (specs/Limits.antt has them for the definitions), and the two tests on a
 // multiplicity.
+#![tactic(auto)]
+
 ghost use Rattle.meaning.specs.Pack.{AnswersTest, requires, limits};
 
 pub const MAX_PACK_BYTES: usize = 65536;

@@ -1,4 +1,6 @@
 // Refusal 11: a literal with a type, an IRI with Literal, an invented node with both.
+#![tactic(auto)]
+
 ghost use Rattle.std.specs.Prelude.{T, length, ◌↔◌, ◌≡◌, ◌≤◌};
 ghost use Rattle.mixed.specs.Mixed.{mixed_node, MixedCore, MixedFlags, MixedShown};
 ghost use Rattle.meaning.specs.Limits.{set_words};

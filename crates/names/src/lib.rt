@@ -1,5 +1,7 @@
 // Refusal 7 on a pack's numbers: a number names no record or column, a count differs from the arity, or a head variable is in no
 // atom.
+#![tactic(auto)]
+
 ghost use Rattle.std.specs.Prelude.{◌≡◌};
 ghost use Rattle.meaning.specs.WellFormed.{dangling};
 ghost use Rattle.names.specs.PackGiven.{ForPack, IsPack};

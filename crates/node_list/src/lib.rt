@@ -1,4 +1,6 @@
 // Node records, written into a lent slice.
+#![tactic(auto)]
+
 ghost use Rattle.std.specs.Prelude.{◌≡◌, ◌+◌, ◌*◌, ◌<◌, ◌≤◌, [], ◌∷◌, map, length, count_ones};
 ghost use mathlib.Core.List.{flatten};
 ghost use Rattle.core_lists.specs.Input.{KeysSmall};

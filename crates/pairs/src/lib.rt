@@ -1,4 +1,6 @@
 // Pairs, an open call: the pairs of named nodes that a query joins in every finite graph that obeys a pack.
+#![tactic(auto)]
+
 ghost use Rattle.calls.specs.Call.{Zero, lent};
 ghost use Rattle.pair_list.specs.Written.{TableRoom};
 ghost use Rattle.pairs.specs.Answer.{PairsAnswers, buffers};

@@ -1,5 +1,7 @@
 // What every call with a query does first: it reads the query, builds the graph of the pack, and resolves the query's names
 // and labels.
+#![tactic(auto)]
+
 ghost use Rattle.std.specs.Prelude.{length, ◌≤◌};
 ghost use Rattle.calls.specs.Call.{lent};
 ghost use Rattle.meaning.specs.Limits.{heads_length, index_length, max_parts, max_query_bytes, node_list_length, rows_length, triple_list_length};

@@ -1,4 +1,6 @@
 // The query reader: a text becomes the parts of its expression, or refusal 2 (document 01, "The query").
+#![tactic(auto)]
+
 pub mod kinds;
 mod leaves;
 mod marks;

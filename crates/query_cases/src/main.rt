@@ -2,6 +2,8 @@
 // program writes what the reader says of it, how many parts its expression has or `refused 2`, and the text again. Texts
 // that a line can't hold stand here. The last three lines say which bytes are read by themselves, after a letter and
 // between two letters.
+#![tactic(auto)]
+
 ghost use Rattle.std.specs.Prelude.{length, ◌≤◌, ◌<◌};
 
 use query::{Query, read_query};

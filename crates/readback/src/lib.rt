@@ -1,4 +1,6 @@
 // Read-back, an open call: from an IRI's text to its constructor and values.
+#![tactic(auto)]
+
 ghost use Rattle.std.specs.Prelude.{◌≡◌};
 ghost use Rattle.readback.specs.Answer.{ReadBackAnswers, unread_as, read};
 

@@ -1,4 +1,6 @@
 // An answer as an array of numbers, for callers in other languages.
+#![tactic(auto)]
+
 ghost use Rattle.std.specs.Prelude.{◌∷◌, ◌≡◌, ◌<◌};
 ghost use Rattle.report.specs.Report.{number, reported};
 

@@ -1,5 +1,7 @@
 // The names and labels of a query, resolved against a pack whose setting is loaded and its node list (document 01, "The
 // query").
+#![tactic(auto)]
+
 mod labels;
 mod predicates;
 mod search;

@@ -3,6 +3,8 @@
 //
 // Standard input has a pack after another. A pack: length of its title (one byte) and of the pack (three bytes, the lowest first);
 // title; pack.
+#![tactic(auto)]
+
 mod count; // the rounds of a pack
 
 ghost use Rattle.core_graph.specs.Prelude.{◌≤◌, length};

@@ -1,4 +1,6 @@
 // The keys of all rules' heads, each rule's in its part of a lent slice.
+#![tactic(auto)]
+
 ghost use Rattle.names.specs.PackGiven.{ForResolved, IsResolved};
 ghost use Rattle.std.specs.Prelude.{◌≡◌, ◌≤◌, length, take, drop};
 ghost use Rattle.matching.specs.Rule.{ListedOrOver};

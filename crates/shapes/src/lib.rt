@@ -1,5 +1,7 @@
 // What a type set's shapes say of a predicate. A cell of the shape table is a target code and a multiplicity, 0 for no shape.
 // "The members of a type set are taken from the lowest number upward."
+#![tactic(auto)]
+
 ghost use Rattle.std.specs.Prelude.{◌<◌};
 ghost use Rattle.meaning.specs.Limits.{max_predicates};
 ghost use Rattle.meaning.specs.Pack.{limits as Limits};

@@ -1,4 +1,6 @@
 // Types passed along the core's triples until none is added.
+#![tactic(auto)]
+
 ghost use Rattle.std.specs.Prelude.{length, true, ◌≡◌, ◌<◌, ◌≤◌};
 ghost use Rattle.meaning.specs.Limits.{max_core_nodes, max_core_triples};
 ghost use Rattle.sets.specs.Progress.{Progress};

@@ -1,4 +1,6 @@
 // A graph and a query in number lists, as walks take them; a state is a part of the query, or its end, and a node.
+#![tactic(auto)]
+
 ghost use Rattle.std.specs.Prelude.{◌≡◌};
 ghost use Rattle.states.specs.Parts.{takes};
 

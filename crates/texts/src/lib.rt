@@ -1,4 +1,6 @@
 // Refusals 5 and 6 on loaded records: those of one body are compared two by two, texts at their places in the bytes.
+#![tactic(auto)]
+
 mod compare; // texts at their places
 
 ghost use Rattle.std.specs.Prelude.{◌≡◌, ◌<◌};

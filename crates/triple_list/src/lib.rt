@@ -1,4 +1,6 @@
 // Triple records, written into a lent slice.
+#![tactic(auto)]
+
 ghost use Rattle.std.specs.Prelude.{length, [], ◌∷◌, ◌≡◌, ℕ, min, ◌+◌, ◌*◌, ◌<◌, ◌≤◌};
 ghost use Rattle.spread.specs.Keys.{origin_at};
 ghost use Rattle.core_lists.specs.Input.{CoreFits};

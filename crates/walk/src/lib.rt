@@ -1,4 +1,6 @@
 // Threading a query's parts: what is to be done after each.
+#![tactic(auto)]
+
 ghost use Rattle.walk.specs.Parts.{part_of, listed, Threaded};
 ghost use Rattle.walk.specs.Threading.{PartAmong, PartLinked, Threadable};
 

@@ -1,5 +1,7 @@
 // A set of numbers as bits in words of 64: which are marked, and which of these wait to be looked at. The words in which some
 // wait are on a stack, each once.
+#![tactic(auto)]
+
 ghost use Rattle.std.specs.Prelude.{eqb, length, ◌≡◌, ◌*◌, ◌-◌, ◌/◌, ◌<◌, ◌≤◌};
 ghost use Rattle.worklist.specs.Table.{AddsOnly, Cleared, ForStacked, ForTable, InWord, SomeStacked, SomeTable, Takes, board, mark as marked};
 

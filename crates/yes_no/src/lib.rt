@@ -1,4 +1,6 @@
 // Yes/no, an open call: whether a query is satisfied in every finite graph that obeys a pack.
+#![tactic(auto)]
+
 ghost use Rattle.calls.specs.Call.{lent};
 ghost use Rattle.yes_no.specs.Answer.{YesNoAnswers};
 ghost use Rattle.yes_no.specs.Inner.{Comes, Room};
