@@ -1,6 +1,6 @@
 -- What build answers and leaves (document 01, "Refused, in checking order": build uses 1 and 3 to 11). Assumes nothing.
 use Rattle.std.specs.Prelude.{List, [], ◌∷◌}
-use Rattle.calls.specs.Call.{Call, Contents, Lent, ◌at-least◌}
+use Rattle.calls.specs.Call.{Call, Contents, Lent, ◌at_least◌}
 use Rattle.construct.specs.Outcome.{Gives, Refuses, refused_as}
 use Rattle.construct.specs.declared.Constructed.{Constructed}
 use Rattle.graph.specs.Fronts.{graph_lists}
@@ -9,7 +9,7 @@ use Rattle.meaning.specs.Pack.{Text}
 
 -- the working buffers
 abbrev pub buffers : Contents → Contents → List Lent
-buffers rows heads = rows at_least_lem rows_length ∷ heads at_least_lem heads_length ∷ []
+buffers rows heads = rows at_least rows_length ∷ heads at_least heads_length ∷ []
 
 -- 1, 3 to 11, or the graph
 abbrev pub BuildAnswers : Text → Constructed → Contents → Contents → Contents → Contents → Contents → Type 0

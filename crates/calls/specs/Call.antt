@@ -29,9 +29,9 @@ pub record Lent : Type 0 where
   pub before : List ℕ
   pub after : List ℕ
 
-infix 80 ◌at-least◌
-abbrev pub ◌at-least◌ : Contents → ℕ → Lent
-c at_least_lem n = record { least = n; before = c.before; after = c.after }
+infix 80 ◌at_least◌
+abbrev pub ◌at_least◌ : Contents → ℕ → Lent
+c at_least n = record { least = n; before = c.before; after = c.after }
 
 -- ---- of each of a list; of each two, and as many of the one as of the other
 

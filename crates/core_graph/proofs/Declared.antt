@@ -1,6 +1,6 @@
 -- What refusal 7 leaves true besides Model.Resolved: a triple's predicate and a shape's owner are among the pack's. Assumes
 -- nothing.
-use Rattle.core_graph.specs.Prelude.{◌≡◌, ℕ, ◌<◌, Bool, true, false, not, ◌&&◌, T, List, [], ◌∷◌, length}
+use Rattle.std.specs.Prelude.{◌≡◌, ℕ, ◌<◌, Bool, true, false, not, ◌&&◌, T, List, [], ◌∷◌, length}
 use lib.Dec.{ltb→lt}
 use mathlib.Core.Path.{sym, subst}
 use native.Mathlib.Omega.{arith}

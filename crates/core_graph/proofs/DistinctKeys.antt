@@ -1,6 +1,6 @@
 -- The core's nodes are the pack's constructors over its values, and its values: of these no two have one key. Assumes
 -- nothing.
-use Rattle.core_graph.specs.Prelude.{◌≡◌, ℕ, ◌+◌, ◌-◌, ◌*◌, ◌^◌, ◌<◌, ◌≤◌, List, map, length}
+use Rattle.std.specs.Prelude.{◌≡◌, ℕ, ◌+◌, ◌-◌, ◌*◌, ◌^◌, ◌<◌, ◌≤◌, List, map, length}
 use lib.ListN.{get_elem?, length-map}
 use mathlib.Core.Logic.{inl, inr}
 use mathlib.Core.Option.{some, some-injective}
@@ -9,7 +9,7 @@ use native.Mathlib.Omega.{arith}
 use Rattle.core_graph.proofs.NodeSources.{Fine, bytes_of, core_in, fine}
 use Rattle.core_graph.proofs.Packed.{Bytes, packed_injective, packed_lt, packed_padded}
 use Rattle.core_graph.proofs.Powers.{padded_lt, up_to_four}
-use Rattle.core_graph.specs.Range.Bound.{Bounded}
+use Rattle.core.specs.Range.Bound.{Bounded}
 use Rattle.spread.specs.Keys.{key_of}
 use Rattle.meaning.proofs.Lists.Members.{∈_append}
 use Rattle.meaning.proofs.Lists.Places.{inside}

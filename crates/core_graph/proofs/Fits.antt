@@ -1,5 +1,5 @@
 -- The heads that code holds of a bounded pack are within the bounds. Assumes nothing.
-use Rattle.core_graph.specs.Prelude.{◌≡◌, ℕ, ◌+◌, ◌*◌, ◌^◌, ◌<◌, ◌≤◌, List, [], ◌∷◌, map, length, get_or}
+use Rattle.std.specs.Prelude.{◌≡◌, ℕ, ◌+◌, ◌*◌, ◌^◌, ◌<◌, ◌≤◌, List, [], ◌∷◌, map, length, get_or}
 use lib.ListN.{length-map, length-append}
 use mathlib.Core.List.Memᴰ
 use mathlib.Core.Logic.{inl, ⊎_elim}
@@ -8,7 +8,7 @@ use native.Mathlib.Omega.{arith}
 use Rattle.core_graph.proofs.Declared.{head_predicate}
 use Rattle.core_graph.proofs.NodeSources.{Fine, bytes_of, fine}
 use Rattle.core_graph.proofs.Packed.{packed_lt}
-use Rattle.core_graph.specs.Range.Bound.{Bounded, HeadFits, HeadsFit, KeyFits}
+use Rattle.core.specs.Range.Bound.{Bounded, HeadFits, HeadsFit, KeyFits}
 use Rattle.core_graph.specs.Heads.{HeadsHeld, keys_of}
 use Rattle.meaning.proofs.Lists.Members.{element, ∈_append}
 use Rattle.meaning.proofs.Lists.Places.{inside, there_is}

@@ -1,6 +1,6 @@
 -- Numbers added to an ordered set in a slice, one after another: the set holds those of one step and then those of the
 -- next, or is too large. Assumes nothing.
-use Rattle.core_graph.specs.Prelude.{◌≡◌, ℕ, ◌+◌, ◌<◌, ◌≤◌, ◌⊎◌, ◌↔◌, List, [], length, get_or, take}
+use Rattle.std.specs.Prelude.{◌≡◌, ℕ, ◌+◌, ◌<◌, ◌≤◌, ◌⊎◌, ◌↔◌, List, [], length, get_or, take}
 use lib.ListN.{length-take}
 use mathlib.Core.Logic.{inl, inr, ⊎_swap}
 use mathlib.Core.Path.{refl, subst}

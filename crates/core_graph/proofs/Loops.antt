@@ -1,6 +1,6 @@
 -- The loops that add what each match gives to an ordered set: over one rule's matches, and over the rules. How they start,
 -- go on, break off and end. Assumes nothing.
-use Rattle.core_graph.specs.Prelude.{◌≡◌, ℕ, ◌+◌, ◌<◌, ◌≤◌, ◌⊎◌, List, [], length, get_or, take}
+use Rattle.std.specs.Prelude.{◌≡◌, ℕ, ◌+◌, ◌<◌, ◌≤◌, ◌⊎◌, List, [], length, get_or, take}
 use lib.Seq.{take_all}
 use mathlib.Core.Logic.{inl, inr}
 use mathlib.Core.Path.{refl, ◌∙◌, subst}

@@ -1,6 +1,6 @@
 -- Types marked in masks, match by match and rule by rule. Assumes nothing.
 use lib.Bits.{bit_or}
-use Rattle.core_graph.specs.Prelude.{◌≡◌, ℕ, ◌+◌, ◌^◌, ◌<◌, ◌≤◌, ◌⊎◌, ◌↔◌, List, [], length, get_or, take, set}
+use Rattle.std.specs.Prelude.{◌≡◌, ℕ, ◌+◌, ◌^◌, ◌<◌, ◌≤◌, ◌⊎◌, ◌↔◌, List, [], length, get_or, take, set}
 use lib.Seq.{get_or-set_same, get_or-set_other, take_all}
 use mathlib.Core.Logic.{inl, inr}
 use mathlib.Core.Path.{refl, sym, ◌∙◌, subst}

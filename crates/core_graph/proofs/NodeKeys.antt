@@ -1,6 +1,6 @@
 -- The node keys of one match: the subject's alone, or the subject's and the object's. Assumes nothing.
 use borrow.Author.Tests.{eq-eqb, ne_eqb}
-use Rattle.core_graph.specs.Prelude.{◌≡◌, ℕ, ◌⊎◌, ◌↔◌, List, [], ◌∷◌, length, take}
+use Rattle.std.specs.Prelude.{◌≡◌, ℕ, ◌⊎◌, ◌↔◌, List, [], ◌∷◌, length, take}
 use mathlib.Core.List.Memᴰ
 use mathlib.Core.Logic.{inl, inr}
 use Rattle.core_graph.proofs.Growing.{beyond_as}

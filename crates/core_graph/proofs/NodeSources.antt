@@ -1,5 +1,5 @@
 -- The node keys of all heads are the keys of the core's nodes. Assumes nothing.
-use Rattle.core_graph.specs.Prelude.{◌≡◌, ℕ, ◌<◌, ◌≤◌, ◌↔◌, List, [], ◌∷◌, map, length}
+use Rattle.std.specs.Prelude.{◌≡◌, ℕ, ◌<◌, ◌≤◌, ◌↔◌, List, [], ◌∷◌, map, length}
 use mathlib.Core.List.Memᴰ.{map as ∈-map}
 use mathlib.Core.Logic.{inr}
 use mathlib.Core.Path.{refl, sym, ap, ap₂, ◌∙◌, subst}
@@ -7,7 +7,7 @@ use native.Mathlib.Omega.{arith}
 use Rattle.core_graph.proofs.NodeKeys.{keys_of_link, keys_of_type}
 use Rattle.core_graph.proofs.Packed.{Bytes}
 use Rattle.core_graph.proofs.Sources.{Source, link_object, link_subject, type_subject, value_object, value_subject}
-use Rattle.core_graph.specs.Range.Bound.{Bounded}
+use Rattle.core.specs.Range.Bound.{Bounded}
 use Rattle.core_graph.specs.Collected.{node_keys}
 use Rattle.core_graph.specs.CoreHeld.{NodeKey}
 use Rattle.spread.specs.Keys.{key_of}

@@ -1,7 +1,7 @@
 -- Bytes packed into one number: two lists after each other, the bound, the list read back, zeros put behind. Assumes
 -- nothing.
 use lib.Arith.{digits_div, digits_mod}
-use Rattle.core_graph.specs.Prelude.{◌≡◌, ℕ, suc, ◌+◌, ◌-◌, ◌*◌, ◌/◌, ◌%◌, ◌^◌, ◌<◌, ◌≤◌, List, [], ◌∷◌, ◌++◌, length, take, replicate}
+use Rattle.std.specs.Prelude.{◌≡◌, ℕ, suc, ◌+◌, ◌-◌, ◌*◌, ◌/◌, ◌%◌, ◌^◌, ◌<◌, ◌≤◌, List, [], ◌∷◌, ◌++◌, length, take, replicate}
 use mathlib.Core.List.{foldl, foldl-append}
 use mathlib.Core.Path.{refl, ap, ◌∙◌}
 use native.Mathlib.Nat.{add-mul, mul_assoc, mul-le-mul_right, pow-succ'}

@@ -1,12 +1,12 @@
 -- What the passes answer, from what they added. Assumes nothing.
-use Rattle.core_graph.specs.Prelude.{◌≡◌, ℕ, ◌+◌, ◌<◌, ◌≤◌, ◌⊎◌, ◌↔◌, List, [], take}
+use Rattle.std.specs.Prelude.{◌≡◌, ℕ, ◌+◌, ◌<◌, ◌≤◌, ◌⊎◌, ◌↔◌, List, [], take}
 use mathlib.Core.Logic.Iff
 use mathlib.Core.Logic.{inr}
 use native.Mathlib.Omega.{arith}
 use Rattle.core_graph.proofs.Iris.{iris_over, iris_within, many_over}
 use Rattle.core_graph.proofs.NodeSources.{node_sources}
 use Rattle.core_graph.proofs.Sources.{sources}
-use Rattle.core_graph.specs.Range.Bound.{Bounded}
+use Rattle.core.specs.Range.Bound.{Bounded}
 use Rattle.core_graph.specs.Collected.{Beyond, FromRules, SetGrown, node_keys}
 use Rattle.core_graph.specs.Heads.{HeadsHeld}
 use Rattle.core_graph.specs.CoreHeld.{NodeKey}

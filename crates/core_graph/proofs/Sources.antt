@@ -1,5 +1,5 @@
 -- What the heads' numbers give is what the pack's rules give. Assumes nothing.
-use Rattle.core_graph.specs.Prelude.{◌≡◌, ℕ, ◌+◌, ◌-◌, ◌*◌, ◌/◌, ◌%◌, ◌^◌, ◌<◌, ◌≤◌, ◌↔◌, List, [], ◌∷◌, ◌++◌, map, length}
+use Rattle.std.specs.Prelude.{◌≡◌, ℕ, ◌+◌, ◌-◌, ◌*◌, ◌/◌, ◌%◌, ◌^◌, ◌<◌, ◌≤◌, ◌↔◌, List, [], ◌∷◌, ◌++◌, map, length}
 use lib.ListN.{length-map}
 use mathlib.Core.List.{map-append}
 use mathlib.Core.Path.{refl, ap, ◌∙◌}

@@ -1,6 +1,6 @@
 -- The core has over 1,024 triples exactly if they have so many keys. Assumes nothing.
 use Rattle.meaning.specs.Tables.{head_numbers}
-use Rattle.core_graph.specs.Prelude.{◌≡◌, ℕ, ◌<◌, ◌≤◌, ◌⊎◌, ◌↔◌, List, [], length, take}
+use Rattle.std.specs.Prelude.{◌≡◌, ℕ, ◌<◌, ◌≤◌, ◌⊎◌, ◌↔◌, List, [], length, take}
 use lib.ListN.{get_elem?, length-take}
 use mathlib.Core.Logic.Iff
 use mathlib.Core.Logic.{inr}
@@ -10,7 +10,7 @@ use native.Mathlib.Omega.{arith}
 use Rattle.core_graph.proofs.DistinctKeys.{core_proper, key_injective}
 use Rattle.core_graph.proofs.Sources.{sources}
 use Rattle.core_graph.proofs.TripleSources.{at_rank, rank_at, triple_sources}
-use Rattle.core_graph.specs.Range.Bound.{Bounded, HeadFits, HeadsFit}
+use Rattle.core.specs.Range.Bound.{Bounded, HeadFits, HeadsFit}
 use Rattle.core_graph.specs.Collected.{Adding, Beyond, FromRules, SetGrown, triple_keys}
 use Rattle.core_graph.specs.Heads.{HeadsHeld}
 use Rattle.core_graph.specs.CoreHeld.{NodeKey, TripleKey}

@@ -1,6 +1,6 @@
 -- The triple key of one match: none for a type, one for a link. Assumes nothing.
 use borrow.Author.Tests.{eq-eqb, ne_eqb}
-use Rattle.core_graph.specs.Prelude.{◌≡◌, ℕ, ◌+◌, ◌*◌, ◌<◌, ◌≤◌, ◌↔◌, List, [], ◌∷◌, length, take}
+use Rattle.std.specs.Prelude.{◌≡◌, ℕ, ◌+◌, ◌*◌, ◌<◌, ◌≤◌, ◌↔◌, List, [], ◌∷◌, length, take}
 use mathlib.Core.List.Memᴰ
 use Rattle.core_graph.proofs.Growing.{grown_start}
 use Rattle.core_graph.specs.Collected.{SetGrown, object_key, subject_key, triple_keys}

@@ -1,7 +1,7 @@
 -- The triple keys of all heads are the keys of the core's triples. Assumes nothing.
 use borrow.Author.Tests.{lt-ltb, le-ltb}
 use lib.ListN.{get_elem?}
-use Rattle.core_graph.specs.Prelude.{◌≡◌, ℕ, zero, suc, ◌<◌, ◌↔◌, List, [], ◌∷◌, map}
+use Rattle.std.specs.Prelude.{◌≡◌, ℕ, zero, suc, ◌<◌, ◌↔◌, List, [], ◌∷◌, map}
 use mathlib.Core.Logic.{inr}
 use mathlib.Core.Option.{some, none-ne-some, some-injective}
 use mathlib.Core.Path.{refl, sym, ap, ap₂, ◌∙◌, subst}
@@ -9,7 +9,7 @@ use native.Mathlib.Omega.{arith}
 use Rattle.core_graph.proofs.NodeSources.{Fine, bytes_of, fine}
 use Rattle.core_graph.proofs.Sources.{Source, link_object, link_subject, value_object, value_subject}
 use Rattle.core_graph.proofs.TripleKeys.{link_triple, no_triple}
-use Rattle.core_graph.specs.Range.Bound.{Bounded}
+use Rattle.core.specs.Range.Bound.{Bounded}
 use Rattle.core_graph.specs.Collected.{triple_keys}
 use Rattle.core_graph.specs.CoreHeld.{NodeKey, TripleKey}
 use Rattle.spread.specs.Keys.{key_of, triple_key}

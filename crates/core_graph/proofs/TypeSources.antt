@@ -1,5 +1,5 @@
 -- The masks hold the core's types: those of the heads, and what spreads along the triples. Assumes nothing.
-use Rattle.core_graph.specs.Prelude.{◌≡◌, ℕ, ◌<◌, ◌≤◌, ◌⊎◌, ◌↔◌, List, map, length, get_or}
+use Rattle.std.specs.Prelude.{◌≡◌, ℕ, ◌<◌, ◌≤◌, ◌⊎◌, ◌↔◌, List, map, length, get_or}
 use lib.ListN.{get_elem?}
 use mathlib.Core.Logic.{inl, inr}
 use mathlib.Core.Option.{some}
@@ -9,7 +9,7 @@ use Rattle.core_graph.proofs.NodeSources.{Fine, fine}
 use Rattle.core_graph.proofs.Sources.{sources, type_subject}
 use Rattle.core_graph.proofs.TripleAnswers.{Node-in, predicate_small, rank_one}
 use Rattle.core_graph.proofs.TripleSources.{at_rank, rank_at}
-use Rattle.core_graph.specs.Range.Bound.{Bounded, HeadsFit}
+use Rattle.core.specs.Range.Bound.{Bounded, HeadsFit}
 use Rattle.core_graph.specs.Collected.{FromRules, TypesMarked, HeadType}
 use Rattle.core_graph.specs.Heads.{HeadsHeld}
 use Rattle.core_graph.specs.CoreHeld.{NodeKey, TripleKey}

@@ -1,5 +1,5 @@
 -- The bounds that hold of a pack that refusals 4 and 7 let pass, and of the numbers of its heads. Assumes nothing.
-use Rattle.core_graph.specs.Prelude.{◌≡◌, ℕ, ◌+◌, ◌*◌, ◌^◌, ◌<◌, ◌≤◌, false, List, [], length, slice_index, slice_index_or}
+use Rattle.std.specs.Prelude.{◌≡◌, ℕ, ◌+◌, ◌*◌, ◌^◌, ◌<◌, ◌≤◌, false, List, [], length, slice_index, slice_index_or}
 use Rattle.meaning.specs.Limits.{max_arguments, max_constructors, max_heads, max_predicates, max_rules, max_types, max_values}
 use Rattle.meaning.specs.Member.{◌∈◌}
 use Rattle.meaning.specs.Pack.{Constructor, Pack}

@@ -1,5 +1,5 @@
 -- What a pass over all heads collects: numbers into an ordered set, or types into masks. Assumes nothing.
-use Rattle.core_graph.specs.Prelude.{◌≡◌, ℕ, ◌+◌, ◌-◌, ◌*◌, ◌/◌, ◌%◌, ◌^◌, ◌<◌, ◌≤◌, cond, ◌⊎◌, ◌↔◌, List, [], ◌∷◌, length, take, ◌==◌, slice_index, slice_index_or}
+use Rattle.std.specs.Prelude.{◌≡◌, ℕ, ◌+◌, ◌-◌, ◌*◌, ◌/◌, ◌%◌, ◌^◌, ◌<◌, ◌≤◌, cond, ◌⊎◌, ◌↔◌, List, [], ◌∷◌, length, take, ◌==◌, slice_index, slice_index_or}
 use Rattle.core_graph.specs.Heads.{keys_of, kind_number, named_number, object_arguments, object_constructor, subject_arguments, subject_constructor}
 use Rattle.spread.specs.Keys.{triple_key}
 use Rattle.core_graph.specs.declared.counted.Counted.{Counted}

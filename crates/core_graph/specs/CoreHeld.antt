@@ -1,6 +1,6 @@
 -- The core as code holds it: node keys, triple keys by the places of their nodes, and a type set for each node. Assumes
 -- nothing.
-use Rattle.core_graph.specs.Prelude.{◌≡◌, ℕ, ◌<◌, ◌≤◌, ◌↔◌, List, length, slice_index}
+use Rattle.std.specs.Prelude.{◌≡◌, ℕ, ◌<◌, ◌≤◌, ◌↔◌, List, length, slice_index}
 use Rattle.std.proofs.Math.ListN.{get_elem?}
 use Rattle.std.proofs.Math.Option.{some}
 use Rattle.spread.specs.Keys.{key_of, triple_key}

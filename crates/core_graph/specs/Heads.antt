@@ -1,5 +1,5 @@
 -- The rules' heads as code holds them: six numbers a head, and for each rule the keys of its matches. Assumes nothing.
-use Rattle.core_graph.specs.Prelude.{◌≡◌, ℕ, ◌*◌, ◌<◌, List, [], length, take, drop, slice_index, slice_index_or}
+use Rattle.std.specs.Prelude.{◌≡◌, ℕ, ◌*◌, ◌<◌, List, [], length, take, drop, slice_index, slice_index_or}
 use Rattle.std.proofs.Math.ListN.{get_elem?}
 use Rattle.std.proofs.Math.Option.{some}
 use Rattle.matching.specs.Rule.{HeadKey}

@@ -1,5 +1,5 @@
 // An ordered set that grows in a lent slice.
-ghost use Rattle.core_graph.specs.Prelude.{◌≡◌, ◌<◌, ◌≤◌, length, take};
+ghost use Rattle.std.specs.Prelude.{◌≡◌, ◌<◌, ◌≤◌, length, take};
 ghost use Rattle.meaning.specs.Ordered.{InOrder};
 ghost use Rattle.sets.specs.Ordered.{rank_of};
 ghost use Rattle.core_graph.specs.Collected.{Adding};

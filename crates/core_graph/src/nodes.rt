@@ -1,8 +1,8 @@
 // The nodes of all heads, as an ordered set of keys.
-ghost use Rattle.core_graph.specs.Prelude.{◌≡◌, ◌<◌, ◌≤◌, length, take};
+ghost use Rattle.std.specs.Prelude.{◌≡◌, ◌<◌, ◌≤◌, length, take};
 ghost use Rattle.meaning.specs.Member.{◌∈◌};
 ghost use Rattle.meaning.specs.Ordered.{InOrder};
-ghost use Rattle.core_graph.specs.Range.Bound.{HeadFits, KeyFits, KeysFit, HeadsFit};
+ghost use Rattle.core.specs.Range.Bound.{HeadFits, KeyFits, KeysFit, HeadsFit};
 ghost use Rattle.core_graph.specs.Outcomes.{NodesAnswer};
 ghost use Rattle.core_graph.specs.Collected.{Adding, FromKeys, FromRules, node_keys};
 ghost use Rattle.meaning.specs.Limits.{max_core_nodes};

@@ -1,10 +1,10 @@
 // The types of the nodes, as masks by place: those of the heads, then those that spread along the triples.
-ghost use Rattle.core_graph.specs.Prelude.{◌≡◌, ◌<◌, ◌≤◌, length};
+ghost use Rattle.std.specs.Prelude.{◌≡◌, ◌<◌, ◌≤◌, length};
 ghost use Rattle.meaning.specs.Limits.{max_core_nodes, max_core_triples};
 ghost use Rattle.meaning.specs.Ordered.{InOrder};
 ghost use Rattle.sets.specs.Buffers.{zeros};
 ghost use Rattle.shapes.specs.Shapes.{CodesFit};
-ghost use Rattle.core_graph.specs.Range.Bound.{HeadFits, KeyFits, KeysFit, HeadsFit};
+ghost use Rattle.core.specs.Range.Bound.{HeadFits, KeyFits, KeysFit, HeadsFit};
 ghost use Rattle.core_graph.specs.Collected.{FromKeys, FromRules, KnownMatch, KnownKeys, KnownRules, TypesMarked, HeadType};
 ghost use Rattle.core_graph.specs.Outcomes.{TypesAnswer};
 ghost use Rattle.spread.specs.Spread.{AllTriplesFit};

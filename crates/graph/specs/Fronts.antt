@@ -1,14 +1,14 @@
 -- A pack's graph as numbers: what stands at the front of the node list, of the triple list and of their index. Assumes nothing.
 use Rattle.std.specs.Prelude.{length, take, ◌≡◌, ℕ, ◌*◌, ◌≤◌}
 use mathlib.Core.List.{List, [], ◌∷◌, flatten}
-use Rattle.calls.specs.Call.{Contents, Lent, ◌at-least◌}
+use Rattle.calls.specs.Call.{Contents, Lent, ◌at_least◌}
 use Rattle.meaning.specs.Limits.{index_length, index_width, max_nodes, max_triples, node_list_length, node_width, triple_list_length, triple_width}
 use Rattle.meaning.specs.Listing.{GraphLists, SubjectIndex}
 use Rattle.meaning.specs.Pack.{Pack}
 
 -- the lists of a graph, as a call is lent them: card 13's is "9,728" numbers since card 14
 abbrev pub graph_lists : Contents → Contents → Contents → List Lent
-graph_lists nodes triples index = nodes at_least_lem node_list_length ∷ triples at_least_lem triple_list_length ∷ index at_least_lem index_length ∷ []
+graph_lists nodes triples index = nodes at_least node_list_length ∷ triples at_least triple_list_length ∷ index at_least index_length ∷ []
 
 -- the first n nodes and the first t triples of two lists, and the first n entries of an index
 abbrev pub fronts_of : ℕ → List ℕ → ℕ → List ℕ → List ℕ → List (List ℕ)

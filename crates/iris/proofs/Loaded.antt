@@ -12,7 +12,7 @@ use Rattle.meaning.proofs.Lists.Members.{element}
 use Rattle.meaning.proofs.Lists.Places.{there_is}
 use Rattle.meaning.specs.Limits.{constructor_width, constructors_at, max_arguments, text_width, values_at}
 use Rattle.meaning.specs.Pack.{Constructor, Pack, Text}
-use Rattle.names.proofs.Counted.{constructors_few, count_at, held_at}
+use Rattle.names.proofs.Counted.{constructors_few, count_at_lem, held_at}
 use Rattle.meaning.proofs.Lists.Parts.{first_is_at, number_at, slice_by}
 use Rattle.names.specs.PackGiven.{SettingGiven}
 use Rattle.pack.proofs.Order.{one_pack}
@@ -58,7 +58,7 @@ pub record ValueAt (s : Text) (P : Pack) (numbers : List ℕ) (v : ℕ) : Type 0
 
 module _ {s counts numbers : List ℕ} (l : SettingLoaded s counts numbers) where
   pub values_many : OfPack s (λ P. get_or counts 0 0 ≡ length P.setting.values)
-  values_many P w = count_at (holds l P w).given 0 (omega arith)
+  values_many P w = count_at_lem (holds l P w).given 0 (omega arith)
 
   module _ {v : ℕ} (h : v < get_or counts 0 0) where
     pub value_at : OfPack s (λ P. ValueAt s P numbers v)
@@ -99,7 +99,7 @@ pub record ConstructorAt (s : Text) (P : Pack) (numbers : List ℕ) (c : ℕ) : 
 
 module _ {s counts numbers : List ℕ} (l : SettingLoaded s counts numbers) where
   pub constructors_many : OfPack s (λ P. get_or counts 6 0 ≡ length P.setting.constructors)
-  constructors_many P w = count_at (holds l P w).given 6 (omega arith)
+  constructors_many P w = count_at_lem (holds l P w).given 6 (omega arith)
 
   module _ {c : ℕ} (h : c < get_or counts 6 0) where
     pub constructor_at : OfPack s (λ P. ConstructorAt s P numbers c)

@@ -1,7 +1,7 @@
 -- What pairs answers and leaves (document 01, "Refused, in checking order": pairs uses 1 to 12). Assumes nothing.
 use Rattle.std.specs.Prelude.{length, ◌≡◌, ℕ}
 use mathlib.Core.List.{List, [], ◌∷◌, ◌++◌, flatten}
-use Rattle.calls.specs.Call.{Call, Contents, Lent, ◌at-least◌}
+use Rattle.calls.specs.Call.{Call, Contents, Lent, ◌at_least◌}
 use Rattle.construct.specs.Outcome.{SomeObeys, refused_as}
 use Rattle.grammar.specs.Grammar.{IsQuery}
 use Rattle.graph.specs.Fronts.{graph_lists}
@@ -35,13 +35,13 @@ pub record Gives (pack query : Text) (r : PairAnswer) (fronts : List (List ℕ))
 
 -- the output lists
 abbrev pub lists : Contents → Contents → Contents → Contents → List Lent
-lists nodes triples index pairs = graph_lists nodes triples index ++ (pairs at_least_lem pair_list_length ∷ [])
+lists nodes triples index pairs = graph_lists nodes triples index ++ (pairs at_least pair_list_length ∷ [])
 
 -- the working buffers
 abbrev pub buffers : Contents → Contents → Contents → Contents → Contents → Contents → Contents → Contents → Contents → List Lent
 buffers rows heads alive waiting stack seen own_nodes own_triples own_index =
-    rows at_least_lem rows_length ∷ heads at_least_lem heads_length ∷ alive at_least_lem state_words ∷ waiting at_least_lem state_words ∷ stack at_least_lem state_words
-    ∷ seen at_least_lem seen_words ∷ own_nodes at_least_lem node_list_length ∷ own_triples at_least_lem triple_list_length ∷ own_index at_least_lem index_length ∷ []
+    rows at_least rows_length ∷ heads at_least heads_length ∷ alive at_least state_words ∷ waiting at_least state_words ∷ stack at_least state_words
+    ∷ seen at_least seen_words ∷ own_nodes at_least node_list_length ∷ own_triples at_least triple_list_length ∷ own_index at_least index_length ∷ []
 
 -- 1 to 12, or the graph and the pairs
 abbrev pub PairsAnswers : Text → Text → PairAnswer → Contents → Contents → Contents → Contents → Contents → Contents → Contents → Contents → Contents → Contents → Contents

@@ -19,7 +19,7 @@ use Rattle.meaning.specs.Limits.{max_predicates, predicates_at, text_width, unus
 use Rattle.meaning.specs.Pack.{Pack, Text}
 use Rattle.meaning.specs.Tests.{any_two, same_text, begins}
 use Rattle.meaning.specs.WellFormed.{duplicates, same_cell}
-use Rattle.names.proofs.Counted.{count_at, held_at}
+use Rattle.names.proofs.Counted.{count_at_lem, held_at}
 use Rattle.meaning.proofs.Lists.Parts.{first_is_at, number_at}
 use Rattle.pack.proofs.Accepted.{well_formed_lem}
 use Rattle.pack.specs.Checked.{OfPack}
@@ -57,7 +57,7 @@ pub record NameAt (s : Text) (P : Pack) (numbers : List ℕ) (p : ℕ) : Type 0 
 
 module _ {s counts numbers : List ℕ} (l : SettingLoaded s counts numbers) where
   names_many : OfPack s (λ P. get_or counts 4 0 ≡ length P.setting.predicates)
-  names_many P w = count_at (holds l P w).given 4 (omega arith)
+  names_many P w = count_at_lem (holds l P w).given 4 (omega arith)
 
   pub names_few : get_or counts 4 0 ≤ max_predicates
   names_few = omega (arith, names_many l.pack l.is, l.given.bounds.predicates)

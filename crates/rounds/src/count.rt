@@ -1,5 +1,5 @@
 // From a pack's bytes to its core, as `construct` goes, and the rounds that its types took.
-ghost use Rattle.core_graph.specs.Prelude.{◌≤◌, length};
+ghost use Rattle.std.specs.Prelude.{◌≤◌, length};
 ghost use Rattle.construct.specs.Steps.{HeadsGiven};
 ghost use Rattle.meaning.specs.Limits.{heads_length};
 ghost use Rattle.names.specs.PackGiven.{IsResolved};

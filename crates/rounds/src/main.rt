@@ -7,7 +7,7 @@
 
 mod count; // the rounds of a pack
 
-ghost use Rattle.core_graph.specs.Prelude.{◌≤◌, length};
+ghost use Rattle.std.specs.Prelude.{◌≤◌, length};
 
 use crate::count::{RoundCount, count_rounds};
 use meaning::MAX_PACK_BYTES;

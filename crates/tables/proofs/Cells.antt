@@ -1,7 +1,7 @@
 -- Cells of the shape table, an array of arrays. Assumes nothing.
 use Rattle.meaning.proofs.Cases.{case_on}
 use borrow.Author.Tests.{eqb-false, eqb-true}
-use Rattle.core_graph.specs.Prelude.{◌≡◌, ℕ, ◌<◌, cond, eqb, List, [], length, get_or, set}
+use Rattle.std.specs.Prelude.{◌≡◌, ℕ, ◌<◌, cond, eqb, List, [], length, get_or, set}
 use lib.ListN.{length-set}
 use lib.Seq.{get_or-set_other, get_or-set_same}
 use mathlib.Core.Path.{sym, ap, ◌∙◌}

@@ -1,7 +1,7 @@
 -- The shape table, filled shape by shape. Assumes nothing.
 use Rattle.meaning.proofs.Cases.{case_on}
 use borrow.Author.Tests.{eq-eqb, ne_eqb}
-use Rattle.core_graph.specs.Prelude.{◌≡◌, ℕ, suc, ◌+◌, ◌*◌, ◌<◌, ◌≤◌, Bool, true, false, not, ◌&&◌, T, eqb, ltb, ◌≢◌, List, [], ◌∷◌, length, get_or, drop, replicate}
+use Rattle.std.specs.Prelude.{◌≡◌, ℕ, suc, ◌+◌, ◌*◌, ◌<◌, ◌≤◌, Bool, true, false, not, ◌&&◌, T, eqb, ltb, ◌≢◌, List, [], ◌∷◌, length, get_or, drop, replicate}
 use lib.Dec.{ltb→lt}
 use lib.ListN.{drop_of_length-le, get_or-replicate, get_elem?}
 use mathlib.Core.Logic.Dec

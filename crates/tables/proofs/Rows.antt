@@ -1,5 +1,5 @@
 -- Arities and heads, as the numbers say. Assumes nothing.
-use Rattle.core_graph.specs.Prelude.{◌≡◌, ℕ, ◌+◌, ◌*◌, ◌<◌, ◌≤◌, List, [], length, get_or, take, drop}
+use Rattle.std.specs.Prelude.{◌≡◌, ℕ, ◌+◌, ◌*◌, ◌<◌, ◌≤◌, List, [], length, get_or, take, drop}
 use lib.ListN.{get_elem?}
 use mathlib.Core.Option.{some}
 use mathlib.Core.Path.{refl, ◌∙◌}
@@ -9,7 +9,7 @@ use Rattle.meaning.proofs.Lists.Places.{inside, there_is}
 use Rattle.meaning.specs.Limits.{constructor_width, constructors_at, head_width, max_arguments, max_constructors, max_rules, rule_width, rules_at}
 use Rattle.meaning.specs.Pack.{Constructor, Pack}
 use Rattle.names.specs.PackGiven.{SettingGiven}
-use Rattle.names.proofs.Counted.{count_at, held_at}
+use Rattle.names.proofs.Counted.{count_at_lem, held_at}
 use Rattle.names.proofs.RuleNumbers.{head_at, head_from}
 use Rattle.meaning.proofs.Lists.Parts.{first_is_at}
 use Rattle.names.proofs.Rule.{rule_at, rules_many}
@@ -21,7 +21,7 @@ module _ {P : Pack} {counts numbers : List ℕ} (g : SettingGiven P counts numbe
   -- ---- constructors
 
   pub constructors_many : get_or counts 6 0 ≡ length P.setting.constructors
-  constructors_many = count_at g 6 (omega arith)
+  constructors_many = count_at_lem g 6 (omega arith)
 
   arity_at : (i : ℕ) (k : Constructor) → get_elem? P.setting.constructors i ≡ some k → get_or numbers (constructors_at + i * constructor_width) 0 ≡ k.arity
   arity_at i k e = first_is_at numbers _ (constructors_at + i * constructor_width) constructor_width refl (omega arith) ∙ held_at g.bare.arities i k e

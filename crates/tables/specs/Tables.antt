@@ -1,5 +1,5 @@
 -- The tables that building takes of a setting's numbers. Assumes nothing.
-use Rattle.core_graph.specs.Prelude.{◌≡◌, ℕ, ◌+◌, ◌*◌, false, cond, List, [], ◌==◌, slice_index_or, slice_set}
+use Rattle.std.specs.Prelude.{◌≡◌, ℕ, ◌+◌, ◌*◌, false, cond, List, [], ◌==◌, slice_index_or, slice_set}
 use Rattle.std.proofs.Math.ListN.{get_elem?}
 use Rattle.std.proofs.Math.Option.{some}
 use Rattle.meaning.specs.Limits.{literal_bit, literal_target, multiplicity_room}

@@ -1,5 +1,5 @@
 // The heads of rules, six numbers each.
-ghost use Rattle.core_graph.specs.Prelude.{◌≡◌, ◌+◌, ◌≤◌, length, take, drop};
+ghost use Rattle.std.specs.Prelude.{◌≡◌, ◌+◌, ◌≤◌, length, take, drop};
 ghost use Rattle.meaning.specs.Limits.{head_width};
 ghost use Rattle.names.specs.PackGiven.{ForSetting, IsSetting};
 ghost use Rattle.tables.specs.Tables.{HeadTable};

@@ -1,5 +1,5 @@
 // The shape table, an array of arrays by value.
-ghost use Rattle.core_graph.specs.Prelude.{◌≡◌, ◌<◌, ◌≤◌};
+ghost use Rattle.std.specs.Prelude.{◌≡◌, ◌<◌, ◌≤◌};
 ghost use Rattle.meaning.specs.Limits.{literal_target, max_predicates, max_types, multiplicity_room};
 ghost use Rattle.meaning.specs.Tables.{ShapeTable};
 ghost use Rattle.names.specs.PackGiven.{ForSetting};

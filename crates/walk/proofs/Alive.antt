@@ -73,11 +73,11 @@ module _ (G : View) (whole : EdgesJoinNodes G) (part : ℕ → Part) (leaves : �
 
   -- Where nothing is to be done after it: its expression.
   closed : {i : ℕ} {n m : G.Node} → i < done → next i ≡ done → Left i n m → Joins G (at i) n m
-  closed {i} {n} {m} l e x = let (k, j, r) = opened l x in subst (λ o. Joins G (at i) n o) (go (subst (λ y. Left y k m) e r)) j
+  closed {i} {n} {m} l e x = let (k, j, r) = opened l x in subst (λ o. Joins G (at i) n o) (go e r) j
     where
-      go : {k : G.Node} → Left done k m → k ≡ m
-      go (nothing p) = p
-      go (then h j r) = absurd (omega arith)
+      go : {a : ℕ} {k : G.Node} → a ≡ done → Left a k m → k ≡ m
+      go q (nothing p) = p
+      go q (then h j r) = absurd (omega arith)
 
   -- A step that leads to something left leads from it.
   module _ (Test : ℕ → G.Node → Type 0)
@@ -109,9 +109,9 @@ module _ (G : View) (whole : EdgesJoinNodes G) (part : ℕ → Part) (leaves : �
             let (v, x, y) = opened {i = b} {n = m} {m = o} (omega arith) (subst (λ y. Left y m o) q r) in
             then l (subst (λ y. Joins G y n v) (sym e) (inr (subst (λ y. Joins G (at b) y v) (sym p) x))) (subst (λ y. Left y v o) h y)
 
-    reached_left : (i j : ℕ) (n m o : G.Node) → Reached G part leaves next done Test i n j m → Left j m o → Left i n o
-    reached_left i j n m o start r = r
-    reached_left i j n m o (onward {j = k} {m = v} x s) r = reached_left i k n v o x (step_left k j v m o s r)
+    reached_left : (i : ℕ) (n : G.Node) (j : ℕ) (m o : G.Node) → Reached G part leaves next done Test i n j m → Left j m o → Left i n o
+    reached_left i n j m o start r = r
+    reached_left i n j m o (onward {j = k} {m = v} x s) r = reached_left i n k v o x (step_left k j v m o s r)
 
   abbrev Leads : ℕ → G.Node → Type 0
   Leads i n = (m : G.Node) × Left i n m
@@ -186,7 +186,7 @@ module _ (G : View) (whole : EdgesJoinNodes G) (part : ℕ → Part) (leaves : �
   -- FORWARD: from a part after which nothing is to be done, the ends that are reached are what its expression joins.
   pub forward : (i : ℕ) → i < done → next i ≡ done → (n m : G.Node) → Reached G part leaves next done Alive' i n done m ↔ Joins G (at i) n m
   forward i l e n m = (
-    (λ r. closed l e (reached_left Alive' (λ b n h w a. (backward b h w n).0 a) i done n m m r (nothing refl))),
+    (λ r. closed l e (reached_left Alive' (λ b n h w a. (backward b h w n).0 a) i n done m m r (nothing refl))),
     (λ j. subst (λ y. Reached G part leaves next done Alive' i n y m) e
         (joins_seen (Reached G part leaves next done Alive' i n) (λ k o u v s r. onward r s) (suc i) i (omega arith) l n m j start)),
   )

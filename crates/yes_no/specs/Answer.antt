@@ -1,6 +1,6 @@
 -- What yes/no answers and leaves (document 01, "Refused, in checking order": yes/no uses 1 to 11). Assumes nothing.
 use Rattle.std.specs.Prelude.{T, false, List, [], ◌∷◌, ◌↔◌, ◌≡◌, ℕ}
-use Rattle.calls.specs.Call.{Call, Contents, Lent, ◌at-least◌}
+use Rattle.calls.specs.Call.{Call, Contents, Lent, ◌at_least◌}
 use Rattle.construct.specs.Outcome.{refused_as}
 use Rattle.graph.specs.Fronts.{graph_lists}
 use Rattle.meaning.specs.Certain.{CertainYes}
@@ -23,7 +23,7 @@ pub record Gives (pack query : Text) (r : YesNo) (fronts : List (List ℕ)) : Ty
 -- the working buffers
 abbrev pub buffers : Contents → Contents → Contents → Contents → Contents → List Lent
 buffers rows heads alive waiting stack =
-    rows at_least_lem rows_length ∷ heads at_least_lem heads_length ∷ alive at_least_lem state_words ∷ waiting at_least_lem state_words ∷ stack at_least_lem state_words ∷ []
+    rows at_least rows_length ∷ heads at_least heads_length ∷ alive at_least state_words ∷ waiting at_least state_words ∷ stack at_least state_words ∷ []
 
 -- 1 to 11, or the graph and the answer
 abbrev pub YesNoAnswers : Text → Text → YesNo → Contents → Contents → Contents → Contents → Contents → Contents → Contents → Contents → Type 0

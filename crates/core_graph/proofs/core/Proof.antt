@@ -1,6 +1,6 @@
 -- `core::core` meets its contract: the nodes, the triples by their places, then the types. Assumes nothing.
 use borrow.Author.Rules.{rules}
-use Rattle.core_graph.specs.Prelude.{◌≡◌, ℕ, ◌≤◌, List, length, take}
+use Rattle.std.specs.Prelude.{◌≡◌, ℕ, ◌≤◌, List, length, take}
 use lib.ListN.{length-take}
 use mathlib.Core.Logic.{inl, inr}
 use mathlib.Core.Path.{◌∙◌}

@@ -1,6 +1,6 @@
 -- `rounds::main` is safe and ends. Assumes nothing.
 use borrow.Author.Rules.{rules}
-use Rattle.core_graph.specs.Prelude.{◌-◌, ◌≤◌}
+use Rattle.std.specs.Prelude.{◌-◌, ◌≤◌}
 use Rattle.rounds.proofs.main.Statement.{statement}
 use Rattle.rounds.proofs.main.Tie as tie
 

@@ -2,7 +2,7 @@
 use borrow.Author.Rules.{rules}
 use borrow.Author.Tests.{eq-eqb, ne_eqb}
 use native.Mathlib.Omega.{arith}
-use Rattle.core_graph.specs.Prelude.{◌*◌, ◌%◌, ◌<◌}
+use Rattle.std.specs.Prelude.{◌*◌, ◌%◌, ◌<◌}
 use Rattle.core_graph.specs.Collected.{object_key}
 use Rattle.core_graph.proofs.Powers.{bytes_some, padded_lt, last_lt}
 use Rattle.core_graph.proofs.keys.object_key.Statement.{statement}

@@ -1,7 +1,7 @@
 -- `core::keys::subject_key` meets its contract. Assumes nothing.
 use borrow.Author.Rules.{rules}
 use native.Mathlib.Omega.{arith}
-use Rattle.core_graph.specs.Prelude.{◌*◌, ◌/◌, ◌<◌}
+use Rattle.std.specs.Prelude.{◌*◌, ◌/◌, ◌<◌}
 use Rattle.core_graph.specs.Collected.{subject_key}
 use Rattle.core_graph.proofs.Powers.{bytes_some, padded_lt, before_lt}
 use Rattle.core_graph.proofs.keys.subject_key.Statement.{statement}

@@ -1,7 +1,7 @@
 -- `core::nodes::add_match` meets its contract: the subject first, then the object. Assumes nothing.
 use borrow.Author.Rules.{rules}
 use lib.ListN.{length-take}
-use Rattle.core_graph.specs.Prelude.{◌≡◌}
+use Rattle.std.specs.Prelude.{◌≡◌}
 use native.Mathlib.Omega.{arith}
 use Rattle.core_graph.proofs.Growing.{adding_then}
 use Rattle.core_graph.proofs.NodeKeys.{link_keys, subject_beyond, type_keys}

@@ -1,6 +1,6 @@
 -- `core::triples::add_match` meets its contract. Assumes nothing.
 use borrow.Author.Rules.{rules}
-use Rattle.core_graph.specs.Prelude.{◌≤◌, length}
+use Rattle.std.specs.Prelude.{◌≤◌, length}
 use lib.ListN.{length-take}
 use native.Mathlib.Omega.{arith}
 use Rattle.core_graph.proofs.Growing.{adding_as}

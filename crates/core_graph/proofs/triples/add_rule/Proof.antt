@@ -1,6 +1,6 @@
 -- `core::triples::add_rule` meets its contract: the keys of the matches so far. Assumes nothing.
 use borrow.Author.Rules.{rules}
-use Rattle.core_graph.specs.Prelude.{◌-◌, length}
+use Rattle.std.specs.Prelude.{◌-◌, length}
 use native.Mathlib.Omega.{arith}
 use Rattle.core_graph.specs.Collected.{triple_keys}
 use Rattle.core_graph.proofs.Loops.{KeysDone, keys_start, keys_again, keys_full, keys_done}

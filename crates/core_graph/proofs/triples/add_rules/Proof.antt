@@ -1,7 +1,7 @@
 -- `core::triples::add_rules` meets its contract: the keys of the rules so far. Assumes nothing.
 use borrow.Author.Rules.{rules}
 use native.Mathlib.Omega.{arith}
-use Rattle.core_graph.specs.Prelude.{◌-◌, ◌<◌, ◌≤◌}
+use Rattle.std.specs.Prelude.{◌-◌, ◌<◌, ◌≤◌}
 use Rattle.core_graph.specs.Collected.{triple_keys}
 use Rattle.core_graph.proofs.Loops.{RulesDone, rules_start, rules_again, rules_full, rules_done}
 use Rattle.meaning.specs.Member.{◌∈◌}

@@ -2,7 +2,7 @@
 use borrow.Author.Rules.{rules}
 use native.Mathlib.Omega.{arith}
 use Rattle.core_graph.proofs.Marking.{mark_none, mark_one, place_inside}
-use Rattle.core_graph.specs.Prelude.{◌<◌, length}
+use Rattle.std.specs.Prelude.{◌<◌, length}
 use Rattle.core_graph.proofs.typing.mark_match.Statement.{statement}
 use Rattle.core_graph.proofs.typing.mark_match.Tie as tie
 use Rattle.meaning.proofs.Lists.Masks.{weight_made}

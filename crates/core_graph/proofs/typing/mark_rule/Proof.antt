@@ -1,6 +1,6 @@
 -- `core::typing::mark_rule` meets its contract: those of the matches so far. Assumes nothing.
 use borrow.Author.Rules.{rules}
-use Rattle.core_graph.specs.Prelude.{◌-◌, length}
+use Rattle.std.specs.Prelude.{◌-◌, length}
 use native.Mathlib.Omega.{arith}
 use Rattle.core_graph.specs.Collected.{HeadType}
 use Rattle.core_graph.proofs.Marking.{KeysMarked, marks_start, marks_again, marks_done}

@@ -1,7 +1,7 @@
 -- `core::typing::mark_rules` meets its contract: those of the rules so far. Assumes nothing.
 use borrow.Author.Rules.{rules}
 use native.Mathlib.Omega.{arith}
-use Rattle.core_graph.specs.Prelude.{◌-◌, ◌<◌, ◌≤◌}
+use Rattle.std.specs.Prelude.{◌-◌, ◌<◌, ◌≤◌}
 use Rattle.core_graph.specs.Collected.{HeadType}
 use Rattle.core_graph.proofs.Marking.{RulesMarked, all_start, all_again, all_done}
 use Rattle.core_graph.proofs.typing.mark_rules.Statement.{statement}

@@ -1,5 +1,5 @@
 -- `arities::arities` meets its contract: the arities of the first constructors are put. Assumes nothing.
-use Rattle.core_graph.specs.Prelude.{◌+◌, ◌-◌, ◌*◌, get_or}
+use Rattle.std.specs.Prelude.{◌+◌, ◌-◌, ◌*◌, get_or}
 use mathlib.Core.Path.{refl}
 use native.Mathlib.Omega.{arith}
 use Rattle.meaning.specs.Limits.{constructor_width, constructors_at, max_constructors}

@@ -1,5 +1,5 @@
 -- `heads::head` meets its contract: its first numbers are put. Assumes nothing.
-use Rattle.core_graph.specs.Prelude.{◌+◌, ◌-◌, get_or}
+use Rattle.std.specs.Prelude.{◌+◌, ◌-◌, get_or}
 use mathlib.Core.Path.{refl}
 use mir.Facts.{Fits-widen}
 use native.Mathlib.Omega.{arith}

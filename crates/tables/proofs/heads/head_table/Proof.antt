@@ -1,5 +1,5 @@
 -- `heads::head_table` meets its contract: the heads of the first rules are put. Assumes nothing.
-use Rattle.core_graph.specs.Prelude.{◌+◌, ◌-◌, ◌*◌, [], take, drop}
+use Rattle.std.specs.Prelude.{◌+◌, ◌-◌, ◌*◌, [], take, drop}
 use mathlib.Core.Path.{refl}
 use native.Mathlib.Omega.{arith}
 use Rattle.meaning.specs.Limits.{head_width, max_rules, rule_width, rules_at}

@@ -1,7 +1,7 @@
 -- `shapes::shape_table` meets its contract: the table holds the first shapes. Assumes nothing.
 use mathlib.Core.Path.{refl}
 use native.Mathlib.Omega.{arith}
-use Rattle.core_graph.specs.Prelude.{◌-◌}
+use Rattle.std.specs.Prelude.{◌-◌}
 use Rattle.names.proofs.Shape.{shapes_few}
 use Rattle.tables.proofs.Filling.{Filled, filled_done, filled_on, filled_start, small}
 use mir.Facts.{Fits-widen}
