@@ -8,7 +8,7 @@ ghost use Rattle.pack.specs.Classes.{in_class};
 use meaning::MAX_VARIABLES;
 
 // What the bytes of a text may be.
-#[derive(Drop)]
+#[derive(Clone, Copy)]
 pub enum Class {
     Any,
     Letter,

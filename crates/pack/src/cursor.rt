@@ -11,7 +11,7 @@ use meaning::{
 };
 
 // The place of the next record, and the body's end.
-#[derive(Drop)]
+#[derive(Clone, Copy)]
 pub struct Cursor {
     pub at: usize,
     pub end: usize,
@@ -69,7 +69,7 @@ pub enum ConstructorRead {
 }
 
 // A number, and the place of the bytes that it goes with.
-#[derive(Drop)]
+#[derive(Clone, Copy)]
 pub struct Tuple {
     pub number: u8,
     pub start: usize,
