@@ -77,9 +77,9 @@ fn say_literal(pack: &[u8], numbers: &[u16], node: &[u16]) {
     if node.len() != NODE_WIDTH {
         return;
     }
-    io::write_all(1, b"\");
+    io::write_all(1, b"\"");
     say_value(pack, numbers, node[1]);
-    io::write_all(1, b"\");
+    io::write_all(1, b"\"");
 }
 
 // The node of a number, by its record.
