@@ -9,7 +9,7 @@ use Rattle.core_graph.proofs.NodeSources.{Fine, fine}
 use Rattle.core_graph.proofs.Sources.{sources, type_subject}
 use Rattle.core_graph.proofs.TripleAnswers.{Node-in, predicate_small, rank_one}
 use Rattle.core_graph.proofs.TripleSources.{at_rank, rank_at}
-use Rattle.core.specs.Range.Bound.{Bounded, HeadsFit}
+use Rattle.std.specs.Range.Bound.{Bounded, HeadsFit}
 use Rattle.core_graph.specs.Collected.{FromRules, TypesMarked, HeadType}
 use Rattle.core_graph.specs.Heads.{HeadsHeld}
 use Rattle.core_graph.specs.CoreHeld.{NodeKey, TripleKey}
