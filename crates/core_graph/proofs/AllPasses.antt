@@ -11,7 +11,7 @@ use Rattle.core_graph.proofs.NodeKeys.{link_keys, subject_in}
 use Rattle.core_graph.proofs.TripleKeys.{link_triple, no_triple}
 use Rattle.spread.proofs.Rounds.{rounds_over, rounds_some}
 use Rattle.core_graph.proofs.TypeSources.{decoded, spread_over, start_at, types_at}
-use Rattle.std.specs.Range.Bound.{HeadFits, HeadsFit}
+use Rattle.core_graph.specs.Bounds.{HeadFits, HeadsFit}
 use Rattle.core_graph.specs.Collected.{FromRules, SetGrown, KnownMatch, KnownRules, TypesMarked, HeadType, node_keys, object_key, subject_key, triple_keys}
 use Rattle.core_graph.specs.Heads.{kind_number, named_number}
 use Rattle.core_graph.specs.Outcomes.{CoreListed, NodeKeysListed, TripleKeysListed, TypesAnswer}

@@ -9,7 +9,7 @@ use native.Mathlib.Omega.{arith}
 use Rattle.core_graph.proofs.NodeSources.{Fine, bytes_of, core_in, fine}
 use Rattle.core_graph.proofs.Packed.{Bytes, packed_injective, packed_lt, packed_padded}
 use Rattle.core_graph.proofs.Powers.{padded_lt, up_to_four}
-use Rattle.std.specs.Range.Bound.{Bounded}
+use Rattle.core_graph.specs.Bounds.{Bounded}
 use Rattle.spread.specs.Keys.{key_of}
 use Rattle.meaning.proofs.Lists.Members.{∈_append}
 use Rattle.meaning.proofs.Lists.Places.{inside}

@@ -8,7 +8,7 @@ use native.Mathlib.Omega.{arith}
 use Rattle.core_graph.proofs.Declared.{head_predicate}
 use Rattle.core_graph.proofs.NodeSources.{Fine, bytes_of, fine}
 use Rattle.core_graph.proofs.Packed.{packed_lt}
-use Rattle.std.specs.Range.Bound.{Bounded, HeadFits, HeadsFit, KeyFits}
+use Rattle.core_graph.specs.Bounds.{Bounded, HeadFits, HeadsFit, KeyFits}
 use Rattle.core_graph.specs.Heads.{HeadsHeld, keys_of}
 use Rattle.meaning.proofs.Lists.Members.{element, ∈_append}
 use Rattle.meaning.proofs.Lists.Places.{inside, there_is}

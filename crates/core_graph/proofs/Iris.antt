@@ -4,7 +4,7 @@ use lib.ListN.{length-take}
 use mathlib.Core.Path.{refl, ap}
 use native.Mathlib.Omega.{arith}
 use Rattle.core_graph.proofs.DistinctKeys.{Proper, core_proper, iri_low, key_injective, literal_key}
-use Rattle.std.specs.Range.Bound.{Bounded}
+use Rattle.core_graph.specs.Bounds.{Bounded}
 use Rattle.core_graph.specs.CoreHeld.{NodeKey}
 use Rattle.spread.specs.Keys.{key_of}
 use Rattle.meaning.specs.Core.{CoreNode, Node, iri_node, literal_node}

@@ -7,7 +7,7 @@ use native.Mathlib.Omega.{arith}
 use Rattle.core_graph.proofs.NodeKeys.{keys_of_link, keys_of_type}
 use Rattle.core_graph.proofs.Packed.{Bytes}
 use Rattle.core_graph.proofs.Sources.{Source, link_object, link_subject, type_subject, value_object, value_subject}
-use Rattle.std.specs.Range.Bound.{Bounded}
+use Rattle.core_graph.specs.Bounds.{Bounded}
 use Rattle.core_graph.specs.Collected.{node_keys}
 use Rattle.core_graph.specs.CoreHeld.{NodeKey}
 use Rattle.spread.specs.Keys.{key_of}

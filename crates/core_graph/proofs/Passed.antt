@@ -6,7 +6,7 @@ use native.Mathlib.Omega.{arith}
 use Rattle.core_graph.proofs.Iris.{iris_over, iris_within, many_over}
 use Rattle.core_graph.proofs.NodeSources.{node_sources}
 use Rattle.core_graph.proofs.Sources.{sources}
-use Rattle.std.specs.Range.Bound.{Bounded}
+use Rattle.core_graph.specs.Bounds.{Bounded}
 use Rattle.core_graph.specs.Collected.{Beyond, FromRules, SetGrown, node_keys}
 use Rattle.core_graph.specs.Heads.{HeadsHeld}
 use Rattle.core_graph.specs.CoreHeld.{NodeKey}

@@ -4,7 +4,7 @@ use mathlib.Core.Option.{Option, none, some}
 use mathlib.Core.Path.{refl, ◌∙◌}
 use native.Mathlib.Omega.{arith}
 use Rattle.core_graph.proofs.Declared.{shape_owner}
-use Rattle.std.specs.Range.Bound.{Bounded}
+use Rattle.core_graph.specs.Bounds.{Bounded}
 use Rattle.meaning.proofs.Model.Resolved.{resolved}
 use Rattle.meaning.specs.Limits.{literal_bit, max_types, multiplicity_room}
 use Rattle.meaning.specs.Pack.{HasShape, Literal, Pack, Shape, Target, shape_of, type}

@@ -10,7 +10,7 @@ use native.Mathlib.Omega.{arith}
 use Rattle.core_graph.proofs.DistinctKeys.{core_proper, key_injective}
 use Rattle.core_graph.proofs.Sources.{sources}
 use Rattle.core_graph.proofs.TripleSources.{at_rank, rank_at, triple_sources}
-use Rattle.std.specs.Range.Bound.{Bounded, HeadFits, HeadsFit}
+use Rattle.core_graph.specs.Bounds.{Bounded, HeadFits, HeadsFit}
 use Rattle.core_graph.specs.Collected.{Adding, Beyond, FromRules, SetGrown, triple_keys}
 use Rattle.core_graph.specs.Heads.{HeadsHeld}
 use Rattle.core_graph.specs.CoreHeld.{NodeKey, TripleKey}

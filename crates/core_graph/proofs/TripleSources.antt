@@ -9,7 +9,7 @@ use native.Mathlib.Omega.{arith}
 use Rattle.core_graph.proofs.NodeSources.{Fine, bytes_of, fine}
 use Rattle.core_graph.proofs.Sources.{Source, link_object, link_subject, value_object, value_subject}
 use Rattle.core_graph.proofs.TripleKeys.{link_triple, no_triple}
-use Rattle.std.specs.Range.Bound.{Bounded}
+use Rattle.core_graph.specs.Bounds.{Bounded}
 use Rattle.core_graph.specs.Collected.{triple_keys}
 use Rattle.core_graph.specs.CoreHeld.{NodeKey, TripleKey}
 use Rattle.spread.specs.Keys.{key_of, triple_key}

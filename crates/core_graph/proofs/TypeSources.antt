@@ -7,9 +7,9 @@ use mathlib.Core.Path.{refl, sym, ap, ◌∙◌, subst}
 use native.Mathlib.Omega.{arith}
 use Rattle.core_graph.proofs.NodeSources.{Fine, fine}
 use Rattle.core_graph.proofs.Sources.{sources, type_subject}
-use Rattle.core_graph.proofs.TripleAnswers.{Node-in, predicate_small, rank_one}
+use Rattle.core_graph.proofs.TripleAnswers.{node_in, predicate_small, rank_one}
 use Rattle.core_graph.proofs.TripleSources.{at_rank, rank_at}
-use Rattle.std.specs.Range.Bound.{Bounded, HeadsFit}
+use Rattle.core_graph.specs.Bounds.{Bounded, HeadsFit}
 use Rattle.core_graph.specs.Collected.{FromRules, TypesMarked, HeadType}
 use Rattle.core_graph.specs.Heads.{HeadsHeld}
 use Rattle.core_graph.specs.CoreHeld.{NodeKey, TripleKey}
@@ -133,8 +133,8 @@ module _ {rules : List (List ℕ)} {count : ℕ} {heads counts : List ℕ} (fit 
         object = rank_of (key_of m) nodes;
         from = n;
         to = m;
-        from_at = at_rank (key_of n) nodes l.ascending (Node-in fit nodes few P h b l (as_subject e));
-        to_at = at_rank (key_of m) nodes l.ascending (Node-in fit nodes few P h b l (as_object e));
+        from_at = at_rank (key_of n) nodes l.ascending (node_in fit nodes few P h b l (as_subject e));
+        to_at = at_rank (key_of m) nodes l.ascending (node_in fit nodes few P h b l (as_object e));
         edge = e;
         is = refl;
       }) in

@@ -1,6 +1,6 @@
 -- What the passes over a pack's heads answer, said of the pack. Assumes nothing.
 use Rattle.std.specs.Prelude.{ℕ, ◌<◌, ◌≤◌, List, take}
-use Rattle.std.specs.Range.Bound.{Bounded}
+use Rattle.core_graph.specs.Bounds.{Bounded}
 use Rattle.core_graph.specs.Collected.{FromRules, SetGrown, node_keys, triple_keys}
 use Rattle.core_graph.specs.Heads.{HeadsHeld}
 use Rattle.core_graph.specs.CoreHeld.{CoreHeld, NodeKey, TripleKey, TypesAt}

@@ -1,6 +1,6 @@
 // The node keys of a match.
 ghost use Rattle.std.specs.Prelude.{◌≡◌, ◌^◌, ◌<◌, ◌≤◌};
-ghost use Rattle.std.specs.Range.Bound.{HeadFits, KeyFits};
+ghost use Rattle.core_graph.specs.Bounds.{HeadFits, KeyFits};
 ghost use Rattle.core_graph.specs.Collected.{subject_key, object_key};
 ghost use Rattle.meaning.specs.Limits.{max_arguments, max_values};
 

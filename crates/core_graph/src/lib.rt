@@ -5,7 +5,7 @@ ghost use Rattle.std.specs.Prelude.{◌≡◌, length};
 ghost use Rattle.meaning.specs.Limits.{max_core_nodes, max_core_triples};
 ghost use Rattle.sets.specs.Buffers.{zeros};
 ghost use Rattle.shapes.specs.Shapes.{CodesFit};
-ghost use Rattle.std.specs.Range.Bound.{HeadsFit};
+ghost use Rattle.core_graph.specs.Bounds.{HeadsFit};
 ghost use Rattle.core_graph.specs.Outcomes.{CoreAnswer};
 
 use crate::counted::Counted;

@@ -3,7 +3,7 @@ ghost use Rattle.std.specs.Prelude.{◌≡◌, ◌<◌, ◌≤◌, length, take}
 ghost use Rattle.meaning.specs.Limits.{max_core_nodes, max_core_triples};
 ghost use Rattle.meaning.specs.Member.{◌∈◌};
 ghost use Rattle.meaning.specs.Ordered.{InOrder};
-ghost use Rattle.std.specs.Range.Bound.{HeadFits, KeyFits, KeysFit, HeadsFit};
+ghost use Rattle.core_graph.specs.Bounds.{HeadFits, KeyFits, KeysFit, HeadsFit};
 ghost use Rattle.core_graph.specs.Outcomes.{TriplesAnswer};
 ghost use Rattle.core_graph.specs.Collected.{Adding, FromKeys, FromRules, triple_keys};
 

@@ -4,7 +4,7 @@ ghost use Rattle.meaning.specs.Limits.{max_core_nodes, max_core_triples};
 ghost use Rattle.meaning.specs.Ordered.{InOrder};
 ghost use Rattle.sets.specs.Buffers.{zeros};
 ghost use Rattle.shapes.specs.Shapes.{CodesFit};
-ghost use Rattle.std.specs.Range.Bound.{HeadFits, KeyFits, KeysFit, HeadsFit};
+ghost use Rattle.core_graph.specs.Bounds.{HeadFits, KeyFits, KeysFit, HeadsFit};
 ghost use Rattle.core_graph.specs.Collected.{FromKeys, FromRules, KnownMatch, KnownKeys, KnownRules, TypesMarked, HeadType};
 ghost use Rattle.core_graph.specs.Outcomes.{TypesAnswer};
 ghost use Rattle.spread.specs.Spread.{AllTriplesFit};

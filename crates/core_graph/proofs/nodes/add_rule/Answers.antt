@@ -1,0 +1,30 @@
+-- `core::nodes::add_rule` meets its contract: the keys of the matches so far. Assumes nothing.
+use borrow.Author.Rules.{rules}
+use Rattle.std.specs.Prelude.{◌-◌, length}
+use native.Mathlib.Omega.{arith}
+use Rattle.core_graph.specs.Collected.{node_keys}
+use Rattle.core_graph.proofs.Loops.{KeysDone, keys_start, keys_again, keys_full, keys_done}
+use Rattle.meaning.specs.Member.{◌∈◌}
+use Rattle.meaning.proofs.Lists.Places.{∈_at}
+use Rattle.core_graph.proofs.nodes.add_rule.Goals as goal
+
+pub loop-i-init : goal.loop-i-init
+loop-i-init c = let s = c in keys_start _ _ _ _ s.requires.2 s.requires.3
+
+pub add_match-added-requires : goal.add_match-added-requires
+add_match-added-requires c = let s = c in
+    let l = c.loop-i in
+    (s.requires.0, s.requires.1 _ (∈_at _ _ (omega arith)), l.invariant.grown.fits, l.invariant.grown.list.ascending)
+
+pub returns-in-TooLarge : goal.returns-in-TooLarge
+returns-in-TooLarge c = let at-add-match = c in
+    let at-loop = at-add-match in
+    keys_full at-loop.loop-i.invariant (omega arith) (rw c.enum_told-1.given.1 at at-add-match.add_match-added.ensures)
+
+pub loop-i-preserved : goal.loop-i-preserved
+loop-i-preserved c = let loop = c.loop-i in
+    let a = c.add_match-added in
+    keys_again loop.invariant (omega arith) _ _ (rw c.added-1.given.1 at a.ensures) a.auto.1.1.1.0
+
+pub returns : goal.returns
+returns c = keys_done c.loop-i.invariant (omega arith)

@@ -1,0 +1,62 @@
+-- `core::nodes::add_rules` meets its contract: the keys of the rules so far. Assumes nothing.
+use borrow.Author.Rules.{rules}
+use native.Mathlib.Omega.{arith}
+use Rattle.std.specs.Prelude.{◌-◌, ◌<◌, ◌≤◌}
+use Rattle.core_graph.specs.Collected.{node_keys}
+use Rattle.core_graph.proofs.Loops.{RulesDone, rules_start, rules_again, rules_full, rules_done}
+use Rattle.meaning.specs.Member.{◌∈◌}
+use native.Mathlib.Nat.{add-sub_cancel_left}
+use Rattle.core_graph.proofs.nodes.add_rules.Goals as goal
+
+pub loop-r-init : goal.loop-r-init
+loop-r-init c = (search rules, rules_start _ _ _ _ _)
+
+pub overflow_mul-start : goal.overflow_mul-start
+overflow_mul-start c = omega (arith, c.requires.few)
+
+pub offset_bounds-counts-r : goal.offset_bounds-counts-r
+offset_bounds-counts-r c = omega (arith, c.requires.few)
+
+pub bounds-counts-r : goal.bounds-counts-r
+bounds-counts-r c = omega (arith, c.requires.few)
+
+pub overflow_add-end : goal.overflow_add-end
+overflow_add-end c = let pre = c.requires in omega (arith, pre.few, pre.short c.loop-r.r (omega arith))
+
+pub offset_bounds-rules-r : goal.offset_bounds-rules-r
+offset_bounds-rules-r c = omega (arith, c.requires.few)
+
+pub bounds-rules-r : goal.bounds-rules-r
+bounds-rules-r c = omega (arith, c.requires.few)
+
+pub offset_bounds-heads-start : goal.offset_bounds-heads-start
+offset_bounds-heads-start c = omega (arith, c.requires.few)
+
+pub slice_bounds-add_rule-count : goal.slice_bounds-add_rule-count
+slice_bounds-add_rule-count c = omega arith
+
+pub slice_bounds-add_rule-start : goal.slice_bounds-add_rule-start
+slice_bounds-add_rule-start c = omega arith
+
+pub slice_bounds-add_rule-end : goal.slice_bounds-add_rule-end
+slice_bounds-add_rule-end c = let pre = c.requires in
+    omega (arith, pre.few, pre.room, pre.short c.loop-r.r (omega arith))
+
+pub add_rule-added-requires : goal.add_rule-added-requires
+add_rule-added-requires c = let s = c in
+    let l = c.loop-r in
+    let h : l.r < s.args.count = omega arith in
+    (s.requires.fits l.r h, rw add-sub_cancel_left (s.requires.keys l.r h), l.invariant.1.grown.fits, l.invariant.1.grown.list.ascending)
+
+pub returns-in-TooLarge : goal.returns-in-TooLarge
+returns-in-TooLarge c = let at-add-rule = c in
+    let at-loop = at-add-rule in
+    rules_full at-loop.loop-r.invariant.1 (omega arith) (rw (c.enum_told-1.given.1, add-sub_cancel_left) at at-add-rule.add_rule-added.ensures)
+
+pub loop-r-preserved : goal.loop-r-preserved
+loop-r-preserved c = let loop = c.loop-r in
+    let a = c.add_rule-added in
+    (omega arith, rules_again loop.invariant.1 _ _ (rw (c.added-1.given.1, add-sub_cancel_left) at a.ensures) a.auto.1.1.0)
+
+pub returns : goal.returns
+returns c = rules_done c.loop-r.invariant.1 (omega arith)
