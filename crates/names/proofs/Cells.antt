@@ -40,6 +40,10 @@ pub cells_good : (n : ℕ) → n ≤ unused → (cells : List ℕ) (k w p : ℕ)
     → (every (below n) (take k (take w (cells ++ replicate p unused))) && every spare (drop k (take w (cells ++ replicate p unused))))
     ≡ (eqb (length cells) k && every (below n) cells)
 cells_good n h [] zero w p a b c f = all_spare w p b
+cells_good n h [] (suc k) zero p a b c f = elim a [ ]
+cells_good n h [] (suc k) (suc w) zero a b c f = elim b [ ]
+cells_good n h (x ∷ xs) zero zero p a b c f = elim c [ ]
+cells_good n h (x ∷ xs) (suc k) zero p a b c f = elim a [ ]
 cells_good n h [] (suc k) (suc w) (suc p) a b c f = rw (le-ltb unused n h, ne_eqb 0 (suc k) (λ e. omega arith))
 cells_good n h (x ∷ xs) zero (suc w) p a b c f = rw (ne_eqb x unused (λ e. let q = f x (here refl) in omega arith), ne_eqb (suc (length xs)) 0 (λ e. omega arith))
 cells_good n h (x ∷ xs) (suc k) (suc w) p a b c f =

@@ -1,0 +1,31 @@
+-- `dependencies::good_dependency` meets its contract. Assumes nothing.
+use native.Mathlib.Omega.{arith}
+use Rattle.names.proofs.Counted.{arity_small, relations_few}
+use Rattle.names.proofs.Dependency.{both_in, left_out, none_named}
+use Rattle.names.proofs.dependencies.good_dependency.Goals as goal
+
+pub returns-then-counts-relation : goal.returns-then-counts-relation
+returns-then-counts-relation c = λ P g x d. none_named g d c.if-counts-relation.true
+
+pub overflow_add-arity : goal.overflow_add-arity
+overflow_add-arity c = omega (arith, relations_few c.requires.0.given)
+
+pub offset_bounds-numbers-relation : goal.offset_bounds-numbers-relation
+offset_bounds-numbers-relation c = omega (arith, relations_few c.requires.0.given)
+
+pub bounds-numbers-relation : goal.bounds-numbers-relation
+bounds-numbers-relation c = let pre = c.requires in omega (arith, relations_few pre.0.given, pre.0.given.long)
+
+pub in_columns-requires : goal.in_columns-requires
+in_columns-requires c = arity_small c.requires.0.given c.if-counts-relation.false
+
+pub returns-then-not-in_columns : goal.returns-then-not-in_columns
+returns-then-not-in_columns c = let t = c in
+    λ P g x d. left_out g d t.if-counts-relation.false c.in_columns.ensures c.if-not-in_columns.true
+
+pub in_columns-requires-2 : goal.in_columns-requires-2
+in_columns-requires-2 c = arity_small c.requires.0.given c.if-counts-relation.false
+
+pub returns : goal.returns
+returns c = let t = c in
+    λ P g x d. both_in g d t.if-counts-relation.false t.in_columns.ensures c.if-not-in_columns.false c.in_columns-2.ensures

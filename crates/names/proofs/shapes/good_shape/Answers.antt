@@ -1,0 +1,16 @@
+-- `shapes::good_shape` meets its contract. Assumes nothing.
+use borrow.Author.Tests.{eq-eqb, le-ltb, lt-ltb, ne_eqb}
+use Rattle.names.proofs.Shape.{shape_good_lem}
+use Rattle.names.proofs.shapes.good_shape.Goals as goal
+
+pub returns-then-types-numbers : goal.returns-then-types-numbers
+returns-then-types-numbers c = λ P g x s. rw (le-ltb _ _ c.if-types-numbers.true) at (shape_good_lem g s)
+
+pub returns-then-counts-numbers : goal.returns-then-counts-numbers
+returns-then-counts-numbers c = λ P g x s. rw (lt-ltb _ _ c.if-types-numbers.false, le-ltb _ _ c.if-counts-numbers.true) at (shape_good_lem g s)
+
+pub returns-then-target-eq-LITERAL : goal.returns-then-target-eq-LITERAL
+returns-then-target-eq-LITERAL c = λ P g x s. rw (lt-ltb _ _ c.if-types-numbers.false, lt-ltb _ _ c.if-counts-numbers.false, eq-eqb _ _ c.if-target-eq-LITERAL.true) at (shape_good_lem g s)
+
+pub returns : goal.returns
+returns c = λ P g x s. rw (lt-ltb _ _ c.if-types-numbers.false, lt-ltb _ _ c.if-counts-numbers.false, ne_eqb _ _ c.if-target-eq-LITERAL.false) at (shape_good_lem g s)
