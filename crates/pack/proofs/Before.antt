@@ -9,14 +9,14 @@ use mathlib.Core.Option.{Option, none, some, some-injective}
 use mathlib.Core.Path.{◌≡◌, refl, sym, ap, ◌∙◌}
 use native.Mathlib.Omega.{arith}
 use Prim.Native.Nat.{ℕ, ◌≤◌}
-use Rattle.meaning.specs.Limits.{max_constructors, max_dependencies, max_predicates, max_relations, max_rows, max_rules, max_shapes, max_types, max_values}
+use Rattle.meaning.specs.Limits.{max_dependencies, max_predicates, max_relations, max_shapes, max_types, max_values}
 use Rattle.meaning.specs.Pack.{Pack}
 use Rattle.pack.proofs.Unpacking.{body_records, then_some}
 use Rattle.pack.specs.Before.{FewBefore, first_refusal_before, shapes_before, types_before}
 use Rattle.pack.specs.Checked.{Refusal, accepted, five_to_eight, check_within, first_refusal, number_of, on_pack, refused}
 use Rattle.pack.specs.Contents.{bad_size, body_of}
 use Rattle.pack.specs.Readers.{Reader}
-use Rattle.pack.specs.Records.{constructor, dependency, name, relation, row, rule, shape, value}
+use Rattle.pack.specs.Records.{dependency, name, relation, shape, value}
 use Rattle.pack.specs.Unpack.{at_most, body, read_all, unpack_within}
 
 -- a body with no more records than the lower limit

@@ -4,7 +4,7 @@ use Rattle.pack.specs.Checked.{check_within, first_refusal, first_true, on_pack,
 use Rattle.pack.specs.Contents.{bad_size, body_of, length_of, start_of, word}
 use Rattle.pack.specs.Readers.{byte, byte_in, bytes, sized}
 use Rattle.pack.specs.Records.{atom, atoms, constructor, dependency, head_of, multiplicity_of, name, prefix_byte, relation, row, rule, shape, target_of, term, tuple, value}
-use Rattle.pack.specs.Unpack.{body, read_all, records, unpack, unpack_within}
+use Rattle.pack.specs.Unpack.{body, read_all, records, unpack_within}
 
 unfoldable pub checking : Unit {0}
 unfolding word length_of start_of body_of bad_size byte byte_in bytes sized prefix_byte value relation dependency name target_of multiplicity_of shape

@@ -7,7 +7,6 @@ use native.Mathlib.Omega.{arith}
 use Prim.Native.Nat.{ℕ, zero, suc, ◌+◌, ◌-◌, ◌≤◌, ◌<◌, zero-le}
 use Rattle.meaning.specs.Limits.{max_atoms, max_variables}
 use Rattle.meaning.specs.Pack.{Atom, Term}
-use Rattle.meaning.specs.Tests.{within}
 use Rattle.pack.specs.Readers.{Reader, ◌>>=◌, byte, byte_in}
 use Rattle.pack.specs.Records.{atom, atom_of, atoms, term, term_of, head_of, rule}
 use Rattle.pack.specs.Shown.{CursorIn, Got, Not, TupleGot, TupleShown, Skipped, MovedShown, ObjectGot, ObjectShown, object_of, HeadGot, HeadShown, RuleGot, made}
