@@ -4,7 +4,7 @@ use Rattle.std.specs.Prelude.{◌≡◌, ℕ, ◌<◌, ◌≤◌, ◌⊎◌, ◌
 use lib.ListN.{get_elem?, length-take}
 use mathlib.Core.Logic.Iff
 use mathlib.Core.Logic.{inr}
-use mathlib.Core.Option.{some, some-injective}
+use mathlib.Core.Option.{some-injective}
 use mathlib.Core.Path.{refl, sym, ap, ap₂, ◌∙◌, subst}
 use native.Mathlib.Omega.{arith}
 use Rattle.core_graph.proofs.DistinctKeys.{core_proper, key_injective}

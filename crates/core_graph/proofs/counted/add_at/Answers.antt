@@ -1,19 +1,18 @@
 -- `core::counted::add_at` meets its contract. Assumes nothing.
-use borrow.Author.Rules.{rules}
 use Rattle.core_graph.proofs.Growing.{grown_added, grown_present, grown_full}
 use Rattle.core_graph.proofs.counted.add_at.Goals as goal
 
 pub returns-in-Added : goal.returns-in-Added
 returns-in-Added c = let r = c.insert_at-done in
     let s = c in
-    grown_added s.requires.0 s.requires.1 (rw c.enum_told-1.given.1 at r.ensures) r.auto.0
+    grown_added s.requires.0 s.requires.1 (c.in-Added.ensures) r.auto.keys
 
 pub returns-in-Present : goal.returns-in-Present
 returns-in-Present c = let r = c.insert_at-done in
     let s = c in
-    grown_present s.requires.0 s.requires.1 (rw c.enum_told-in-Present-1.given.1 at r.ensures) r.auto.0
+    grown_present s.requires.0 s.requires.1 (c.in-Present.ensures) r.auto.keys
 
 pub returns-in-Full : goal.returns-in-Full
 returns-in-Full c = let r = c.insert_at-done in
     let s = c in
-    grown_full s.requires.0 s.requires.1 (rw c.enum_told-in-Full-1.given.1 at r.ensures)
+    grown_full s.requires.0 s.requires.1 (c.in-Full.ensures)

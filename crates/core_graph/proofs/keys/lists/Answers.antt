@@ -1,5 +1,4 @@
 -- `core::keys::lists` meets its contract. Assumes nothing.
-use borrow.Author.Rules.{rules}
 use Rattle.core_graph.proofs.Powers.{bytes_made}
 use Rattle.core_graph.proofs.keys.lists.Goals as goal
 

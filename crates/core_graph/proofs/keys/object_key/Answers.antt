@@ -1,5 +1,4 @@
 -- `core::keys::object_key` meets its contract. Assumes nothing.
-use borrow.Author.Rules.{rules}
 use borrow.Author.Tests.{eq-eqb, ne_eqb}
 use native.Mathlib.Omega.{arith}
 use Rattle.std.specs.Prelude.{◌*◌, ◌%◌, ◌<◌}

@@ -1,10 +1,6 @@
-use borrow.Author.Rules.{rules}
-use Rattle.std.specs.Prelude.{◌-◌, length}
-use native.Mathlib.Omega.{arith}
 use Rattle.core_graph.specs.Collected.{node_keys}
-use Rattle.core_graph.proofs.Loops.{KeysDone, keys_start, keys_again, keys_full, keys_done}
+use Rattle.core_graph.proofs.Loops.{KeysDone}
 use Rattle.meaning.specs.Member.{◌∈◌}
-use Rattle.meaning.proofs.Lists.Places.{∈_at}
 use Rattle.core_graph.proofs.nodes.add_rule.Given as goal
 
 abbrev pub invariant-loop-i : goal.invariant-loop-i

@@ -1,33 +1,32 @@
 -- `core::nodes::nodes` meets its contract: the IRIs are the keys below the first literal's. Assumes nothing.
-use borrow.Author.Rules.{rules}
 use lib.ListN.{length-take}
 use native.Mathlib.Omega.{arith}
 use Rattle.core_graph.proofs.Passed.{nodes_beyond, nodes_listed, nodes_over}
 use Rattle.core_graph.proofs.nodes.nodes.Goals as goal
 
 pub slice_bounds-rank-end : goal.slice_bounds-rank-end
-slice_bounds-rank-end c = let g = (rw c.added-1.given.1 at c.add_rules-added.ensures) in g.fits
+slice_bounds-rank-end c = let g = c.in-Count.ensures in g.fits
 
 pub slice_bounds-rank-end-in-Count : goal.slice_bounds-rank-end-in-Count
 slice_bounds-rank-end-in-Count c = let add-rules = c.add_rules-added in
-    let added = c.added-1 in
-    let g = (rw added.given.1 at add-rules.ensures) in
-    omega (arith, length-take added.given.0.0 add-rules.new.1.1.1.1.0, g.fits)
+    let added = c.in-Count in
+    let g = c.in-Count.ensures in
+    omega (arith, length-take added.m add-rules.new.nodes, g.fits)
 
 pub rank-iris-requires : goal.rank-iris-requires
-rank-iris-requires c = let g = (rw c.added-1.given.1 at c.add_rules-added.ensures) in g.list.ascending
+rank-iris-requires c = let g = c.in-Count.ensures in g.list.ascending
 
 pub returns-then-iris-gt-MAX_IRIS : goal.returns-then-iris-gt-MAX_IRIS
 returns-then-iris-gt-MAX_IRIS c = let at_Added = c in
     let at-add-rules = at_Added in
-    λ P h b. nodes_over P h b (rw at_Added.added-1.given.1 at at-add-rules.add_rules-added.ensures) (omega (arith, rw c.rank-iris.ensures at c.if-iris-gt-MAX_IRIS.true))
+    λ P h b. nodes_over P h b c.in-Count.ensures (omega (arith, rw c.rank-iris.ensures at c.if-iris-gt-MAX_IRIS.true))
 
 pub returns-in-TooLarge : goal.returns-in-TooLarge
 returns-in-TooLarge c = let at-add-rules = c in
     let entry = at-add-rules in
-    λ P h b. nodes_beyond P h b entry.requires.1 (rw c.enum_told-1.given.1 at at-add-rules.add_rules-added.ensures)
+    λ P h b. nodes_beyond P h b entry.requires.1 c.in-TooLarge.ensures
 
 pub returns-else-iris-gt-MAX_IRIS : goal.returns-else-iris-gt-MAX_IRIS
 returns-else-iris-gt-MAX_IRIS c = let at_Added = c in
     let at-add-rules = at_Added in
-    nodes_listed (rw at_Added.added-1.given.1 at at-add-rules.add_rules-added.ensures) (omega (arith, rw c.rank-iris.ensures at c.if-iris-gt-MAX_IRIS.false))
+    nodes_listed c.in-Count.ensures (omega (arith, rw c.rank-iris.ensures at c.if-iris-gt-MAX_IRIS.false))

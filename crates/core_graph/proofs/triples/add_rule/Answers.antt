@@ -1,10 +1,6 @@
 -- `core::triples::add_rule` meets its contract: the keys of the matches so far. Assumes nothing.
-use borrow.Author.Rules.{rules}
-use Rattle.std.specs.Prelude.{◌-◌, length}
 use native.Mathlib.Omega.{arith}
-use Rattle.core_graph.specs.Collected.{triple_keys}
-use Rattle.core_graph.proofs.Loops.{KeysDone, keys_start, keys_again, keys_full, keys_done}
-use Rattle.meaning.specs.Member.{◌∈◌}
+use Rattle.core_graph.proofs.Loops.{keys_start, keys_again, keys_full, keys_done}
 use Rattle.meaning.proofs.Lists.Places.{∈_at}
 use Rattle.core_graph.proofs.triples.add_rule.Goals as goal
 
@@ -19,12 +15,12 @@ add_match-added-requires c = let s = c in
 pub returns-in-TooLarge : goal.returns-in-TooLarge
 returns-in-TooLarge c = let at-add-match = c in
     let at-loop = at-add-match in
-    keys_full at-loop.loop-i.invariant (omega arith) (rw c.enum_told-1.given.1 at at-add-match.add_match-added.ensures)
+    keys_full at-loop.loop-i.invariant (omega arith) c.in-TooLarge.ensures
 
 pub loop-i-preserved : goal.loop-i-preserved
 loop-i-preserved c = let loop = c.loop-i in
     let a = c.add_match-added in
-    keys_again loop.invariant (omega arith) _ _ (rw c.added-1.given.1 at a.ensures) a.auto.1.1.1.1.0
+    keys_again loop.invariant (omega arith) _ _ c.in-Count.ensures a.auto.triples
 
 pub returns : goal.returns
 returns c = keys_done c.loop-i.invariant (omega arith)

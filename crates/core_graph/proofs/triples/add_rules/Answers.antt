@@ -1,10 +1,8 @@
 -- `core::triples::add_rules` meets its contract: the keys of the rules so far. Assumes nothing.
 use borrow.Author.Rules.{rules}
 use native.Mathlib.Omega.{arith}
-use Rattle.std.specs.Prelude.{◌-◌, ◌<◌, ◌≤◌}
-use Rattle.core_graph.specs.Collected.{triple_keys}
-use Rattle.core_graph.proofs.Loops.{RulesDone, rules_start, rules_again, rules_full, rules_done}
-use Rattle.meaning.specs.Member.{◌∈◌}
+use Rattle.std.specs.Prelude.{◌<◌}
+use Rattle.core_graph.proofs.Loops.{rules_start, rules_again, rules_full, rules_done}
 use native.Mathlib.Nat.{add-sub_cancel_left}
 use Rattle.core_graph.proofs.triples.add_rules.Goals as goal
 
@@ -51,12 +49,12 @@ add_rule-added-requires c = let s = c in
 pub returns-in-TooLarge : goal.returns-in-TooLarge
 returns-in-TooLarge c = let at-add-rule = c in
     let at-loop = at-add-rule in
-    rules_full at-loop.loop-r.invariant.1 (omega arith) (rw (c.enum_told-1.given.1, add-sub_cancel_left) at at-add-rule.add_rule-added.ensures)
+    rules_full at-loop.loop-r.invariant.1 (omega arith) (rw add-sub_cancel_left at c.in-TooLarge.ensures)
 
 pub loop-r-preserved : goal.loop-r-preserved
 loop-r-preserved c = let loop = c.loop-r in
     let a = c.add_rule-added in
-    (omega arith, rules_again loop.invariant.1 _ _ (rw (c.added-1.given.1, add-sub_cancel_left) at a.ensures) a.auto.1.1.1.0)
+    (omega arith, rules_again loop.invariant.1 _ _ (rw add-sub_cancel_left at c.in-Count.ensures) a.auto.triples)
 
 pub returns : goal.returns
 returns c = rules_done c.loop-r.invariant.1 (omega arith)

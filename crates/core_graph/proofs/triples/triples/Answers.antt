@@ -1,10 +1,9 @@
 -- `core::triples::triples` meets its contract. Assumes nothing.
-use borrow.Author.Rules.{rules}
 use Rattle.core_graph.proofs.TripleAnswers.{triples_answer}
 use Rattle.core_graph.proofs.triples.triples.Goals as goal
 
 pub returns : goal.returns
 returns c = let s = c in
     let a = c.add_rules in
-    triples_answer s.requires.0 s.args.nodes.now s.requires.2 a.result s.args.triples.now a.new.1.1.1.1.1.0 a.ensures s.requires.3
-    a.auto.1.1.1.1.1.0
+    triples_answer s.requires.0 s.args.nodes.now s.requires.2 a.result s.args.triples.now a.new.triples a.ensures s.requires.3
+    a.auto.triples

@@ -1,9 +1,6 @@
 -- `core::typing::mark_rule` meets its contract: those of the matches so far. Assumes nothing.
-use borrow.Author.Rules.{rules}
-use Rattle.std.specs.Prelude.{◌-◌, length}
 use native.Mathlib.Omega.{arith}
-use Rattle.core_graph.specs.Collected.{HeadType}
-use Rattle.core_graph.proofs.Marking.{KeysMarked, marks_start, marks_again, marks_done}
+use Rattle.core_graph.proofs.Marking.{marks_start, marks_again, marks_done}
 use Rattle.meaning.proofs.Lists.Places.{∈_at}
 use Rattle.core_graph.proofs.typing.mark_rule.Goals as goal
 
@@ -19,7 +16,7 @@ mark_match-near-requires c = let at-loop = c in
 pub loop-i-preserved : goal.loop-i-preserved
 loop-i-preserved c = let loop = c.loop-i in
     let a = c.mark_match-near in
-    marks_again loop.invariant (omega arith) _ a.ensures a.auto.1.1.1.1.0
+    marks_again loop.invariant (omega arith) _ a.ensures a.auto.masks
 
 pub returns : goal.returns
 returns c = marks_done c.loop-i.invariant (omega arith)

@@ -1,9 +1,8 @@
 -- `core::typing::mark_rules` meets its contract: those of the rules so far. Assumes nothing.
 use borrow.Author.Rules.{rules}
 use native.Mathlib.Omega.{arith}
-use Rattle.std.specs.Prelude.{◌-◌, ◌<◌, ◌≤◌}
-use Rattle.core_graph.specs.Collected.{HeadType}
-use Rattle.core_graph.proofs.Marking.{RulesMarked, all_start, all_again, all_done}
+use Rattle.std.specs.Prelude.{◌<◌}
+use Rattle.core_graph.proofs.Marking.{all_start, all_again, all_done}
 use native.Mathlib.Nat.{add-sub_cancel_left}
 use Rattle.core_graph.proofs.typing.mark_rules.Goals as goal
 
@@ -55,7 +54,7 @@ mark_rule-requires c = let s = c in
 pub loop-r-preserved : goal.loop-r-preserved
 loop-r-preserved c = let loop = c.loop-r in
     let a = c.mark_rule in
-    (omega arith, all_again loop.invariant.1 _ (rw add-sub_cancel_left at a.ensures) a.auto.1.1.1.0)
+    (omega arith, all_again loop.invariant.1 _ (rw add-sub_cancel_left at a.ensures) a.auto.masks)
 
 pub returns : goal.returns
 returns c = all_done c.loop-r.invariant.1 (omega arith)

@@ -1,9 +1,6 @@
-use borrow.Author.Rules.{rules}
-use native.Mathlib.Omega.{arith}
-use Rattle.std.specs.Prelude.{◌-◌, ◌<◌, ◌≤◌}
+use Rattle.std.specs.Prelude.{◌≤◌}
 use Rattle.core_graph.specs.Collected.{HeadType}
-use Rattle.core_graph.proofs.Marking.{RulesMarked, all_start, all_again, all_done}
-use native.Mathlib.Nat.{add-sub_cancel_left}
+use Rattle.core_graph.proofs.Marking.{RulesMarked}
 use Rattle.core_graph.proofs.typing.mark_rules.Given as goal
 
 abbrev pub invariant-loop-r : goal.invariant-loop-r

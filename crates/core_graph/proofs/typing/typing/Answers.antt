@@ -1,5 +1,4 @@
 -- `core::typing::typing` meets its contract. Assumes nothing.
-use borrow.Author.Rules.{rules}
 use Rattle.core_graph.proofs.AllPasses.{types_answer}
 use Rattle.core_graph.proofs.typing.typing.Goals as goal
 
@@ -7,5 +6,5 @@ pub returns : goal.returns
 returns c = let s = c in
     let m = c.mark_rules in
     let p = c.spread in
-    types_answer s.requires.1 s.args.nodes.now s.requires.3 s.args.triples.now s.args.masks.now s.requires.8 m.new.1.1.1.1.1.0 m.ensures s.args.t1
-    p.new.1.1.0 p.ensures.0 p.ensures.1
+    types_answer s.requires.1 s.args.nodes.now s.requires.3 s.args.triples.now s.args.masks.now s.requires.8 m.new.masks m.ensures s.args.shapes
+    p.new.masks p.ensures.0 p.ensures.1
