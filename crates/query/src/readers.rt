@@ -11,7 +11,7 @@ use crate::scan::{peek, run_end};
 use crate::{kinds, marks};
 
 // Reads sequences parted by "|".
-#[cycle(read_atom_read_sequence_read_step_read_union)]
+#[cycle(readers)]
 pub fn read_union(q: &[u8], at: usize, left: usize, tree: &mut [u32], n: usize) -> Read
     requires { CanRead q.now tree.old at n }
     ensures { Reading q.now tree.old tree.new at n result.0 result.1 result.2 (parse a_union left (drop at q.now)) }
@@ -33,7 +33,7 @@ pub fn read_union(q: &[u8], at: usize, left: usize, tree: &mut [u32], n: usize) 
 }
 
 // Reads steps parted by "/".
-#[cycle(read_atom_read_sequence_read_step_read_union)]
+#[cycle(readers)]
 fn read_sequence(q: &[u8], at: usize, left: usize, tree: &mut [u32], n: usize) -> Read
     requires { CanRead q.now tree.old at n }
     ensures { Reading q.now tree.old tree.new at n result.0 result.1 result.2 (parse a_sequence left (drop at q.now)) }
@@ -55,7 +55,7 @@ fn read_sequence(q: &[u8], at: usize, left: usize, tree: &mut [u32], n: usize) -
 }
 
 // Reads an atom and its stars.
-#[cycle(read_atom_read_sequence_read_step_read_union)]
+#[cycle(readers)]
 fn read_step(q: &[u8], at: usize, left: usize, tree: &mut [u32], n: usize) -> Read
     requires { CanRead q.now tree.old at n }
     ensures { Reading q.now tree.old tree.new at n result.0 result.1 result.2 (parse a_step left (drop at q.now)) }
@@ -71,7 +71,7 @@ fn read_step(q: &[u8], at: usize, left: usize, tree: &mut [u32], n: usize) -> Re
 }
 
 // Reads "()", a union in brackets, or an atom with no bracket.
-#[cycle(read_atom_read_sequence_read_step_read_union)]
+#[cycle(readers)]
 fn read_atom(q: &[u8], at: usize, left: usize, tree: &mut [u32], n: usize) -> Read
     requires { CanRead q.now tree.old at n }
     ensures { Reading q.now tree.old tree.new at n result.0 result.1 result.2 (parse an_atom left (drop at q.now)) }
