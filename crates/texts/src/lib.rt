@@ -14,7 +14,7 @@ use meaning::{
 };
 
 // What is compared of a record: its text, its prefix, or its type and predicate.
-#[derive(Drop)]
+#[derive(Clone, Copy)]
 pub enum Key {
     Text,
     Prefix,
