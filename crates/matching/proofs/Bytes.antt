@@ -44,6 +44,7 @@ stacked_drop σ vs c h = rw (drop-cons vs c 0 h)
 pub stacked_same : (ρ σ : Assignment) (vs : List ℕ) → ((v : ℕ) → v ∈ vs → ρ v < max_values) → ((v : ℕ) → v ∈ vs → σ v < max_values)
     → stacked (map ρ vs) ≡ stacked (map σ vs) → (v : ℕ) → v ∈ vs → ρ v ≡ σ v
 unfolding stacked
+stacked_same ρ σ [] s t e v x4 = elim x4 [ ]
 stacked_same ρ σ (w ∷ vs) s t e v (here q) = let a = s w (here refl) in let b = t w (here refl) in subst (λ x. ρ x ≡ σ x) (sym q) (omega (arith, e, a, b))
 stacked_same ρ σ (w ∷ vs) s t e v (there m) =
     let a = s w (here refl) in

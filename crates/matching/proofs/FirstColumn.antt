@@ -4,7 +4,7 @@ use lib.Dec.{eqb}
 use lib.ListN.{length, get_or, set, drop, length-set, drop_of_length-le}
 use lib.Seq.{drop-cons, get_or-set_same, get_or-set_other}
 use mathlib.Core.Bool.{cond}
-use mathlib.Core.List.{List, ◌∷◌}
+use mathlib.Core.List.{List, [], ◌∷◌}
 use mathlib.Core.Path.{◌≡◌, sym, ap, ◌∙◌}
 use native.Mathlib.Decide.{ℕ_discrete}
 use native.Mathlib.Numerals.{add-one}
@@ -19,6 +19,7 @@ Has own v = (column_of own v < length own) × (get_or own (column_of own v) 0 �
 
 has : (own : List ℕ) (v : ℕ) → v ∈ own → Has own v
 unfolding column_of
+has [] v m = elim m [ ]
 has (w ∷ own) v m = go m (λ n. has own v n) (ℕ_discrete w v)
   where
     go : v ∈ (w ∷ own) → (v ∈ own → Has own v) → Dec (w ≡ v) → Has (w ∷ own) v

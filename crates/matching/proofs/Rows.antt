@@ -1,7 +1,7 @@
 -- Laws of trying an atom's candidate rows one after the other. Assumes nothing.
 use lib.ListN.{length, get_or, take, drop, length-take, length-drop}
 use lib.Seq.{get_or-take, get_or-drop}
-use mathlib.Core.Bool.{Bool, true, false, not, not-not}
+use mathlib.Core.Bool.{Bool, true, false}
 use mathlib.Core.List.{List, map}
 use mathlib.Core.Logic.{◌⊎◌, ◌↔◌, inl, inr, ⊎_elim}
 use mathlib.Core.Path.{◌≡◌, refl, sym, ap, ◌∙◌, subst}
@@ -291,11 +291,11 @@ module _ {atoms : List ℕ} {count : ℕ} {vars cands counts : List ℕ} {at : �
       says : RowBound b (variables_at atoms at) (get_or cands (at * max_rows + r) 0) env next
       says = rw (own_is atoms cands counts at) at w
 
-      pub turn_bound : not b ≡ false → RowBindings (variables_at atoms at) (get_or cands (at * max_rows + r) 0) env next
-      turn_bound e = rw (sym (not-not b) ∙ ap not e) at says
+      pub turn_bound : b ≡ true → RowBindings (variables_at atoms at) (get_or cands (at * max_rows + r) 0) env next
+      turn_bound e = rw e at says
 
-      pub turn_skip : not b ≡ true → Turn atoms count vars cands counts at env keys₀ n from to (r + 1) m keys
-      turn_skip e = turn (trying_skip t.plan t.left t.trying (rw (sym (not-not b) ∙ ap not e) at says))
+      pub turn_skip : b ≡ false → Turn atoms count vars cands counts at env keys₀ n from to (r + 1) m keys
+      turn_skip e = turn (trying_skip t.plan t.left t.trying (rw e at says))
 
     module _ {next : List ℕ} (w : RowBindings (variables_at atoms at) (get_or cands (at * max_rows + r) 0) env next) where
       pub turn_reaches : Reaches atoms count vars cands counts (at + 1) next

@@ -2,7 +2,7 @@
 use borrow.Author.Tests.{eqb-false}
 use lib.Dec.{eqb}
 use lib.ListN.{length, get_or, take, length-take}
-use mathlib.Core.List.{List, ◌∷◌, map}
+use mathlib.Core.List.{List, [], ◌∷◌, map}
 use mathlib.Core.Logic.{◌↔◌, inr, ⊎_elim}
 use mathlib.Core.Path.{◌≡◌, refl, sym, ap, ◌∙◌, subst}
 use native.Mathlib.Omega.{arith}
@@ -41,6 +41,7 @@ unmatched_answers {orders} {count} {vars} {cands} {counts} {start} f u keys = (z
 -- ---- keys of value numbers
 
 map_bytes : (σ : Assignment) (vs : List ℕ) → ((v : ℕ) → v ∈ vs → σ v < max_values) → (x : ℕ) → x ∈ map σ vs → x < max_values
+map_bytes σ [] s x x4 = elim x4 [ ]
 map_bytes σ (v ∷ vs) s x (here e) = rw e (s v (here refl))
 map_bytes σ (v ∷ vs) s x (there m) = map_bytes σ vs (λ w n. s w (there n)) x m
 

@@ -1,0 +1,107 @@
+-- `matching::candidates::candidates` meets its contract: the keys of the first r rows. Assumes nothing.
+use borrow.Author.Rules.{rules}
+use mathlib.Core.Path.{refl}
+use native.Mathlib.Omega.{arith}
+use Rattle.matching.proofs.Cells.{cells_start, cells_again, cells_differ, column_below, columns_bytes}
+use Rattle.matching.proofs.Collect.{collect_start, collect_other, collect_differ, collect_more, collect_done}
+use Rattle.matching.proofs.candidates.candidates.Goals as goal
+
+pub columns-firsts-requires : goal.columns-firsts-requires
+columns-firsts-requires c = c.requires.0.short
+
+pub columns-cols-requires : goal.columns-cols-requires
+columns-cols-requires c = c.requires.1.short
+
+pub overflow_mul-at : goal.overflow_mul-at
+overflow_mul-at c = omega (arith, c.rows-test.true)
+
+pub overflow_add-at : goal.overflow_add-at
+overflow_add-at c = omega (arith, c.rows-test.true)
+
+pub loop-c-init : goal.loop-c-init
+loop-c-init c = cells_start _ _ _
+
+pub overflow_add-at-in-loop-c : goal.overflow_add-at-in-loop-c
+overflow_add-at-in-loop-c c = let pre = c.requires in
+    let rows-test = c.rows-test in
+    omega (arith, rows-test.true, c.loop-c-test.true, pre.0.short)
+
+pub offset_bounds-rows-at : goal.offset_bounds-rows-at
+offset_bounds-rows-at c = let pre = c.requires in
+    let rows-test = c.rows-test in
+    omega (arith, rows-test.true, c.loop-c-test.true, pre.0.short)
+
+pub bounds-rows-at : goal.bounds-rows-at
+bounds-rows-at c = let pre = c.requires in
+    let rows-test = c.rows-test in
+    omega (arith, rows-test.true, c.loop-c-test.true, pre.0.short)
+
+pub offset_bounds-firsts-c : goal.offset_bounds-firsts-c
+offset_bounds-firsts-c c = let pre = c.requires in
+    let rows-test = c.rows-test in
+    omega (arith, rows-test.true, c.loop-c-test.true, pre.0.short)
+
+pub bounds-firsts-c : goal.bounds-firsts-c
+bounds-firsts-c c = let pre = c.requires in
+    omega (arith, c.loop-c-test.true, pre.0.short)
+
+pub overflow_add-at-in-loop-c-2 : goal.overflow_add-at-in-loop-c-2
+overflow_add-at-in-loop-c-2 c = let pre = c.requires in
+    let columns = c.columns-firsts in
+    let rows-test = c.rows-test in
+    omega (arith, rows-test.true, c.loop-c-test.true, pre.0.short, column_below columns.ensures (λ v m. m) c.loop-c-test.true)
+
+pub offset_bounds-rows-at-in-loop-c : goal.offset_bounds-rows-at-in-loop-c
+offset_bounds-rows-at-in-loop-c c = let pre = c.requires in
+    let columns = c.columns-firsts in
+    let rows-test = c.rows-test in
+    omega (arith, rows-test.true, c.loop-c-test.true, pre.0.short, column_below columns.ensures (λ v m. m) c.loop-c-test.true)
+
+pub bounds-rows-at-in-loop-c : goal.bounds-rows-at-in-loop-c
+bounds-rows-at-in-loop-c c = let pre = c.requires in
+    let columns = c.columns-firsts in
+    let rows-test = c.rows-test in
+    let loop-test = c.loop-c-test in
+    omega (arith, rows-test.true, loop-test.true, pre.0.short, column_below columns.ensures (λ v m. m) loop-test.true)
+
+pub loop-c-smaller : goal.loop-c-smaller
+loop-c-smaller c = omega (arith, c.loop-c-test.true)
+
+pub loop-c-preserved : goal.loop-c-preserved
+loop-c-preserved c = cells_again c.loop-c.invariant c.if-rows-at.false
+
+pub row_key-key-requires : goal.row_key-key-requires
+row_key-key-requires c = (
+  c.requires.1,
+  c.requires.3,
+  columns_bytes c.columns-cols.ensures c.requires.2 c.requires.0 c.requires.4 c.rows-test.true
+      c.if-rows-r.false,
+  search rules,
+)
+
+pub store_next-n-requires : goal.store_next-n-requires
+store_next-n-requires c = (
+  omega (arith, c.rows.invariant.few, c.rows.invariant.long, c.rows-test.true, c.requires.5),
+  c.rows.invariant.list.ascending,
+  c.rows.invariant.recent,
+)
+
+pub returns : goal.returns
+returns c = collect_done _ _ _ _ _ c.rows.invariant c.rows-test.false c.requires.5
+
+pub rows-init : goal.rows-init
+rows-init c = collect_start _ _ _ _ _ _
+
+pub rows-preserved-then-rows-r : goal.rows-preserved-then-rows-r
+rows-preserved-then-rows-r c = collect_other _ _ _ _ _ c.rows.invariant c.rows-test.true c.if-rows-r.true
+
+pub rows-preserved-then-rows-at : goal.rows-preserved-then-rows-at
+rows-preserved-then-rows-at c =
+    collect_differ _ _ _ _ _ c.rows.invariant c.rows-test.true refl
+    (cells_differ c.columns-firsts.ensures c.loop-c.invariant c.loop-c-test.true c.if-rows-at.true)
+
+pub rows-preserved : goal.rows-preserved
+rows-preserved c =
+    collect_more _ _ _ _ _ c.rows.invariant c.rows-test.true refl c.requires.2 c.columns-firsts.ensures c.loop-c.invariant
+    c.loop-c-test.false c.columns-cols.ensures _ c.row_key-key.ensures c.if-rows-r.false _ _ c.store_next-n.ensures
+    c.store_next-n.auto.out
