@@ -3,7 +3,7 @@ use Rattle.std.proofs.Common.{◌≡◌, ℕ, ◌+◌, ◌*◌, ◌<◌, ◌≤�
 use lib.ListN.{get_elem?}
 use mathlib.Core.List.{foldl}
 use mathlib.Core.Option.{some, some-injective}
-use Rattle.std.specs.Bound.{Bounded}
+use Rattle.core_graph.specs.Bounds.{Bounded}
 use Rattle.spread.specs.Keys.{key_of}
 use Rattle.core_lists.proofs.ResolvedNodes.{Proper}
 use Rattle.meaning.proofs.Lists.Members.{element}
@@ -37,6 +37,8 @@ head_less k j (x ∷ xs) (y ∷ ys) h e s t =
     head_less (digit k x) (digit j y) xs ys (let a = s.0 in omega arith) (omega arith) s.1 t.1
 
 digits_less : (k : ℕ) (xs ys : List ℕ) → xs ≺ ys → length xs ≡ length ys → Small xs → Small ys → foldl digit k xs < foldl digit k ys
+digits_less k [] [] h e s t = elim h [ ]
+digits_less k (x ∷ xs) [] h e s t = elim h [ ]
 digits_less k [] (y ∷ ys) h e s t = absurd (let z : ⊥ = omega arith in z)
 digits_less k (x ∷ xs) (y ∷ ys) (less h) e s t = head_less (digit k x) (digit k y) xs ys (omega arith) (omega arith) s.1 t.1
 digits_less k (x ∷ xs) (y ∷ ys) (equal q h) e s t =

@@ -26,10 +26,10 @@ module _ (q : ℕ) where
       go true e i rest = first (eqb-true (origin_of x) q e) rest i
       go false e i rest = let r = rest i in (there r.0, r.1)
 
-  pub group_in : {ks : List ℕ} {k : ℕ} → k ∈ ks → origin_of k ≡ q → k ∈ group q ks
+  pub group_in : {k : ℕ} {ks : List ℕ} → k ∈ ks → origin_of k ≡ q → k ∈ group q ks
   unfolding group
-  group_in {ks} {k} (here {x = x} {xs = xs} p) e = rw (eq-eqb (origin_of x) q (subst (λ y. origin_of y ≡ q) p e)) (here p)
-  group_in {ks} {k} (there {x = x} {xs = xs} m) e = keep (eqb (origin_of x) q) (group_in m e)
+  group_in {k} {ks} (here {x = x} {xs = xs} p) e = rw (eq-eqb (origin_of x) q (subst (λ y. origin_of y ≡ q) p e)) (here p)
+  group_in {k} {ks} (there {x = x} {xs = xs} m) e = keep (eqb (origin_of x) q) (group_in m e)
     where
       keep : (b : Bool) → k ∈ group q xs → k ∈ cond b (x ∷ group q xs) (group q xs)
       keep true i = there i

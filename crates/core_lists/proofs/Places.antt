@@ -2,8 +2,8 @@
 use Rattle.std.proofs.Common.{◌≡◌, ℕ, ◌%◌, ◌<◌, ◌↔◌, List, length, get_or, sym, refl, ap, ◌∙◌, arith}
 use lib.ListN.{get_elem?}
 use mathlib.Core.Option.{Option, some, some-injective}
-use Rattle.std.proofs.Declared.{edge-predicate}
-use Rattle.std.proofs.Shapes.{codes-fit, tabled}
+use Rattle.core_graph.proofs.Declared.{edge_predicate}
+use Rattle.core_graph.proofs.Shapes.{codes_fit, tabled}
 use Rattle.spread.specs.Keys.{key_of, object_of, predicate_of, subject_of, triple_key}
 use Rattle.core_lists.specs.Input.{Input, CoreFits}
 use Rattle.core_lists.proofs.Keys.{key_one}
@@ -83,7 +83,7 @@ module _ {P : Pack} {table : List (List ℕ)} {nodes triples masks : List ℕ} (
   shaped = tabled I.shapes I.bounded
 
   pub input_codes : CodesFit table
-  input_codes = codes-fit I.shapes I.bounded
+  input_codes = codes_fit I.shapes I.bounded
 
   -- the node at a place
   pub record NodeAt (i : ℕ) : Type 0 where
@@ -130,7 +130,7 @@ module _ {P : Pack} {table : List (List ℕ)} {nodes triples masks : List ℕ} (
   pub edge_at : (k : ℕ) → k ∈ triples → EdgeAt k
   edge_at k m =
       let t = (I.held.triple_keys_are.members k).0 m in
-      let hp = edge-predicate P I.bounded.resolved t.edge in
+      let hp = edge_predicate P I.bounded.resolved t.edge in
       let ho = inside nodes t.object (key_of t.to) t.to_at in
       let hs = inside nodes t.subject (key_of t.from) t.from_at in
       let bp = I.bounded.predicates in
@@ -160,7 +160,7 @@ module _ {P : Pack} {table : List (List ℕ)} {nodes triples masks : List ℕ} (
   place_small n i e = let h = inside nodes i (key_of n) e in let f = I.few in omega arith
 
   pub predicate_small : {n m : Node} {p : ℕ} → CoreEdge P n p m → p < max_predicates
-  predicate_small e = let h = edge-predicate P I.bounded.resolved e in let b = I.bounded.predicates in omega arith
+  predicate_small e = let h = edge_predicate P I.bounded.resolved e in let b = I.bounded.predicates in omega arith
 
   -- the input is well placed
   pub input_placed : CoreFits nodes triples masks

@@ -1,7 +1,7 @@
 -- What the graph is built from: the core in lent slices and the shape table. Assumes nothing.
 use Rattle.std.specs.Prelude.{ℕ, ◌+◌, ◌<◌, ◌≤◌, List, length}
-use Rattle.std.specs.Bound.{Bounded}
-use Rattle.std.specs.CoreHeld.{CoreHeld}
+use Rattle.core_graph.specs.Bounds.{Bounded}
+use Rattle.core_graph.specs.CoreHeld.{CoreHeld}
 use Rattle.spread.specs.Keys.{object_of, predicate_of, subject_of}
 use Rattle.meaning.specs.Limits.{first_literal, max_core_nodes, max_core_triples, max_iris, max_predicates, max_values}
 use Rattle.meaning.specs.Member.{◌∈◌}
