@@ -1,8 +1,7 @@
 -- The states of one part that the states of a word, and what is marked, make alive. Assumes nothing.
-use borrow.Author.Tests.{not-true}
 use lib.Bits.{bit_and, bit_or}
 use lib.ListN.{get_or}
-use mathlib.Core.Bool.{Bool, not, true}
+use mathlib.Core.Bool.{Bool, false, true}
 use mathlib.Core.List.{List}
 use mathlib.Core.Logic.{inl, inr, ⊎_elim, ◌↔◌, ◌⊎◌}
 use mathlib.Core.Path.{ap, subst, sym, ◌∙◌, ◌≡◌}
@@ -29,8 +28,8 @@ use Rattle.worklist.specs.Table.{Adds, AddsOnly, Board, FromWord, InWord, Marked
 -- ---- one triple
 
 module _ {x kind want i : ℕ} {b₁ : Board} where
-  pub subject_none : (b : Bool) → not b ≡ true → b ≡ takes kind want (x % max_predicates) → Table state_words b₁ → AddsOnly state_words (SubjectAt x kind want i) b₁ b₁
-  subject_none b n e t = adds_none t (λ y s. true_false (e ∙ s.taken) (not-true b n))
+  pub subject_none : (b : Bool) → b ≡ false → b ≡ takes kind want (x % max_predicates) → Table state_words b₁ → AddsOnly state_words (SubjectAt x kind want i) b₁ b₁
+  subject_none b n e t = adds_none t (λ y s. true_false (e ∙ s.taken) n)
 
   pub subject_one : {b₂ : Board} → takes kind want (x % max_predicates) ≡ true → AddsOnly state_words (λ y. y ≡ i * max_nodes + x / max_predicates) b₁ b₂
       → AddsOnly state_words (SubjectAt x kind want i) b₁ b₂
