@@ -1,6 +1,6 @@
 /* Ciravehy: certain answers for a type foundry's catalogue, in every finite graph that a pack allows. C11, and C++.
  *
- * Link target/staticlib/libciravehy.a, which `rt staticlib ciravehy` writes.
+ * Link target/staticlib/libciravehy.a, which `tests/archive` writes.
  *
  * Each call takes any bytes, and buffers of any length and any content. Its result is a refusal's number from 1 to 13, or 0.
  * Too short a list or working buffer is refusal 1, which touches no list and no working buffer. After any other return the

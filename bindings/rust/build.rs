@@ -12,7 +12,7 @@ fn main() {
     println!("cargo:rerun-if-changed={}", archive.display());
     if !archive.is_file() {
         eprintln!("{} is not there.", archive.display());
-        eprintln!("Make it by `rt staticlib ciravehy` in the repository, or set CIRAVEHY_LIB_DIR to the folder that has it.");
+        eprintln!("Make it by `tests/archive` in the repository, or set CIRAVEHY_LIB_DIR to the folder that has it.");
         std::process::exit(1);
     }
     println!("cargo:rustc-link-search=native={}", folder.display());
