@@ -11,15 +11,21 @@ from test_errors import DESCRIPTION, STYLES, TUNINGS
 from test_examples import SAMPLE
 
 FILES = {"catalogue.toml": DESCRIPTION, "styles.csv": STYLES, "tunings.csv": TUNINGS}
-RT = """#!/bin/sh
-echo "$@" >> ran
-mkdir -p target/bin
-printf '#!/bin/sh\\ncat catalogue.pack - > ../asked\\necho certain no\\necho pairs 0\\n' > target/bin/certain
-chmod +x target/bin/certain
-echo 'fn a: proved'
-echo 'rt: meaning proved (3 s)'
-echo 'rt: pack proved (unchanged since it was last proved)'
-echo 'rt: certain proved (17 s)'
+PROVED = "native=nat,char,string logic-built=trusted libraries-built=trusted statements=trusted incremental=trusted"
+RT = f"""#!/bin/sh
+echo "$@" >> ../../ran
+echo 'rt: chose --jobs 2 for meaning'
+echo 'fn meaning::a: proved'
+echo 'crate meaning: modules loaded=21 checked=3'
+echo 'logic=proved functions=1 sum=0 {PROVED}'
+echo 'rt: chose --jobs 4 for certain' >&2
+echo 'fn certain::b: proved' >&2
+echo 'logic=proved functions=17 axioms=3 target=x cpu=y sum=0 {PROVED}' >&2
+mkdir -p out
+printf '#!/bin/sh\\ncat catalogue.pack - > ../asked\\necho certain no\\necho pairs 0\\n' > out/certain
+chmod +x out/certain
+echo 'rt: running out/certain; to give it other input, run that file yourself' >&2
+echo 'refused 2'
 """
 
 
@@ -32,7 +38,7 @@ class Build(Files):
         os.mkdir("bin")
         self.write(FILES | {"crates.txt": "# all\nmeaning:\npack: meaning\ncertain: pack io\nother: pack\n", "crates/certain/src/main.rt": "", "bin/rt": RT, "sample.pack": SAMPLE})
         os.chmod("bin/rt", 0o755)
-        for name, value in (("ROOT", os.getcwd()), ("PROGRAM", os.path.abspath("target/bin/certain"))):
+        for name, value in (("ROOT", os.getcwd()), ("PROGRAM", os.path.abspath("crates/certain/out/certain"))):
             self.patch(patch.object(builder, name, value))
         self.patch(patch.dict(os.environ, PATH=os.path.abspath("bin") + ":" + os.environ["PATH"]))
         self.patch(patch("tempfile.tempdir", os.getcwd()))
@@ -42,20 +48,23 @@ class Build(Files):
         self.addCleanup(change.stop)
 
     def runs(self):
-        return open("ran").read().count("check certain\n") if os.path.exists("ran") else 0
+        return open("ran").read().count("run\n") if os.path.exists("ran") else 0
 
     def test_built_when_missing_or_older(self):
         for _ in range(2):
             status, out, err = certain("sample.pack", "name")
             self.assertEqual((status, out), (0, "certain no\npairs 0\n"))
             self.assertEqual(self.runs(), 1)
-            self.assertEqual("rt check certain" in err, _ == 0)
-            told = ["1 of 3 proved: meaning, 3 s", "3 of 3 proved: certain, 17 s"] if _ == 0 else []
+            self.assertEqual("'rt run' in crates/certain" in err, _ == 0)
+            told = ["1 of 3 proved: meaning, 1 function", "3 of 3 proved: certain, 17 functions"] if _ == 0 else []
             self.assertEqual([line.removeprefix("certain: ") for line in err.splitlines() if " proved: " in line], told)
-        self.assertIn("fn a: proved\n", open("target/certain.log").read())
+        self.assertIn("fn certain::b: proved\n", open("target/certain.log").read())
         self.assertEqual(open("asked", "rb").read(), SAMPLE + b"name\n")
+        self.write({"crates/certain/out/certain.stamp": ""})
+        certain("sample.pack", "name")
+        self.assertEqual(self.runs(), 1)
         for source in ("crates.txt", "crates/certain/src/main.rt"):
-            os.utime("target/bin/certain", (1, 1))
+            os.utime("crates/certain/out/certain", (1, 1))
             os.utime(source)
             before = self.runs()
             certain("sample.pack", "name")
@@ -66,7 +75,7 @@ class Build(Files):
         self.write({"bin/rt": "#!/bin/sh\nexit 3\n"})
         status, out, err = certain("sample.pack", "name")
         self.assertEqual((status, out), (2, ""))
-        self.assertIn("'rt check certain' failed with exit status 3", err)
+        self.assertIn("'rt run' in crates/certain failed with exit status 3", err)
 
     def test_no_rt(self):
         with patch.dict(os.environ, PATH="/nowhere"):
