@@ -25,6 +25,7 @@ next_within q t next n held threaded i l = from n i (omega arith) l
     nest = holds_nest held.holds (let a = held.few in let b = held.query.fits in omega arith)
 
     after : (c p : ℕ) (x : Part) → p < n → ((d : ℕ) → Child x d → d < p) → Child x c → listed next p ≤ n → Linked (listed next) n p x → listed next c ≤ n
+    after c p Rattle.walk.specs.Parts.leaf lp w e h k = elim e [ ]
     after c p (test b) lp w e h k = rw e (omega arith)
     after c p (repeat b) lp w e h k = rw e (omega arith)
     after c p (chain a b) lp w (inl e) h (k, g) = let z = w b (inr refl) in rw e (omega arith)
