@@ -28,6 +28,7 @@ pub fn width(kind: Kind) -> usize
 }
 
 // Which kind of record body i has.
+#[tactic(auto, unfolding(crate::specs::Bodies::body_kind))]
 pub fn kind_of(i: usize) -> Kind
     ensures { result ≡ body_kind i }
 {
@@ -45,6 +46,7 @@ pub fn kind_of(i: usize) -> Kind
 }
 
 // How many records it may have.
+#[tactic(auto, unfolding(crate::specs::Bodies::limit_of))]
 pub fn limit_of(i: usize) -> usize
     ensures { result ≡ limit_of i }
 {
@@ -62,6 +64,7 @@ pub fn limit_of(i: usize) -> usize
 }
 
 // Where it stands.
+#[tactic(auto, unfolding(crate::specs::Bodies::place_of))]
 pub fn place_of(i: usize) -> usize
     ensures { result ≡ place_of i }
 {
