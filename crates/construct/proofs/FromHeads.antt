@@ -4,15 +4,15 @@ use Rattle.calls.specs.Call.{Contents, Kept}
 use Rattle.construct.specs.Outcome.{refused_as}
 use Rattle.construct.specs.Steps.{CoreGiven, FromCore, FromHeads, HeadsGiven, HeadsOf, OfCore, OfHeads, large, small}
 use Rattle.construct.specs.declared.Constructed.{Constructed}
-use Rattle.std.proofs.Fits.{heads-fit}
-use Rattle.std.proofs.Iris.{iris-over}
-use Rattle.std.proofs.Shapes.{codes-fit, tabled}
-use Rattle.std.specs.Bound.{Bounded, HeadsFit}
-use Rattle.std.specs.Heads.{HeadsHeld}
-use Rattle.std.specs.CoreHeld.{CoreHeld}
-use Rattle.std.specs.Outcomes.{CoreAnswer, CoreListed}
-use Rattle.std.specs.declared.Outcome.TheVariants.{Held, TooLarge}
-use Rattle.std.specs.declared.Outcome.{Outcome}
+use Rattle.core_graph.proofs.Fits.{heads_fit}
+use Rattle.core_graph.proofs.Iris.{iris_over}
+use Rattle.core_graph.proofs.Shapes.{codes_fit, tabled}
+use Rattle.core_graph.specs.Bounds.{Bounded, HeadsFit}
+use Rattle.core_graph.specs.Heads.{HeadsHeld}
+use Rattle.core_graph.specs.CoreHeld.{CoreHeld}
+use Rattle.core_graph.specs.Outcomes.{CoreAnswer, CoreListed}
+use Rattle.core_graph.specs.declared.Outcome.TheVariants.{Held, TooLarge}
+use Rattle.core_graph.specs.declared.Outcome.{Outcome}
 use Rattle.core_lists.specs.Input.{Input}
 use Rattle.graph.specs.Fronts.{graph_lists}
 use Rattle.node_list.specs.Records.{Arities}
@@ -61,7 +61,7 @@ module _ {counts numbers : List ℕ} {found : AllHeads} {heads : List ℕ} where
     core_ready g l =
         let b = within g.is in
         let f = g.is.found in
-        (codes-fit (t.shapes g.pack g.is.given) b, heads-fit (heads_held g.is) b f.few l f.short)
+        (codes_fit (t.shapes g.pack g.is.given) b, heads_fit (heads_held g.is) b f.few l f.short)
 
 module _ {counts numbers : List ℕ} {found : AllHeads} {heads : List ℕ} {table rules : List (List ℕ)} {nodes triples masks : List ℕ} {r : Outcome}
     (k : Cored counts numbers found heads table rules nodes triples masks r) where
@@ -106,7 +106,7 @@ module _ {counts numbers : List ℕ} {found : AllHeads} {heads : List ℕ} {tabl
 
         over : ltb max_iris (rank_of first_literal (take n nodes)) ≡ true → Over max_iris (CoreIri P)
         over h =
-            iris-over (within g) (take n nodes) held.node_keys_are.ascending (λ i m. (held.node_keys_are.members i).0 m)
+            iris_over (within g) (take n nodes) held.node_keys_are.ascending (λ i m. (held.node_keys_are.members i).0 m)
             (ltb-true max_iris (rank_of first_literal (take n nodes)) h)
 
     module _ {arities : List ℕ} (are : ForSetting counts numbers (λ P. Arities P arities)) where

@@ -6,7 +6,7 @@ use mathlib.Core.Option.{some}
 use Rattle.pack.proofs.Accepted.{well_formed_lem}
 use Rattle.states.specs.Lists.{Lists}
 use Rattle.answers.specs.Graph.{HeldIn, NumberedGraph, WantedResolved}
-use Rattle.std.proofs.Declared.{edge-predicate}
+use Rattle.core_graph.proofs.Declared.{edge_predicate}
 use Rattle.evaluate.proofs.InLists.{formed}
 use Rattle.meaning.proofs.Lists.Places.{inside, placed, same_at, there_is}
 use Rattle.evaluate.specs.GraphIn.{GraphIn}
@@ -54,7 +54,7 @@ module _ {pack : Text} {P : Pack} {nodes : List ℕ} {count : ℕ} {triples : Li
       let l = go e in omega arith
     where
       go : {b c : BuiltNode} {p : ℕ} → BuiltEdge P b p c → p < length P.setting.predicates
-      go (from_core e) = edge-predicate P named_7 e
+      go (from_core e) = edge_predicate P named_7 e
       go (made i h) = (resolved P named_7).predicate h.needs.declared
 
   module _ (L : Lists) (same_nodes : L.nodes ≡ count) (same_edges : L.edges ≡ edges) (same-triples : L.triples ≡ triples) where

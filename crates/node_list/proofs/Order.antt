@@ -6,7 +6,7 @@ use mathlib.Core.List.Memᴰ
 use mathlib.Core.List.Memᴰ.{map as ∈-map}
 use mathlib.Core.List.{Forall₂}
 use mathlib.Core.Option.{Option, some, none-ne-some, some-injective}
-use Rattle.std.specs.CoreHeld.{NodeKey}
+use Rattle.core_graph.specs.CoreHeld.{NodeKey}
 use Rattle.spread.specs.Keys.{key_of}
 use Rattle.core_lists.specs.Input.{Input}
 use Rattle.invent.specs.Invent.{InventedSets, set_at}

@@ -1,6 +1,6 @@
 -- A core node's numbers are its record. Assumes nothing.
 use Rattle.std.proofs.Common.{◌≡◌, ℕ, ◌+◌, ◌-◌, ◌*◌, ◌/◌, ◌%◌, ◌^◌, ◌≤◌, ltb, List, [], ◌∷◌, length, get_or, sym, refl, ap, ◌∙◌, arith, lt-ltb}
-use Rattle.std.specs.Bound.{Bounded}
+use Rattle.core_graph.specs.Bounds.{Bounded}
 use Rattle.spread.specs.Keys.{key_of}
 use Rattle.node_list.specs.Records.{Arities, argument_at, core_numbers, iri_numbers, literal_numbers}
 use Rattle.core_lists.proofs.Keys.{Small, all_small, four, iri_key_lt, packed_lt}

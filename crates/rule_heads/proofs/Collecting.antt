@@ -2,7 +2,7 @@
 use Rattle.names.specs.PackGiven.{ForResolved, IsResolved}
 use Rattle.std.proofs.Common.{◌≡◌, ℕ, ◌+◌, ◌-◌, ◌*◌, ◌<◌, ◌≤◌, false, List, ◌++◌, length, get_or, take, drop, set, sym, refl, ◌∙◌, subst, zero-le, arith, length-drop, length-set, length-take, get_or-set_other, get_or-set_same}
 use native.Mathlib.Decide.{ℕ_discrete}
-use Rattle.std.specs.Heads.{keys_of}
+use Rattle.core_graph.specs.Heads.{keys_of}
 use Rattle.matching.specs.Rule.{ListedOrOver}
 use Rattle.matching.specs.declared.Heads.{Heads}
 use Rattle.matching.specs.declared.Heads.TheVariants.{Listed, Over}

@@ -4,7 +4,7 @@ use lib.ListN.{get_elem?}
 use mathlib.Core.List.Memᴰ
 use mathlib.Core.List.{flat_map}
 use mathlib.Core.Option.{Option, none, some}
-use Rattle.std.specs.Bound.{Bounded}
+use Rattle.core_graph.specs.Bounds.{Bounded}
 use Rattle.matching.specs.Rule.{RuleGiven, RuleHeld}
 use Rattle.meaning.proofs.Lists.Members.{element}
 use Rattle.meaning.proofs.Lists.Places.{inside}

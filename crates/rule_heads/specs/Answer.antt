@@ -1,6 +1,6 @@
 -- The keys of the heads of all rules of a pack. Assumes nothing.
 use Rattle.std.specs.Prelude.{ℕ, ◌<◌, ◌≤◌, Bool, true, false, List, slice_index}
-use Rattle.std.specs.Heads.{HeadsHeld}
+use Rattle.core_graph.specs.Heads.{HeadsHeld}
 use Rattle.meaning.specs.Limits.{max_heads, max_rules}
 use Rattle.meaning.specs.NoGraph.{TooLarge}
 use Rattle.meaning.specs.Pack.{Pack}
