@@ -70,11 +70,13 @@ byte_slashless : (b : ℕ) → Slashless (spelled_byte b)
 byte_slashless b = case_on (unreserved b) (λ p. rw (byte_stays b p) (one p)) (λ p. rw (byte_escaped b p) three)
   where
     one : unreserved b ≡ true → Slashless (b ∷ [])
+    one p (there x4) = elim x4 [ ]
     one p (here e) = stays_not_slash b p e
 
     three : Slashless (percent ∷ hex_digit (b / 16) ∷ hex_digit (b % 16) ∷ [])
     three (here e) = let z : ◌≡◌ {A = ℕ} slash percent = e in omega arith
     three (there (here e)) = hex_not_slash (b / 16) e
+    three (there (there (there x12))) = elim x12 [ ]
     three (there (there (here e))) = hex_not_slash (b % 16) e
 
 -- ---- a segment
