@@ -21,8 +21,8 @@ def build(say):
     if os.path.exists(PROGRAM) and changed(PROGRAM) >= newest():
         return
     log = os.path.join(ROOT, "target", "certain.log")
-    say("proving and building the program with 'rt run' in crates/certain; from nothing that takes some ten minutes, "
-        "more on a busy machine")
+    say("proving and building the program with 'rt run' in crates/certain; from nothing that takes long, and a line is told "
+        "for each crate")
     start = time.monotonic()
     os.makedirs(os.path.dirname(log), exist_ok=True)
     try:
