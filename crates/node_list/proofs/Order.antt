@@ -204,6 +204,8 @@ module _ {P : Pack} {table : List (List ℕ)} {nodes triples masks : List ℕ} (
       where
         join : (bs : List BuiltNode) (rs : List (List ℕ)) {cs : List BuiltNode} {ss : List (List ℕ)} → Forall₂ (NodeRecord P) bs rs
             → Forall₂ (NodeRecord P) cs ss → Forall₂ (NodeRecord P) (bs ++ cs) (rs ++ ss)
+        join [] (r ∷ rs) {cs = cs} {ss = ss} x4 y = elim x4 [ ]
+        join (b ∷ bs) [] {cs = cs} {ss = ss} x4 y = elim x4 [ ]
         join [] [] Forall₂.nil y = y
         join (b ∷ bs) (r ∷ rs) (Forall₂.cons x xs) y = Forall₂.cons x (join bs rs xs y)
 
