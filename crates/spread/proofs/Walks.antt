@@ -58,6 +58,7 @@ module _ {S : Setting} where
   walk_keeps (next p w) i R h = walk_keeps w i R ((p i R).1 (inl h))
 
   walk_closes : {ks a c : List ℕ} → TriplesWalked S ks a c → {k : ℕ} → k ∈ ks → {i : ℕ} {R : Target} → Passes S a k i R → R ∈ₜ set_of_mask (get_or c i 0)
+  walk_closes done m q = elim m [ ]
   walk_closes (next {a = a} p w) (here e) {i} {R} q = walk_keeps w i R ((p i R).1 (inr (subst (λ k. Passes S a k i R) e q)))
   walk_closes (next p w) (there m) q = walk_closes w m (passes_more (λ i R h. (p i R).1 (inl h)) q)
 
