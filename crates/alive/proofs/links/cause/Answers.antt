@@ -67,15 +67,6 @@ returns-then-w-eq1 c = let z = c.requires.short in
       first = λ q k. absurd (omega arith);
     }
 
-pub returns-then-kind-lt-SEQUENCE : goal.returns-then-kind-lt-SEQUENCE
-returns-then-kind-lt-SEQUENCE c = let e = c.kind_of-kind.ensures in
-    record {
-      small = omega arith;
-      after = λ q k. absurd (omega arith);
-      body = λ q k n. absurd (omega arith);
-      first = λ q k. absurd (omega arith);
-    }
-
 pub first_number-requires : goal.first_number-requires
 first_number-requires c = c.requires.in_tree
 
