@@ -1,3 +1,4 @@
+-- `query::leaves::put_stars` meets its contract: one star after another. Assumes nothing.
 use mathlib.Core.Path.{◌≡◌}
 use Prim.Native.Nat.{◌≤◌, ◌-◌}
 use lib.ListN.{length}
