@@ -1,3 +1,4 @@
+-- `resolve::search::find_node` meets its contract: no node before m has the numbers. Assumes nothing.
 use Prim.Native.Nat.{◌≤◌}
 use Rattle.resolve.specs.Search.{HasNumbers}
 use Rattle.meaning.proofs.Lists.Below.{NoneBelow}

@@ -1,3 +1,4 @@
+-- `resolve::search::has_arguments` meets its contract: the arguments before j agree. Assumes nothing.
 use Prim.Native.Nat.{◌≤◌}
 use Rattle.resolve.proofs.Searching.{Agree}
 use Rattle.resolve.proofs.search.has_arguments.Given as goal
