@@ -4,15 +4,12 @@ use Rattle.core_graph.proofs.counted.add_at.Goals as goal
 
 pub returns-in-Added : goal.returns-in-Added
 returns-in-Added c = let r = c.insert_at-done in
-    let s = c in
-    grown_added s.requires.0 s.requires.1 (c.in-Added.ensures) r.auto.keys
+    grown_added c.requires.0 c.requires.1 (c.in-Added.ensures) r.auto.keys
 
 pub returns-in-Present : goal.returns-in-Present
 returns-in-Present c = let r = c.insert_at-done in
-    let s = c in
-    grown_present s.requires.0 s.requires.1 (c.in-Present.ensures) r.auto.keys
+    grown_present c.requires.0 c.requires.1 (c.in-Present.ensures) r.auto.keys
 
 pub returns-in-Full : goal.returns-in-Full
 returns-in-Full c = let r = c.insert_at-done in
-    let s = c in
-    grown_full s.requires.0 s.requires.1 (c.in-Full.ensures)
+    grown_full c.requires.0 c.requires.1 (c.in-Full.ensures)

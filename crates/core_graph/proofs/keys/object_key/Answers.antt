@@ -11,8 +11,7 @@ use Rattle.core_graph.proofs.keys.object_key.Goals.{After-lists-pad}
 -- the values, padded
 small : (c : After-lists-pad) → c.args.k % c.lists-after.result * c.lists-pad.result < term_room
 small c =
-    let s = c in
-    rw (c.lists-after.ensures, c.lists-pad.ensures) (padded_lt _ s.requires.more _ (last_lt s.args.k _ s.requires.more))
+    rw (c.lists-after.ensures, c.lists-pad.ensures) (padded_lt _ c.requires.more _ (last_lt c.args.k _ c.requires.more))
 
 pub returns-then-head-ne1 : goal.returns-then-head-ne1
 unfolding object_key

@@ -10,9 +10,8 @@ use Rattle.core_graph.proofs.keys.subject_key.Goals.{After-lists-pad}
 -- the values, padded
 small : (c : After-lists-pad) → c.args.k / c.lists-after.result * c.lists-pad.result < term_room
 small c =
-    let s = c in
     rw (c.lists-after.ensures, c.lists-pad.ensures)
-    (padded_lt _ s.requires.0.arguments _ (before_lt _ s.args.k _ s.requires.0.more s.requires.1))
+    (padded_lt _ c.requires.0.arguments _ (before_lt _ c.args.k _ c.requires.0.more c.requires.1))
 
 pub nonzero_div-result : goal.nonzero_div-result
 unfolding subject_key

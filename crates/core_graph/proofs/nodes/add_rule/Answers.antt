@@ -5,17 +5,14 @@ use Rattle.meaning.proofs.Lists.Places.{∈_at}
 use Rattle.core_graph.proofs.nodes.add_rule.Goals as goal
 
 pub loop-i-init : goal.loop-i-init
-loop-i-init c = let s = c in keys_start _ _ _ _ s.requires.2 s.requires.3
+loop-i-init c = keys_start _ _ _ _ c.requires.2 c.requires.3
 
 pub add_match-added-requires : goal.add_match-added-requires
-add_match-added-requires c = let s = c in
-    let l = c.loop-i in
-    (s.requires.0, s.requires.1 _ (∈_at _ _ (omega arith)), l.invariant.grown.fits, l.invariant.grown.list.ascending)
+add_match-added-requires c = let l = c.loop-i in
+    (c.requires.0, c.requires.1 _ (∈_at _ _ (omega arith)), l.invariant.grown.fits, l.invariant.grown.list.ascending)
 
 pub returns-in-TooLarge : goal.returns-in-TooLarge
-returns-in-TooLarge c = let at-add-match = c in
-    let at-loop = at-add-match in
-    keys_full at-loop.loop-i.invariant (omega arith) c.in-TooLarge.ensures
+returns-in-TooLarge c = keys_full c.loop-i.invariant (omega arith) c.in-TooLarge.ensures
 
 pub loop-i-preserved : goal.loop-i-preserved
 loop-i-preserved c = let loop = c.loop-i in

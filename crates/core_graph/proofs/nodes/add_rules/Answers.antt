@@ -41,15 +41,12 @@ slice_bounds-add_rule-end c = let pre = c.requires in
     omega (arith, pre.few, pre.room, pre.short c.loop-r.r (omega arith))
 
 pub add_rule-added-requires : goal.add_rule-added-requires
-add_rule-added-requires c = let s = c in
-    let l = c.loop-r in
-    let h : l.r < s.args.count = omega arith in
-    (s.requires.fits l.r h, rw add-sub_cancel_left (s.requires.keys l.r h), l.invariant.1.grown.fits, l.invariant.1.grown.list.ascending)
+add_rule-added-requires c = let l = c.loop-r in
+    let h : l.r < c.args.count = omega arith in
+    (c.requires.fits l.r h, rw add-sub_cancel_left (c.requires.keys l.r h), l.invariant.1.grown.fits, l.invariant.1.grown.list.ascending)
 
 pub returns-in-TooLarge : goal.returns-in-TooLarge
-returns-in-TooLarge c = let at-add-rule = c in
-    let at-loop = at-add-rule in
-    rules_full at-loop.loop-r.invariant.1 (omega arith) (rw add-sub_cancel_left at c.in-TooLarge.ensures)
+returns-in-TooLarge c = rules_full c.loop-r.invariant.1 (omega arith) (rw add-sub_cancel_left at c.in-TooLarge.ensures)
 
 pub loop-r-preserved : goal.loop-r-preserved
 loop-r-preserved c = let loop = c.loop-r in

@@ -17,16 +17,10 @@ pub rank-iris-requires : goal.rank-iris-requires
 rank-iris-requires c = let g = c.in-Count.ensures in g.list.ascending
 
 pub returns-then-iris-gt-MAX_IRIS : goal.returns-then-iris-gt-MAX_IRIS
-returns-then-iris-gt-MAX_IRIS c = let at_Added = c in
-    let at-add-rules = at_Added in
-    λ P h b. nodes_over P h b c.in-Count.ensures (omega (arith, rw c.rank-iris.ensures at c.if-iris-gt-MAX_IRIS.true))
+returns-then-iris-gt-MAX_IRIS c = λ P h b. nodes_over P h b c.in-Count.ensures (omega (arith, rw c.rank-iris.ensures at c.if-iris-gt-MAX_IRIS.true))
 
 pub returns-in-TooLarge : goal.returns-in-TooLarge
-returns-in-TooLarge c = let at-add-rules = c in
-    let entry = at-add-rules in
-    λ P h b. nodes_beyond P h b entry.requires.1 c.in-TooLarge.ensures
+returns-in-TooLarge c = λ P h b. nodes_beyond P h b c.requires.1 c.in-TooLarge.ensures
 
 pub returns-else-iris-gt-MAX_IRIS : goal.returns-else-iris-gt-MAX_IRIS
-returns-else-iris-gt-MAX_IRIS c = let at_Added = c in
-    let at-add-rules = at_Added in
-    nodes_listed c.in-Count.ensures (omega (arith, rw c.rank-iris.ensures at c.if-iris-gt-MAX_IRIS.false))
+returns-else-iris-gt-MAX_IRIS c = nodes_listed c.in-Count.ensures (omega (arith, rw c.rank-iris.ensures at c.if-iris-gt-MAX_IRIS.false))

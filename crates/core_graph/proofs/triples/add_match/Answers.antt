@@ -13,7 +13,7 @@ few : (x at : ℕ) (nodes : List ℕ) → at ≡ rank_of x nodes → at ≤ leng
 few x at nodes e = rw e (rank_le x nodes)
 
 pub returns-then-head-eq0 : goal.returns-then-head-eq0
-returns-then-head-eq0 c = let s = c in type_triples _ _ _ c.if-head-eq0.true _ _ s.requires.4 s.requires.5
+returns-then-head-eq0 c = type_triples _ _ _ c.if-head-eq0.true _ _ c.requires.4 c.requires.5
 
 pub overflow_mul-key : goal.overflow_mul-key
 overflow_mul-key c = omega (arith, few c.subject_key-subject.result c.rank_near-s.result c.args.nodes.now c.rank_near-s.ensures, few c.object_key-object.result c.rank_near-o.result c.args.nodes.now c.rank_near-o.ensures, c.requires.3)

@@ -3,7 +3,6 @@ use Rattle.core_graph.proofs.TripleAnswers.{triples_answer}
 use Rattle.core_graph.proofs.triples.triples.Goals as goal
 
 pub returns : goal.returns
-returns c = let s = c in
-    let a = c.add_rules in
-    triples_answer s.requires.0 s.args.nodes.now s.requires.2 a.result s.args.triples.now a.new.triples a.ensures s.requires.3
+returns c = let a = c.add_rules in
+    triples_answer c.requires.0 c.args.nodes.now c.requires.2 a.result c.args.triples.now a.new.triples a.ensures c.requires.3
     a.auto.triples

@@ -27,6 +27,5 @@ pub bounds-masks-at-2 : goal.bounds-masks-at-2
 bounds-masks-at-2 c = placed _ _ _ _ _ _ c.requires.2 c.requires.3 c.requires.4 c.subject_key-subject.ensures c.rank_near-at.ensures
 
 pub returns : goal.returns
-returns c = let s = c in
-    mark_one _ _ s.args.k s.args.masks.now c.if-head-ne0.false _ (rw c.subject_key-subject.ensures at c.rank_near-at.ensures)
-    (placed _ _ _ _ _ _ c.requires.2 c.requires.3 c.requires.4 c.subject_key-subject.ensures c.rank_near-at.ensures) (omega (arith, s.requires.0.named)) (search rules) _ (weight_made 16 _ (omega (arith, s.requires.0.named))) (omega arith)
+returns c = mark_one _ _ c.args.k c.args.masks.now c.if-head-ne0.false _ (rw c.subject_key-subject.ensures at c.rank_near-at.ensures)
+    (placed _ _ _ _ _ _ c.requires.2 c.requires.3 c.requires.4 c.subject_key-subject.ensures c.rank_near-at.ensures) (omega (arith, c.requires.0.named)) (search rules) _ (weight_made 16 _ (omega (arith, c.requires.0.named))) (omega arith)

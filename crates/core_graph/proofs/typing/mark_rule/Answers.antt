@@ -8,10 +8,8 @@ pub loop-i-init : goal.loop-i-init
 loop-i-init c = marks_start _ _ _
 
 pub mark_match-near-requires : goal.mark_match-near-requires
-mark_match-near-requires c = let at-loop = c in
-    let s = at-loop in
-    let m = ∈_at s.args.keys.now at-loop.loop-i.i (omega arith) in
-    (s.requires.0, s.requires.1 _ m, s.requires.2, s.requires.3 _ m, omega (arith, at-loop.loop-i.invariant.long))
+mark_match-near-requires c = let m = ∈_at c.args.keys.now c.loop-i.i (omega arith) in
+    (c.requires.0, c.requires.1 _ m, c.requires.2, c.requires.3 _ m, omega (arith, c.loop-i.invariant.long))
 
 pub loop-i-preserved : goal.loop-i-preserved
 loop-i-preserved c = let loop = c.loop-i in

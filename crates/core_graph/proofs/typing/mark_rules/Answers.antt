@@ -41,14 +41,13 @@ slice_bounds-mark_rule-end c = let pre = c.requires in
     omega (arith, pre.0.few, pre.0.room, pre.0.short c.loop-r.r (omega arith))
 
 pub mark_rule-requires : goal.mark_rule-requires
-mark_rule-requires c = let s = c in
-    let l = c.loop-r in
-    let h : l.r < s.args.count = omega arith in (
-      s.requires.0.fits l.r h,
-      rw add-sub_cancel_left (s.requires.0.keys l.r h),
-      s.requires.1,
-      rw add-sub_cancel_left (s.requires.2 l.r h),
-      omega (arith, s.requires.3, l.invariant.1.long),
+mark_rule-requires c = let l = c.loop-r in
+    let h : l.r < c.args.count = omega arith in (
+      c.requires.0.fits l.r h,
+      rw add-sub_cancel_left (c.requires.0.keys l.r h),
+      c.requires.1,
+      rw add-sub_cancel_left (c.requires.2 l.r h),
+      omega (arith, c.requires.3, l.invariant.1.long),
     )
 
 pub loop-r-preserved : goal.loop-r-preserved

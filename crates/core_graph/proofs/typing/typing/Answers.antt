@@ -3,8 +3,7 @@ use Rattle.core_graph.proofs.AllPasses.{types_answer}
 use Rattle.core_graph.proofs.typing.typing.Goals as goal
 
 pub returns : goal.returns
-returns c = let s = c in
-    let m = c.mark_rules in
+returns c = let m = c.mark_rules in
     let p = c.spread in
-    types_answer s.requires.1 s.args.nodes.now s.requires.3 s.args.triples.now s.args.masks.now s.requires.8 m.new.masks m.ensures s.args.shapes
+    types_answer c.requires.1 c.args.nodes.now c.requires.3 c.args.triples.now c.args.masks.now c.requires.8 m.new.masks m.ensures c.args.shapes
     p.new.masks p.ensures.0 p.ensures.1
