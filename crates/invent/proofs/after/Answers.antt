@@ -9,15 +9,13 @@ pub loop-at-init : goal.loop-at-init
 loop-at-init c = let a = c.args in (search rules, omega (arith, c.requires.1, keys_mono a.origin (a.origin + 1) (omega arith) a.triples.now))
 
 pub returns-then-triples-at : goal.returns-then-triples-at
-returns-then-triples-at c = let s = c in
-    let l = c.loop-at in
-    pass_other s.args.triples.now s.requires.0 s.args.origin l.at c.loop-at-test.true (omega (arith, s.requires.1, l.invariant.0)) l.invariant.1
+returns-then-triples-at c = let l = c.loop-at in
+    pass_other c.args.triples.now c.requires.0 c.args.origin l.at c.loop-at-test.true (omega (arith, c.requires.1, l.invariant.0)) l.invariant.1
     c.if-triples-at.true
 
 pub loop-at-preserved : goal.loop-at-preserved
-loop-at-preserved c = let s = c in
-    let l = c.loop-at in
-    (search rules, pass s.args.triples.now s.requires.0 s.args.origin l.at c.loop-at-test.true c.if-triples-at.false)
+loop-at-preserved c = let l = c.loop-at in
+    (search rules, pass c.args.triples.now c.requires.0 c.args.origin l.at c.loop-at-test.true c.if-triples-at.false)
 
 pub returns : goal.returns
-returns c = let s = c in let l = c.loop-at in omega (arith, l.invariant.1, keys_le (s.args.origin + 1) s.args.triples.now)
+returns c = let l = c.loop-at in omega (arith, l.invariant.1, keys_le (c.args.origin + 1) c.args.triples.now)

@@ -17,27 +17,18 @@ pub set_mask-requires : goal.set_mask-requires
 set_mask-requires c = (c.take-taken.ensures set_words c.loop-end.invariant.3.stacked).inside _ refl
 
 pub mark_all-end-requires : goal.mark_all-end-requires
-mark_all-end-requires c = let at_take = c in
-    let at-loop = at_take in
-    let t = at-loop.loop-end.invariant.3 in
-    turn_table t (at_take.take-taken.ensures set_words t.stacked)
+mark_all-end-requires c = let t = c.loop-end.invariant.3 in
+    turn_table t (c.take-taken.ensures set_words t.stacked)
 
 pub loop-end-smaller : goal.loop-end-smaller
-loop-end-smaller c = let at-mark-all = c in
-    let at_take = at-mark-all in
-    let at-loop = at_take in
-    let t = at-loop.loop-end.invariant.3 in
-    turn_left t (at_take.take-taken.ensures set_words t.stacked) at-mark-all.mark_all-end.ensures.grows
+loop-end-smaller c = let t = c.loop-end.invariant.3 in
+    turn_left t (c.take-taken.ensures set_words t.stacked) c.mark_all-end.ensures.grows
 
 pub loop-end-preserved : goal.loop-end-preserved
-loop-end-preserved c = let at-mark-all = c in
-    let at-set-mask = at-mark-all in
-    let at_take = at-set-mask in
-    let at-loop = at_take in
-    let t = at-loop.loop-end.invariant.3 in
-    let k = at_take.take-taken.ensures set_words t.stacked in
-    let m = following (k.inside _ refl) at-set-mask.set_mask.ensures at-mark-all.mark_all-end.ensures in
-    (search rules, search rules, search rules, m.grows.after, λ P h. closing_again t k (at-loop.loop-end.invariant.4 P h) (m.adds P h))
+loop-end-preserved c = let t = c.loop-end.invariant.3 in
+    let k = c.take-taken.ensures set_words t.stacked in
+    let m = following (k.inside _ refl) c.set_mask.ensures c.mark_all-end.ensures in
+    (search rules, search rules, search rules, m.grows.after, λ P h. closing_again t k (c.loop-end.invariant.4 P h) (m.adds P h))
 
 pub returns : goal.returns
 returns c = let l = c.loop-end in λ P h. closing_done l.invariant.3 (omega arith) (l.invariant.4 P h)

@@ -9,16 +9,11 @@ pub seed-top-requires : goal.seed-top-requires
 seed-top-requires c = let p = c.requires in (p.0, none_marked p.1 refl refl)
 
 pub close-requires : goal.close-requires
-close-requires c = let at-seed = c in
-    let p = at-seed.requires in
-    let m = at-seed.seed-top.ensures in
+close-requires c = let p = c.requires in
+    let m = c.seed-top.ensures in
     (m.grows.after, all_wait (none_there p.1) m.grows)
 
 pub returns : goal.returns
-returns c = let at-close = c in
-    let at-seed = at-close in
-    let at_table = at-seed in
-    let entry = at_table in
-    λ P I.
-    let d = at_table.demand_table-demands.ensures P.setting (shaped I) in
-    invented_sets I (marked_from (none_there entry.requires.1) (at-seed.seed-top.ensures.adds P d)) _ (at-close.close.ensures P d)
+returns c = λ P I.
+    let d = c.demand_table-demands.ensures P.setting (shaped I) in
+    invented_sets I (marked_from (none_there c.requires.1) (c.seed-top.ensures.adds P d)) _ (c.close.ensures P d)

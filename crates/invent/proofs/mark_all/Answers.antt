@@ -13,16 +13,14 @@ pub mark_targets-end-requires : goal.mark_targets-end-requires
 mark_targets-end-requires c = c.loop-p.invariant.4.grows.after
 
 pub loop-p-preserved : goal.loop-p-preserved
-loop-p-preserved c = let at-mark-targets = c in
-    let at-loop = at-mark-targets in
-    let d = at-loop.demands_of-row.ensures in
-    let mask = at-loop.args.mask in (
+loop-p-preserved c = let d = c.demands_of-row.ensures in
+    let mask = c.args.mask in (
       search rules,
       search rules,
       search rules,
       search rules,
-      upto_again at-loop.loop-p.invariant.4
-          (marks_for (λ P h. d P.setting h at-loop.loop-p.p (omega arith)) (at-mark-targets.mark_targets-end.ensures mask at-loop.loop-p.p)),
+      upto_again c.loop-p.invariant.4
+          (marks_for (λ P h. d P.setting h c.loop-p.p (omega arith)) (c.mark_targets-end.ensures mask c.loop-p.p)),
     )
 
 pub returns : goal.returns

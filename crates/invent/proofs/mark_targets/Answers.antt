@@ -13,17 +13,12 @@ returns-then-not-required_in c = let pre = c.requires in
     λ mask p. not_required (pre) (sym r.ensures ∙ c.if-not-required_in.true)
 
 pub mark-requires : goal.mark-requires
-mark-requires c = let at-targets-in = c in
-    let entry = at-targets-in in
-    (set_words, omega (arith, c.set_number.ensures, number_lt at-targets-in.targets_in.result (omega arith)), entry.requires)
+mark-requires c = (set_words, omega (arith, c.set_number.ensures, number_lt c.targets_in.result (omega arith)), c.requires)
 
 pub returns : goal.returns
-returns c = let at_mark = c in
-    let at-if1 = at_mark in
-    let entry = at-if1 in
-    let n = c.set_number in
+returns c = let n = c.set_number in
     let t = c.targets_in in
     let r = c.required_in in
     let small = number_lt t.result (omega arith) in
     λ mask p. marks_targets (sym r.ensures ∙ c.if-not-required_in.false) (n.ensures ∙ ap number_of t.ensures)
-    (at_mark.mark.ensures set_words (omega (arith, n.ensures, small)) entry.requires)
+    (c.mark.ensures set_words (omega (arith, n.ensures, small)) c.requires)

@@ -22,16 +22,14 @@ seed_node-more-requires c = let p = c.requires in
     (p.0.triples_ascend, omega (arith, p.0.few), l.invariant.5, l.invariant.6.grows.after)
 
 pub loop-s-preserved : goal.loop-s-preserved
-loop-s-preserved c = let at-loop-test = c in
-    let s = at-loop-test in
-    let l = c.loop-s in
+loop-s-preserved c = let l = c.loop-s in
     let m = c.seed_node-more in (
       search rules,
-      omega (arith, at-loop-test.loop-s-test.true, l.invariant.0),
+      omega (arith, c.loop-s-test.true, l.invariant.0),
       search rules,
       search rules,
       search rules,
-      next_subject s.args.triples.now l.s m.result.at s.requires.0.predicate m.ensures.1,
+      next_subject c.args.triples.now l.s m.result.at c.requires.0.predicate m.ensures.1,
       upto_again l.invariant.6 m.ensures.0,
     )
 

@@ -11,18 +11,15 @@ pub loop-p-init : goal.loop-p-init
 loop-p-init c = let pre = c.requires in (search rules, search rules, search rules, search rules, pre.2, upto_start pre.3)
 
 pub seed_edge-more-requires : goal.seed_edge-more-requires
-seed_edge-more-requires c = let s = c in
-    let l = c.loop-p in
-    (s.requires.0, s.requires.1, omega arith, l.invariant.4, l.invariant.5.grows.after)
+seed_edge-more-requires c = let l = c.loop-p in
+    (c.requires.0, c.requires.1, omega arith, l.invariant.4, l.invariant.5.grows.after)
 
 pub loop-p-preserved : goal.loop-p-preserved
-loop-p-preserved c = let at-loop-test = c in
-    let at-loop = at-loop-test in
-    let below = at-loop-test.loop-p-test.true in
-    let a = at-loop.args in
-    let l = at-loop.loop-p in
+loop-p-preserved c = let below = c.loop-p-test.true in
+    let a = c.args in
+    let l = c.loop-p in
     let m = c.seed_edge-more in
-    let d = at-loop.demands_of-row.ensures in (
+    let d = c.demands_of-row.ensures in (
       omega (arith, below),
       search rules,
       search rules,
