@@ -3,11 +3,8 @@ use Rattle.node_list.proofs.NodesLaws.{nodes_listed}
 use Rattle.node_list.proofs.list_nodes.Goals as goal
 
 pub returns : goal.returns
-returns c = let at-list-sets = c in
-    let at-list-core = at-list-sets in
-    let s = at-list-core in
-    let l = at-list-sets.list_sets.ensures in (
-      λ P table triples I ar f clean. nodes_listed I f clean s.args.arities ar s.requires.3 s.args.out.now s.requires.1 s.requires.5 at-list-core.list_core.ensures
-          l.0,
-      l.1,
-    )
+returns c = let l = c.list_sets.ensures in (
+  λ P table triples I ar f clean. nodes_listed I f clean c.args.arities ar c.requires.3 c.args.out.now c.requires.1 c.requires.5 c.list_core.ensures
+      l.0,
+  l.1,
+)

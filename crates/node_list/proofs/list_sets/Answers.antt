@@ -18,19 +18,16 @@ overflow_cast-places c = let pre = c.requires in
     omega (arith, few_sets pre.0, pre.2)
 
 pub overflow_cast-places-in-loop-i : goal.overflow_cast-places-in-loop-i
-overflow_cast-places-in-loop-i c = let s = c in
-    let l = c.loop-i in
-    omega (arith, s.requires.0.below (get_or s.args.sets.now l.i 0) (∈_at s.args.sets.now l.i (omega arith)))
+overflow_cast-places-in-loop-i c = let l = c.loop-i in
+    omega (arith, c.requires.0.below (get_or c.args.sets.now l.i 0) (∈_at c.args.sets.now l.i (omega arith)))
 
 pub offset_bounds-places-types : goal.offset_bounds-places-types
-offset_bounds-places-types c = let s = c in
-    let l = c.loop-i in
-    omega (arith, s.requires.0.below (get_or s.args.sets.now l.i 0) (∈_at s.args.sets.now l.i (omega arith)))
+offset_bounds-places-types c = let l = c.loop-i in
+    omega (arith, c.requires.0.below (get_or c.args.sets.now l.i 0) (∈_at c.args.sets.now l.i (omega arith)))
 
 pub bounds-places-types : goal.bounds-places-types
-bounds-places-types c = let s = c in
-    let l = c.loop-i in
-    omega (arith, s.requires.0.below (get_or s.args.sets.now l.i 0) (∈_at s.args.sets.now l.i (omega arith)), s.requires.1, l.invariant.1)
+bounds-places-types c = let l = c.loop-i in
+    omega (arith, c.requires.0.below (get_or c.args.sets.now l.i 0) (∈_at c.args.sets.now l.i (omega arith)), c.requires.1, l.invariant.1)
 
 pub loop-i-preserved : goal.loop-i-preserved
 loop-i-preserved c = let p = c.requires in

@@ -10,11 +10,7 @@ returns-then-key-ge-FIRST_LITERAL c = let if1 = c.if-key-ge-FIRST_LITERAL in
     written_as s.at s.out.now _ _ _ c.write_node.ensures (literal_numbers_lem s.arities s.key s.mask if1.true)
 
 pub returns : goal.returns
-returns c = let at-argument4 = c in
-    let s = c.args in
-    let at-argument3 = at-argument4 in
-    let at-argument2 = at-argument3 in
-    let at-argument = at-argument2 in
+returns c = let s = c.args in
     written_as s.at s.out.now _ _ _ c.write_node-2.ensures
-    (iri_numbers_lem s.arities s.key s.mask (omega arith) _ _ _ _ at-argument.argument-first.ensures at-argument2.argument-second.ensures at-argument3.argument-third.ensures
-    at-argument4.argument-fourth.ensures)
+    (iri_numbers_lem s.arities s.key s.mask (omega arith) _ _ _ _ c.argument-first.ensures c.argument-second.ensures c.argument-third.ensures
+    c.argument-fourth.ensures)
