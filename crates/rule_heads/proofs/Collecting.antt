@@ -4,7 +4,6 @@ use Rattle.std.proofs.Common.{◌≡◌, ℕ, ◌+◌, ◌-◌, ◌*◌, ◌<◌
 use native.Mathlib.Decide.{ℕ_discrete}
 use Rattle.core_graph.specs.Heads.{keys_of}
 use Rattle.matching.specs.Rule.{ListedOrOver}
-use Rattle.matching.specs.declared.Heads.{Heads}
 use Rattle.matching.specs.declared.Heads.TheVariants.{Listed, Over}
 use Rattle.meaning.proofs.Lists.Places.{inside, there_is}
 use Rattle.meaning.specs.Limits.{heads_length, max_heads, max_rules, row_width, rule_width, rules_at}
@@ -15,7 +14,7 @@ use Rattle.names.proofs.Rule.{rules_many}
 use Rattle.rule_heads.specs.Answer.{FoundOr}
 use Rattle.rule_heads.specs.RuleOf.{ForRuleOf, IsRuleOf, RuleKey, RuleOf}
 use Rattle.rule_heads.proofs.HeldRule.{rule_of}
-use Rattle.rule_heads.proofs.TooManyHeads.{too-large}
+use Rattle.rule_heads.proofs.TooManyHeads.{too_large}
 use Rattle.meaning.proofs.Lists.Overwriting.{kept_front, part_replaced, put_there}
 
 -- some rule stands there
@@ -24,11 +23,6 @@ pub is_rule_of : {counts numbers rows : List ℕ} → IsResolved counts numbers 
 is_rule_of g i h =
     let q = there_is g.pack.setting.rules i (omega (arith, h, rules_many g.is.given.setting)) in
     record { pack = g.pack; rule = q.0; given = rule_of g.is i q.0 q.1 }
-
--- the answer about the rule there, once it is known
-pub answer_is : {numbers : List ℕ} {at : ℕ} {rows : List ℕ} {g h : Heads} (keys : List ℕ) → g ≡ h
-    → ForRuleOf numbers at rows (λ P rule. ListedOrOver g keys (RuleKey P rule)) → ForRuleOf numbers at rows (λ P rule. ListedOrOver h keys (RuleKey P rule))
-answer_is {numbers} {at} {rows} keys e a = subst (λ (x : Heads). ForRuleOf numbers at rows (λ P rule. ListedOrOver x keys (RuleKey P rule))) e a
 
 -- the keys of the first r rules are listed
 pub record Collecting (numbers rows : List ℕ) (count : ℕ) (heads₀ : List ℕ) (r : ℕ) (heads counts : List ℕ) : Type 0 where
@@ -68,7 +62,7 @@ module _ {numbers rows : List ℕ} {count : ℕ} {heads₀ : List ℕ} {r : ℕ}
           → ForRuleOf numbers (rules_at + r * rule_width) rows (λ P rule. TooLarge P)
       collecting_over a P rule g =
           let e : length ys ≡ max_heads = l ∙ part_length in
-          too-large P rule g.listed (subst (λ (m : ℕ). OverSet m (RuleKey P rule)) e (a P rule g))
+          too_large P rule g.listed (subst (λ (m : ℕ). OverSet m (RuleKey P rule)) e (a P rule g))
 
       pub long_is : length (take (r * max_heads) heads ++ (ys ++ behind)) ≡ length heads
       long_is = part_replaced (r * max_heads) (r * max_heads + max_heads - r * max_heads) heads ys l
