@@ -1,5 +1,4 @@
 -- The core, listed: its facts, its nodes, and the types of each, spread along the edges. Assumes nothing.
-use lib.Dec.{T}
 use lib.ListN.{length}
 use mathlib.Core.List.Memᴰ.{map as ∈-map}
 use mathlib.Core.List.{List, [], ◌∷◌, map, flat_map, filter_map}

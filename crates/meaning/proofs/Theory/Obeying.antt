@@ -20,7 +20,7 @@ use Rattle.meaning.proofs.Theory.Simulated.{built_closed, is_core}
 use Rattle.meaning.specs.Built.{BuiltEdge, BuiltNode, HasCoreEdge, HasType, IsBuilt, Requires, core, from_core, in_core, invented, made}
 use Rattle.meaning.specs.Certain.{Distinct}
 use Rattle.meaning.specs.Core.{Fact, Given, Node, as_typed, given, head_fact, iri_node, literal_node, node_of, passed, triple, typed}
-use Rattle.meaning.specs.Graph.{Edge, Graph, HasEdge, Holds, Name, Obeys, Spelling, TypeFact, Typed, is_literal, is_named, literal, name_of, unnamed, unnamed_literal}
+use Rattle.meaning.specs.Graph.{Edge, Graph, HasEdge, Holds, Name, Obeys, Spelling, TypeFact, Typed, is_literal, is_named, name_of, unnamed, unnamed_literal}
 use Rattle.meaning.specs.Member.{◌∈◌, here, there}
 use Rattle.meaning.specs.NoGraph.{NoGraph, TwoObjects, iri_literal, literal_typed, mixed_set}
 use Rattle.meaning.specs.Pack.{HasShape, Head, Literal, Pack, Shape, Target, has_type, limits, links_to, links_to_value, type}
