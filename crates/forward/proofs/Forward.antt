@@ -1,8 +1,7 @@
 -- What is marked on the way forward: by triples, leaves and parts, from the nodes of a block. Assumes nothing.
-use borrow.Author.Tests.{not-true}
 use lib.Bits.{bit_and}
 use lib.ListN.{get_or}
-use mathlib.Core.Bool.{Bool, not, true}
+use mathlib.Core.Bool.{Bool, false, true}
 use mathlib.Core.List.{List}
 use mathlib.Core.Logic.{inl, inr, ◌⊎◌}
 use mathlib.Core.Path.{ap, subst, sym, ◌∙◌, ◌≡◌}
@@ -36,8 +35,8 @@ marked_state i n d = adds_same d (λ y e. e ∙ seen_number i n) (λ y e. e ∙ 
 -- ---- one triple, and the listed ones of a part
 
 module _ {triples : List ℕ} {kind want to : ℕ} {a : Board} where
-  pub object_none : {k : ℕ} (x : Bool) → not x ≡ true → x ≡ takes kind want (predicate_at triples k) → Table seen_words a → AddsOnly seen_words (ObjectAt triples k kind want to) a a
-  object_none x n e t = adds_none t (λ y s. true_false (e ∙ s.taken) (not-true x n))
+  pub object_none : {k : ℕ} (x : Bool) → x ≡ false → x ≡ takes kind want (predicate_at triples k) → Table seen_words a → AddsOnly seen_words (ObjectAt triples k kind want to) a a
+  object_none x n e t = adds_none t (λ y s. true_false (e ∙ s.taken) n)
 
   pub object_one : {k : ℕ} {b : Board} → takes kind want (predicate_at triples k) ≡ true → AddsOnly seen_words (λ y. y ≡ seen_state to (object_at triples k)) a b
       → AddsOnly seen_words (ObjectAt triples k kind want to) a b
