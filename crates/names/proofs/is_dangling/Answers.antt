@@ -21,8 +21,8 @@ good_shapes-requires c = let g = c.requires.given in
 
 pub returns-then-not-good_shapes : goal.returns-then-not-good_shapes
 unfolding dangling
-returns-then-not-good_shapes c = let t = c in
-    λ P g. rw (passed (t.good_dependencies.ensures P g.setting) (ap not t.if-not-good_dependencies.false), failed (c.good_shapes.ensures P g.setting) (ap not c.if-not-good_shapes.true))
+returns-then-not-good_shapes c =
+    λ P g. rw (passed (c.good_dependencies.ensures P g.setting) (ap not c.if-not-good_dependencies.false), failed (c.good_shapes.ensures P g.setting) (ap not c.if-not-good_shapes.true))
 
 pub good_rules-requires : goal.good_rules-requires
 unfolding dangling
@@ -31,21 +31,19 @@ good_rules-requires c = let g = c.requires.given in
 
 pub returns-then-not-good_rules : goal.returns-then-not-good_rules
 unfolding dangling
-returns-then-not-good_rules c = let s = c in
-    let d = s in
+returns-then-not-good_rules c =
     λ P g. rw (
-      passed (d.good_dependencies.ensures P g.setting) (ap not d.if-not-good_dependencies.false),
-      passed (s.good_shapes.ensures P g.setting) (ap not s.if-not-good_shapes.false),
+      passed (c.good_dependencies.ensures P g.setting) (ap not c.if-not-good_dependencies.false),
+      passed (c.good_shapes.ensures P g.setting) (ap not c.if-not-good_shapes.false),
       failed (c.good_rules.ensures P g.setting) (ap not c.if-not-good_rules.true),
     )
 
 pub returns : goal.returns
 unfolding dangling
-returns c = let s = c in
-    let d = s in
+returns c =
     λ P g. rw (
-      passed (d.good_dependencies.ensures P g.setting) (ap not d.if-not-good_dependencies.false),
-      passed (s.good_shapes.ensures P g.setting) (ap not s.if-not-good_shapes.false),
+      passed (c.good_dependencies.ensures P g.setting) (ap not c.if-not-good_dependencies.false),
+      passed (c.good_shapes.ensures P g.setting) (ap not c.if-not-good_shapes.false),
       passed (c.good_rules.ensures P g.setting) (ap not c.if-not-good_rules.false),
       ← c.good_rows.ensures P g,
     )

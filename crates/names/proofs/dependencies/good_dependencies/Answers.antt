@@ -19,16 +19,16 @@ pub good_dependency-requires : goal.good_dependency-requires
 good_dependency-requires c = let pre = c.requires in let g = pre.given in (pre, omega (arith, dependencies_few g, g.long))
 
 pub returns-then-not-good_dependency : goal.returns-then-not-good_dependency
-returns-then-not-good_dependency c = let t = c in
-    λ P g. every_stop (t.loop-i.invariant P g) (dependencies_many g) t.loop-i-test.true (λ x e. c.good_dependency.ensures P g x (dependency_at_lem g _ x e))
+returns-then-not-good_dependency c =
+    λ P g. every_stop (c.loop-i.invariant P g) (dependencies_many g) c.loop-i-test.true (λ x e. c.good_dependency.ensures P g x (dependency_at_lem g _ x e))
     (ap not c.if-not-good_dependency.true)
 
 pub overflow_step-i : goal.overflow_step-i
 overflow_step-i c = omega (arith, dependencies_few c.requires.given)
 
 pub loop-i-preserved : goal.loop-i-preserved
-loop-i-preserved c = let t = c in
-    λ P g. every_on (t.loop-i.invariant P g) (dependencies_many g) t.loop-i-test.true (λ x e. c.good_dependency.ensures P g x (dependency_at_lem g _ x e))
+loop-i-preserved c =
+    λ P g. every_on (c.loop-i.invariant P g) (dependencies_many g) c.loop-i-test.true (λ x e. c.good_dependency.ensures P g x (dependency_at_lem g _ x e))
     (ap not c.if-not-good_dependency.false)
 
 pub returns : goal.returns

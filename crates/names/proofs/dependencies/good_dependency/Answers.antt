@@ -20,12 +20,12 @@ pub in_columns-requires : goal.in_columns-requires
 in_columns-requires c = arity_small c.requires.0.given c.if-counts-relation.false
 
 pub returns-then-not-in_columns : goal.returns-then-not-in_columns
-returns-then-not-in_columns c = let t = c in
-    λ P g x d. left_out g d t.if-counts-relation.false c.in_columns.ensures c.if-not-in_columns.true
+returns-then-not-in_columns c =
+    λ P g x d. left_out g d c.if-counts-relation.false c.in_columns.ensures c.if-not-in_columns.true
 
 pub in_columns-requires-2 : goal.in_columns-requires-2
 in_columns-requires-2 c = arity_small c.requires.0.given c.if-counts-relation.false
 
 pub returns : goal.returns
-returns c = let t = c in
-    λ P g x d. both_in g d t.if-counts-relation.false t.in_columns.ensures c.if-not-in_columns.false c.in_columns-2.ensures
+returns c =
+    λ P g x d. both_in g d c.if-counts-relation.false c.in_columns.ensures c.if-not-in_columns.false c.in_columns-2.ensures

@@ -29,10 +29,10 @@ pub returns-then-not-all_below : goal.returns-then-not-all_below
 returns-then-not-all_below c = λ P g x r. row_stops g r c.if-counts-relation.false refl c.all_below.ensures c.if-not-all_below.true
 
 pub all_unused-requires : goal.all_unused-requires
-all_unused-requires c = let t = c in
-    let k = arity_small t.requires.0.given t.if-counts-relation.false in
+all_unused-requires c =
+    let k = arity_small c.requires.0.given c.if-counts-relation.false in
     (omega (arith, k), omega (arith, k))
 
 pub returns : goal.returns
-returns c = let t = c in
-    λ P g x r. row_ends g r t.if-counts-relation.false refl t.all_below.ensures c.if-not-all_below.false c.all_unused.ensures
+returns c =
+    λ P g x r. row_ends g r c.if-counts-relation.false refl c.all_below.ensures c.if-not-all_below.false c.all_unused.ensures

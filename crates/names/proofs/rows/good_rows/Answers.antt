@@ -17,12 +17,12 @@ good_row-requires c = let g = c.requires.given in
     (record { pack = _; given = g.setting }, row_room g _ c.loop-i-test.true)
 
 pub returns-then-not-good_row : goal.returns-then-not-good_row
-returns-then-not-good_row c = let t = c in
-    λ P g. every_stop (t.loop-i.invariant P g) g.many t.loop-i-test.true (λ x e. c.good_row.ensures P g.setting x (row_at g _ x e)) (ap not c.if-not-good_row.true)
+returns-then-not-good_row c =
+    λ P g. every_stop (c.loop-i.invariant P g) g.many c.loop-i-test.true (λ x e. c.good_row.ensures P g.setting x (row_at g _ x e)) (ap not c.if-not-good_row.true)
 
 pub loop-i-preserved : goal.loop-i-preserved
-loop-i-preserved c = let t = c in
-    λ P g. every_on (t.loop-i.invariant P g) g.many t.loop-i-test.true (λ x e. c.good_row.ensures P g.setting x (row_at g _ x e)) (ap not c.if-not-good_row.false)
+loop-i-preserved c =
+    λ P g. every_on (c.loop-i.invariant P g) g.many c.loop-i-test.true (λ x e. c.good_row.ensures P g.setting x (row_at g _ x e)) (ap not c.if-not-good_row.false)
 
 pub returns : goal.returns
 returns c = λ P g. left_done (c.loop-i.invariant P g) g.many c.loop-i-test.false refl

@@ -9,12 +9,12 @@ pub loop-i-init : goal.loop-i-init
 loop-i-init c = λ as' a. record { before = omega arith; inside = omega arith; is = refl }
 
 pub returns-then-not-is_bound : goal.returns-then-not-is_bound
-returns-then-not-is_bound c = let t = c in
-    λ as' a. passing_stops (t.loop-i.invariant as' a) t.loop-i-test.true (failed (c.is_bound.ensures as' a) (ap not c.if-not-is_bound.true))
+returns-then-not-is_bound c =
+    λ as' a. passing_stops (c.loop-i.invariant as' a) c.loop-i-test.true (failed (c.is_bound.ensures as' a) (ap not c.if-not-is_bound.true))
 
 pub loop-i-preserved : goal.loop-i-preserved
-loop-i-preserved c = let t = c in
-    λ as' a. passing_on (t.loop-i.invariant as' a) t.loop-i-test.true (passed (c.is_bound.ensures as' a) (ap not c.if-not-is_bound.false))
+loop-i-preserved c =
+    λ as' a. passing_on (c.loop-i.invariant as' a) c.loop-i-test.true (passed (c.is_bound.ensures as' a) (ap not c.if-not-is_bound.false))
 
 pub returns : goal.returns
 returns c = λ as' a. passing_done (c.loop-i.invariant as' a) c.loop-i-test.false

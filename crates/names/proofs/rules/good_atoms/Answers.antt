@@ -9,13 +9,13 @@ pub loop-i-init : goal.loop-i-init
 loop-i-init c = λ P g as' a. left_start _ _
 
 pub returns-then-not-has_columns : goal.returns-then-not-has_columns
-returns-then-not-has_columns c = let t = c in
-    λ P g as' a. every_stop (t.loop-i.invariant P g as' a) a.many t.loop-i-test.true (λ x e. atom_good a _ x e P (c.has_columns.ensures P g))
+returns-then-not-has_columns c =
+    λ P g as' a. every_stop (c.loop-i.invariant P g as' a) a.many c.loop-i-test.true (λ x e. atom_good a _ x e P (c.has_columns.ensures P g))
     (ap not c.if-not-has_columns.true)
 
 pub loop-i-preserved : goal.loop-i-preserved
-loop-i-preserved c = let t = c in
-    λ P g as' a. every_on (t.loop-i.invariant P g as' a) a.many t.loop-i-test.true (λ x e. atom_good a _ x e P (c.has_columns.ensures P g)) (ap not c.if-not-has_columns.false)
+loop-i-preserved c =
+    λ P g as' a. every_on (c.loop-i.invariant P g as' a) a.many c.loop-i-test.true (λ x e. atom_good a _ x e P (c.has_columns.ensures P g)) (ap not c.if-not-has_columns.false)
 
 pub returns : goal.returns
 returns c = λ P g as' a. left_done (c.loop-i.invariant P g as' a) a.many c.loop-i-test.false refl

@@ -15,8 +15,8 @@ pub returns-then-not-good_atoms : goal.returns-then-not-good_atoms
 returns-then-not-good_atoms c = λ P g r a. atoms_bad P r (failed (c.good_atoms.ensures P g r.atoms (atoms_at a)) (ap not c.if-not-good_atoms.true))
 
 pub returns-then-not-head_named : goal.returns-then-not-head_named
-returns-then-not-head_named c = let t = c in
-    λ P g r a. head_bad P r (passed (t.good_atoms.ensures P g r.atoms (atoms_at a)) (ap not t.if-not-good_atoms.false))
+returns-then-not-head_named c =
+    λ P g r a. head_bad P r (passed (c.good_atoms.ensures P g r.atoms (atoms_at a)) (ap not c.if-not-good_atoms.false))
     (failed (c.head_named.ensures P g r.head (head_at a)) (ap not c.if-not-head_named.true))
 
 pub overflow_add-end-2 : goal.overflow_add-end-2
@@ -28,7 +28,7 @@ all_bound-requires c = let g = c.requires.1.given in
     (record { list = _; given = atoms_at g }, search rules, omega (arith, variables_few g, g.room))
 
 pub returns : goal.returns
-returns c = let t = c in
+returns c =
     λ P g r a. c.all_bound.ensures r.atoms (atoms_at a)
-    ∙ rule_good P r (passed (t.good_atoms.ensures P g r.atoms (atoms_at a)) (ap not t.if-not-good_atoms.false)) a
-    (passed (t.head_named.ensures P g r.head (head_at a)) (ap not t.if-not-head_named.false))
+    ∙ rule_good P r (passed (c.good_atoms.ensures P g r.atoms (atoms_at a)) (ap not c.if-not-good_atoms.false)) a
+    (passed (c.head_named.ensures P g r.head (head_at a)) (ap not c.if-not-head_named.false))

@@ -19,15 +19,15 @@ pub good_rule-requires : goal.good_rule-requires
 good_rule-requires c = let pre = c.requires in (pre, is_rule pre.given _ c.loop-i-test.true)
 
 pub returns-then-not-good_rule : goal.returns-then-not-good_rule
-returns-then-not-good_rule c = let t = c in
-    λ P g. every_stop (t.loop-i.invariant P g) (rules_many g) t.loop-i-test.true (λ x e. c.good_rule.ensures P g x (rule_at g _ x e)) (ap not c.if-not-good_rule.true)
+returns-then-not-good_rule c =
+    λ P g. every_stop (c.loop-i.invariant P g) (rules_many g) c.loop-i-test.true (λ x e. c.good_rule.ensures P g x (rule_at g _ x e)) (ap not c.if-not-good_rule.true)
 
 pub overflow_step-i : goal.overflow_step-i
 overflow_step-i c = omega (arith, rules_few c.requires.given)
 
 pub loop-i-preserved : goal.loop-i-preserved
-loop-i-preserved c = let t = c in
-    λ P g. every_on (t.loop-i.invariant P g) (rules_many g) t.loop-i-test.true (λ x e. c.good_rule.ensures P g x (rule_at g _ x e)) (ap not c.if-not-good_rule.false)
+loop-i-preserved c =
+    λ P g. every_on (c.loop-i.invariant P g) (rules_many g) c.loop-i-test.true (λ x e. c.good_rule.ensures P g x (rule_at g _ x e)) (ap not c.if-not-good_rule.false)
 
 pub returns : goal.returns
 returns c = λ P g. left_done (c.loop-i.invariant P g) (rules_many g) c.loop-i-test.false refl

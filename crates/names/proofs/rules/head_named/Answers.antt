@@ -13,25 +13,24 @@ pub returns-then-kind-eq0 : goal.returns-then-kind-eq0
 returns-then-kind-eq0 c = λ P g h a. rw (passed (c.has_arguments.ensures P g) (ap not c.if-not-has_arguments.false), eq-eqb _ _ c.if-kind-eq0.true) at (head_named_lem g a)
 
 pub returns-then-counts-label : goal.returns-then-counts-label
-returns-then-counts-label c = let t = c in
-    λ P g h a. rw (passed (t.has_arguments.ensures P g) (ap not t.if-not-has_arguments.false), ne_eqb _ _ c.if-kind-eq0.false, le-ltb _ _ c.if-counts-label.true)
+returns-then-counts-label c =
+    λ P g h a. rw (passed (c.has_arguments.ensures P g) (ap not c.if-not-has_arguments.false), ne_eqb _ _ c.if-kind-eq0.false, le-ltb _ _ c.if-counts-label.true)
     at (head_named_lem g a)
 
 pub returns-then-kind-ne1 : goal.returns-then-kind-ne1
-returns-then-kind-ne1 c = let t = c in
+returns-then-kind-ne1 c =
     λ P g h a. rw (
-      passed (t.has_arguments.ensures P g) (ap not t.if-not-has_arguments.false),
-      ne_eqb _ _ t.if-kind-eq0.false,
+      passed (c.has_arguments.ensures P g) (ap not c.if-not-has_arguments.false),
+      ne_eqb _ _ c.if-kind-eq0.false,
       lt-ltb _ _ c.if-counts-label.false,
       ne_eqb _ _ c.if-kind-ne1.true,
     ) at (head_named_lem g a)
 
 pub returns : goal.returns
-returns c = let t = c in
-    let u = t in
+returns c =
     λ P g h a. c.has_arguments-2.ensures P g ∙ rw (
-      passed (u.has_arguments.ensures P g) (ap not u.if-not-has_arguments.false),
-      ne_eqb _ _ t.if-kind-eq0.false,
-      lt-ltb _ _ t.if-counts-label.false,
-      eq-eqb _ _ t.if-kind-ne1.false,
+      passed (c.has_arguments.ensures P g) (ap not c.if-not-has_arguments.false),
+      ne_eqb _ _ c.if-kind-eq0.false,
+      lt-ltb _ _ c.if-counts-label.false,
+      eq-eqb _ _ c.if-kind-ne1.false,
     ) at (head_named_lem g a)

@@ -18,12 +18,12 @@ holds-requires c = let g = c.requires.given in
     (search rules, omega (arith, atom_room g _ c.loop-i-test.true, variables_few g _ c.loop-i-test.true))
 
 pub returns-then-holds : goal.returns-then-holds
-returns-then-holds c = let t = c in
-    λ as' a. any_stop (t.loop-i.invariant as' a) a.many t.loop-i-test.true (λ x e. atom_holds a _ x e _ c.holds.ensures) c.if-holds.true
+returns-then-holds c =
+    λ as' a. any_stop (c.loop-i.invariant as' a) a.many c.loop-i-test.true (λ x e. atom_holds a _ x e _ c.holds.ensures) c.if-holds.true
 
 pub loop-i-preserved : goal.loop-i-preserved
-loop-i-preserved c = let t = c in
-    λ as' a. any_on (t.loop-i.invariant as' a) a.many t.loop-i-test.true (λ x e. atom_holds a _ x e _ c.holds.ensures) c.if-holds.false
+loop-i-preserved c =
+    λ as' a. any_on (c.loop-i.invariant as' a) a.many c.loop-i-test.true (λ x e. atom_holds a _ x e _ c.holds.ensures) c.if-holds.false
 
 pub returns : goal.returns
 returns c = λ as' a. left_done (c.loop-i.invariant as' a) a.many c.loop-i-test.false refl

@@ -20,15 +20,15 @@ good_shape-requires c = let g = c.requires.given in
     omega (arith, shapes_few g, g.long)
 
 pub returns-then-not-good_shape : goal.returns-then-not-good_shape
-returns-then-not-good_shape c = let t = c in
-    λ P g. every_stop (t.loop-i.invariant P g) (shapes_many g) t.loop-i-test.true (λ x e. c.good_shape.ensures P g x (shape_at g _ x e)) (ap not c.if-not-good_shape.true)
+returns-then-not-good_shape c =
+    λ P g. every_stop (c.loop-i.invariant P g) (shapes_many g) c.loop-i-test.true (λ x e. c.good_shape.ensures P g x (shape_at g _ x e)) (ap not c.if-not-good_shape.true)
 
 pub overflow_step-i : goal.overflow_step-i
 overflow_step-i c = omega (arith, shapes_few c.requires.given)
 
 pub loop-i-preserved : goal.loop-i-preserved
-loop-i-preserved c = let t = c in
-    λ P g. every_on (t.loop-i.invariant P g) (shapes_many g) t.loop-i-test.true (λ x e. c.good_shape.ensures P g x (shape_at g _ x e)) (ap not c.if-not-good_shape.false)
+loop-i-preserved c =
+    λ P g. every_on (c.loop-i.invariant P g) (shapes_many g) c.loop-i-test.true (λ x e. c.good_shape.ensures P g x (shape_at g _ x e)) (ap not c.if-not-good_shape.false)
 
 pub returns : goal.returns
 returns c = λ P g. left_done (c.loop-i.invariant P g) (shapes_many g) c.loop-i-test.false refl
