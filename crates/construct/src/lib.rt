@@ -21,7 +21,7 @@ use meaning::{
 use rule_heads::{AllHeads, all_heads};
 use tables::arities::arities;
 use tables::heads::head_table;
-use tables::shapes::shape_table;
+use tables::shape_tables::shape_table;
 
 // What a pack comes to: a refusal's number, with the clash of 10; or 0 and the two counts.
 #[derive(Drop)]

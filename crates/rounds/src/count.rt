@@ -12,7 +12,7 @@ use meaning::{
 };
 use rule_heads::{AllHeads, all_heads};
 use tables::heads::head_table;
-use tables::shapes::shape_table;
+use tables::shape_tables::shape_table;
 
 // A refusal's number; or 0, the core's size and the rounds.
 #[derive(Drop)]

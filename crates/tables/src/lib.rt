@@ -3,4 +3,4 @@
 
 pub mod arities;
 pub mod heads;
-pub mod shapes;
+pub mod shape_tables;

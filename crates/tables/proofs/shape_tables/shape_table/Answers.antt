@@ -1,7 +1,7 @@
 -- `shapes::shape_table` meets its contract: the table holds the first shapes. Assumes nothing.
 use mathlib.Core.Path.{refl}
 use Rattle.tables.proofs.Filling.{filled_done, filled_on, filled_start, small}
-use Rattle.tables.proofs.shapes.shape_table.Goals as goal
+use Rattle.tables.proofs.shape_tables.shape_table.Goals as goal
 
 pub loop-i-init : goal.loop-i-init
 loop-i-init c = filled_start _ _
