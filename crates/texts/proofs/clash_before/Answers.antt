@@ -57,14 +57,12 @@ pub clash_at-requires : goal.clash_at-requires
 clash_at-requires c = let loop = c.loop-i in (one_shows loop.invariant c.loop-i-test.true, last_shows loop.invariant)
 
 pub returns-then-clash_at : goal.returns-then-clash_at
-returns-then-clash_at c = let at-loop-test = c in
-    let at-loop = at-loop-test in
-    looking_found at-loop.loop-i.invariant at-loop-test.loop-i-test.true c.clash_at.ensures c.if-clash_at.true
+returns-then-clash_at c =
+    looking_found c.loop-i.invariant c.loop-i-test.true c.clash_at.ensures c.if-clash_at.true
 
 pub loop-i-preserved : goal.loop-i-preserved
-loop-i-preserved c = let at-loop-test = c in
-    let at-loop = at-loop-test in
-    looking_on at-loop.loop-i.invariant at-loop-test.loop-i-test.true c.clash_at.ensures c.if-clash_at.false
+loop-i-preserved c =
+    looking_on c.loop-i.invariant c.loop-i-test.true c.clash_at.ensures c.if-clash_at.false
 
 pub returns : goal.returns
 returns c = search (looking_done, rules)

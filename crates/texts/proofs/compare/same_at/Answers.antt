@@ -10,11 +10,9 @@ pub returns-then-n-eq0 : goal.returns-then-n-eq0
 returns-then-n-eq0 c = let pre = c.requires in both_empty _ _ _ _ _ pre.0 pre.1 c.if-n-m.false c.if-n-eq0.true
 
 pub returns-then-s-a : goal.returns-then-s-a
-returns-then-s-a c = let at-if1 = c in
-    let entry = at-if1 in
-    differ_last _ _ _ _ _ entry.requires.0 entry.requires.1 at-if1.if-n-m.false c.if-n-eq0.false c.if-s-a.true
+returns-then-s-a c =
+    differ_last _ _ _ _ _ c.requires.0 c.requires.1 c.if-n-m.false c.if-n-eq0.false c.if-s-a.true
 
 pub returns : goal.returns
-returns c = let at-if1 = c in
-    let entry = at-if1 in
-    c.begins_at.ensures ∙ as_long _ _ _ _ _ entry.requires.0 entry.requires.1 at-if1.if-n-m.false
+returns c =
+    c.begins_at.ensures ∙ as_long _ _ _ _ _ c.requires.0 c.requires.1 c.if-n-m.false
