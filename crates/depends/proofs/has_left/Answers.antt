@@ -4,5 +4,5 @@ use native.Mathlib.Omega.{arith}
 use Rattle.depends.proofs.has_left.Goals as goal
 
 pub returns : goal.returns
-returns c = let s = c in
-    four_left s.args.lefts.now s.args.left s.args.i (omega (arith, s.requires))
+returns c =
+    four_left c.args.lefts.now c.args.left c.args.i (omega (arith, c.requires))

@@ -10,16 +10,14 @@ pub loop-i-preserved-then-rows-at : goal.loop-i-preserved-then-rows-at
 loop-i-preserved-then-rows-at c = search (rows_other, rules)
 
 pub returns-then-some_differs : goal.returns-then-some_differs
-returns-then-some_differs c = let k = c in
-    let o = k in
-    let t = rows_break o.loop-i.invariant o.loop-i-test.true k.if-rows-at.false _ _ k.key-l.ensures k.key-r.ensures c.some_differs.ensures
+returns-then-some_differs c =
+    let t = rows_break c.loop-i.invariant c.loop-i-test.true c.if-rows-at.false _ _ c.key-l.ensures c.key-r.ensures c.some_differs.ensures
     c.if-some_differs.true in
     (t, search rules, search rules)
 
 pub loop-i-preserved : goal.loop-i-preserved
-loop-i-preserved c = let k = c in
-    let o = k in
-    rows_more o.loop-i.invariant o.loop-i-test.true k.if-rows-at.false _ _ k.key-l.ensures k.key-r.ensures c.some_differs.ensures
+loop-i-preserved c =
+    rows_more c.loop-i.invariant c.loop-i-test.true c.if-rows-at.false _ _ c.key-l.ensures c.key-r.ensures c.some_differs.ensures
     c.if-some_differs.false
 
 pub returns : goal.returns

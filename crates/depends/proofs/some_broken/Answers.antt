@@ -7,13 +7,13 @@ pub loop-i-init : goal.loop-i-init
 loop-i-init c = search (asking_start, rules)
 
 pub returns-then-some_break : goal.returns-then-some_break
-returns-then-some_break c = let o = c in
-    asking_found o.loop-i.invariant o.loop-i-test.true c.some_break.ensures.0 c.if-some_break.true
+returns-then-some_break c =
+    asking_found c.loop-i.invariant c.loop-i-test.true c.some_break.ensures.0 c.if-some_break.true
 
 pub loop-i-preserved : goal.loop-i-preserved
-loop-i-preserved c = let o = c in
+loop-i-preserved c =
     let s = c.some_break in
-    asking_on o.loop-i.invariant o.loop-i-test.true s.ensures.0 _ _ c.if-some_break.false s.ensures.1 s.ensures.2
+    asking_on c.loop-i.invariant c.loop-i-test.true s.ensures.0 _ _ c.if-some_break.false s.ensures.1 s.ensures.2
 
 pub returns : goal.returns
 returns c = search (asking_done, rules)
