@@ -35,15 +35,15 @@ pub slice_bounds-is_segment-end : goal.slice_bounds-is_segment-end
 slice_bounds-is_segment-end c = omega (arith, value_inside c.requires c.loop-v-test.true)
 
 pub returns-then-is_segment : goal.returns-then-is_segment
-returns-then-is_segment c = let t = c in
-    found_here t.requires t.loop-v.invariant t.loop-v-test.true c.is_segment.ensures c.if-is_segment.true
+returns-then-is_segment c =
+    found_here c.requires c.loop-v.invariant c.loop-v-test.true c.is_segment.ensures c.if-is_segment.true
 
 pub overflow_step-v : goal.overflow_step-v
 overflow_step-v c = omega (arith, value_place c.requires c.loop-v-test.true)
 
 pub loop-v-preserved : goal.loop-v-preserved
-loop-v-preserved c = let t = c in
-    found_again t.requires t.loop-v.invariant t.loop-v-test.true c.is_segment.ensures c.if-is_segment.false
+loop-v-preserved c =
+    found_again c.requires c.loop-v.invariant c.loop-v-test.true c.is_segment.ensures c.if-is_segment.false
 
 pub returns : goal.returns
 returns c = found_none c.requires c.loop-v.invariant c.loop-v-test.false

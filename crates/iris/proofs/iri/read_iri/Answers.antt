@@ -46,28 +46,26 @@ pub bounds-numbers-at-then-begins_text : goal.bounds-numbers-at-then-begins_text
 bounds-numbers-at-then-begins_text c = omega (arith, constructor_place c.requires c.loop-c-test.true)
 
 pub read_arguments-arguments-requires : goal.read_arguments-arguments-requires
-read_arguments-arguments-requires c = let b = c in
-    let t = b in
-    let l = t.requires in
-    (l, prefix_fits l t.loop-c.invariant t.loop-c-test.true b.begins_text.ensures c.if-begins_text.true, arity_small l t.loop-c-test.true)
+read_arguments-arguments-requires c =
+    let l = c.requires in
+    (l, prefix_fits l c.loop-c.invariant c.loop-c-test.true c.begins_text.ensures c.if-begins_text.true, arity_small l c.loop-c-test.true)
 
 pub overflow_cast-c : goal.overflow_cast-c
-overflow_cast-c c = let t = c in
-    omega (arith, constructors_few t.requires.given, t.loop-c-test.true)
+overflow_cast-c c =
+    omega (arith, constructors_few c.requires.given, c.loop-c-test.true)
 
 pub returns-then-begins_text : goal.returns-then-begins_text
-returns-then-begins_text c = let b = c in
-    let t = b in
-    this_constructor t.requires t.loop-c.invariant t.loop-c-test.true b.begins_text.ensures
+returns-then-begins_text c =
+    this_constructor c.requires c.loop-c.invariant c.loop-c-test.true c.begins_text.ensures
     c.if-begins_text.true c.read_arguments-arguments.ensures c.under.ensures
 
 pub overflow_step-c : goal.overflow_step-c
 overflow_step-c c = omega (arith, constructor_place c.requires c.loop-c-test.true)
 
 pub loop-c-preserved : goal.loop-c-preserved
-loop-c-preserved c = let t = c in
-    next_constructor t.requires t.loop-c.invariant t.loop-c-test.true c.begins_text.ensures c.if-begins_text.false
+loop-c-preserved c =
+    next_constructor c.requires c.loop-c.invariant c.loop-c-test.true c.begins_text.ensures c.if-begins_text.false
 
 pub returns : goal.returns
-returns c = let s = c in
-    λ P w. c.no_iri.ensures ∙ no_constructor s.requires c.loop-c.invariant c.loop-c-test.false P w
+returns c =
+    λ P w. c.no_iri.ensures ∙ no_constructor c.requires c.loop-c.invariant c.loop-c-test.false P w
