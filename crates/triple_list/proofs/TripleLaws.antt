@@ -315,6 +315,7 @@ module _ {P : Pack} {shapes : List (List ℕ)} {nodes triples masks sets : List 
             inl (iri_subject n (as_subject g) s p (s ∷ p ∷ o ∷ []) e (predicate_small I g) (λ v q. subject_iri P g v q)
             (present (triple_key s p o) (edge_key I s o g a b) k.0 (ap (λ (z : ℕ). s ∷ p ∷ z ∷ []) k.1)))
         go (core n) (invented X) e f (made i g) = inl (iri_made n (in_core_lem i) s p o X e f g)
+        go (invented Y) (core m) e f x5 = elim x5 [ ]
         go (invented Y) (invented X) e f (made i g) = inr (set_made Y s p o X e f g)
 
     pub record_iff : (x : List ℕ) → TripleRecord P bs x ↔ (IriEdge nodes triples masks places P x ⊎ SetsEdge P x)
