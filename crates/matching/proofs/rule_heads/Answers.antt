@@ -1,5 +1,4 @@
 -- `matching::rule_heads` meets its contract: what the search finds are the heads. Assumes nothing.
-use lib.ListN.{length-take}
 use native.Mathlib.Omega.{arith}
 use Prim.Native.Nat.{zero-le}
 use Rattle.meaning.specs.Ordered.{empty}
@@ -9,11 +8,6 @@ use Rattle.matching.proofs.rule_heads.Goals as goal
 
 pub all_orders-orders-requires : goal.all_orders-orders-requires
 all_orders-orders-requires c = let pre = c.requires in (atoms_below pre.0.held (omega arith), omega (arith, pre.1))
-
-pub slice_bounds-fresh-end-2 : goal.slice_bounds-fresh-end-2
-slice_bounds-fresh-end-2 c = let pre = c.requires in
-    let args = c.args in
-    omega (arith, length-take args.var_count args.vars, pre.0.held.vars_counted)
 
 pub fresh-start-requires : goal.fresh-start-requires
 fresh-start-requires c = (c.all_orders-orders.ensures.0, (head_variables c.requires.0.held (omega arith)).below)
@@ -36,17 +30,6 @@ unmatched-requires c = let pre = c.requires in
 pub returns-then-unmatched : goal.returns-then-unmatched
 returns-then-unmatched c = λ rows atoms vars h. unmatched_answers (heads_iff h c.all_orders-orders.ensures.1 c.fresh-start.ensures c.all_candidates-counts.ensures)
     (rw c.if-unmatched.true at c.unmatched.ensures) c.args.keys.now
-
-pub slice_bounds-vars-end-2 : goal.slice_bounds-vars-end-2
-slice_bounds-vars-end-2 c = let pre = c.requires in
-    omega (arith, pre.0.held.vars_counted)
-
-pub slice_bounds-add_heads-end-2 : goal.slice_bounds-add_heads-end-2
-slice_bounds-add_heads-end-2 c = let pre = c.requires
-    in
-    let args = c.args
-    in
-    omega (arith, length-take args.var_count args.vars, pre.0.held.vars_counted)
 
 pub add_heads-requires : goal.add_heads-requires
 add_heads-requires c = (

@@ -10,26 +10,14 @@ use Rattle.matching.proofs.binding.bind_row.Goals.{then-env-v+else-env-v-2, else
 pub loop-c-init : goal.loop-c-init
 loop-c-init c = columns_start _ _ _ (search rules) (search rules)
 
-pub overflow_cast-v : goal.overflow_cast-v
-overflow_cast-v c = omega (arith, variable_below c.requires.0 c.loop-c.c c.loop-c-test.true)
-
-pub offset_bounds-env-v : goal.offset_bounds-env-v
-offset_bounds-env-v c = omega (arith, variable_below c.requires.0 c.loop-c.c c.loop-c-test.true)
-
 pub bounds-env-v : goal.bounds-env-v
 bounds-env-v c = omega (arith, variable_below c.requires.0 c.loop-c.c c.loop-c-test.true)
-
-pub offset_bounds-env-v-then-env-v : goal.offset_bounds-env-v-then-env-v
-offset_bounds-env-v-then-env-v c = omega (arith, variable_below c.requires.0 c.loop-c.c c.loop-c-test.true)
 
 pub bounds-env-v-then-env-v : goal.bounds-env-v-then-env-v
 bounds-env-v-then-env-v c = omega (arith, variable_below c.requires.0 c.loop-c.c c.loop-c-test.true)
 
 pub returns-then-env-v-2 : goal.returns-then-env-v-2
 returns-then-env-v-2 c = columns_differ c.loop-c.invariant (search rules) _ refl c.if-env-v.true c.if-env-v-2.true
-
-pub offset_bounds-env-v-in-loop-c : goal.offset_bounds-env-v-in-loop-c
-offset_bounds-env-v-in-loop-c c = omega (arith, variable_below c.requires.0 c.loop-c.c c.loop-c-test.true)
 
 pub bounds-env-v-in-loop-c : goal.bounds-env-v-in-loop-c
 bounds-env-v-in-loop-c c = omega (arith, variable_below c.requires.0 c.loop-c.c c.loop-c-test.true)

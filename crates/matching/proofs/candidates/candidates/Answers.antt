@@ -12,38 +12,8 @@ columns-firsts-requires c = c.requires.0.short
 pub columns-cols-requires : goal.columns-cols-requires
 columns-cols-requires c = c.requires.1.short
 
-pub overflow_mul-at : goal.overflow_mul-at
-overflow_mul-at c = omega (arith, c.rows-test.true)
-
-pub overflow_add-at : goal.overflow_add-at
-overflow_add-at c = omega (arith, c.rows-test.true)
-
 pub loop-c-init : goal.loop-c-init
 loop-c-init c = cells_start _ _ _
-
-pub overflow_add-at-in-loop-c : goal.overflow_add-at-in-loop-c
-overflow_add-at-in-loop-c c = let pre = c.requires in
-    let rows-test = c.rows-test in
-    omega (arith, rows-test.true, c.loop-c-test.true, pre.0.short)
-
-pub offset_bounds-rows-at : goal.offset_bounds-rows-at
-offset_bounds-rows-at c = let pre = c.requires in
-    let rows-test = c.rows-test in
-    omega (arith, rows-test.true, c.loop-c-test.true, pre.0.short)
-
-pub bounds-rows-at : goal.bounds-rows-at
-bounds-rows-at c = let pre = c.requires in
-    let rows-test = c.rows-test in
-    omega (arith, rows-test.true, c.loop-c-test.true, pre.0.short)
-
-pub offset_bounds-firsts-c : goal.offset_bounds-firsts-c
-offset_bounds-firsts-c c = let pre = c.requires in
-    let rows-test = c.rows-test in
-    omega (arith, rows-test.true, c.loop-c-test.true, pre.0.short)
-
-pub bounds-firsts-c : goal.bounds-firsts-c
-bounds-firsts-c c = let pre = c.requires in
-    omega (arith, c.loop-c-test.true, pre.0.short)
 
 pub overflow_add-at-in-loop-c-2 : goal.overflow_add-at-in-loop-c-2
 overflow_add-at-in-loop-c-2 c = let pre = c.requires in
@@ -63,9 +33,6 @@ bounds-rows-at-in-loop-c c = let pre = c.requires in
     let rows-test = c.rows-test in
     let loop-test = c.loop-c-test in
     omega (arith, rows-test.true, loop-test.true, pre.0.short, column_below columns.ensures (λ v m. m) loop-test.true)
-
-pub loop-c-smaller : goal.loop-c-smaller
-loop-c-smaller c = omega (arith, c.loop-c-test.true)
 
 pub loop-c-preserved : goal.loop-c-preserved
 loop-c-preserved c = cells_again c.loop-c.invariant c.if-rows-at.false

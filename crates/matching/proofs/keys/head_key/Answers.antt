@@ -7,10 +7,6 @@ use Rattle.matching.proofs.keys.head_key.Goals as goal
 pub loop-i-init : goal.loop-i-init
 loop-i-init c = making_start _ _
 
-pub offset_bounds-env-vars : goal.offset_bounds-env-vars
-offset_bounds-env-vars c = let l = c.loop-i in
-    omega (arith, c.requires.0.below _ (∈_at c.args.vars.now l.i c.loop-i-test.true), c.requires.1.long)
-
 pub bounds-env-vars : goal.bounds-env-vars
 bounds-env-vars c = let l = c.loop-i in
     omega (arith, c.requires.0.below _ (∈_at c.args.vars.now l.i c.loop-i-test.true), c.requires.1.long)

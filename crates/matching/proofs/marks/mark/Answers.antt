@@ -7,20 +7,8 @@ use Rattle.matching.proofs.marks.mark.Goals as goal
 pub loop-i-init : goal.loop-i-init
 loop-i-init c = marking_start _ _
 
-pub offset_bounds-marks-v : goal.offset_bounds-marks-v
-offset_bounds-marks-v c = let pre = c.requires in
-    let args = c.args in
-    let loop = c.loop-i in
-    omega (arith, (pre _ (∈_at args.own.now loop.i c.loop-i-test.true)), loop.invariant.long)
-
 pub bounds-marks-v : goal.bounds-marks-v
 bounds-marks-v c = let pre = c.requires in
-    let args = c.args in
-    let loop = c.loop-i in
-    omega (arith, (pre _ (∈_at args.own.now loop.i c.loop-i-test.true)), loop.invariant.long)
-
-pub offset_bounds-marks-v-in-loop-i : goal.offset_bounds-marks-v-in-loop-i
-offset_bounds-marks-v-in-loop-i c = let pre = c.requires in
     let args = c.args in
     let loop = c.loop-i in
     omega (arith, (pre _ (∈_at args.own.now loop.i c.loop-i-test.true)), loop.invariant.long)

@@ -7,11 +7,6 @@ use Rattle.matching.proofs.orders.ranks.Goals as goal
 pub loop-c-init : goal.loop-c-init
 loop-c-init c = ranking_start _ _ _
 
-pub offset_bounds-seen-v : goal.offset_bounds-seen-v
-offset_bounds-seen-v c = let pre = c.requires in
-    let args = c.args in
-    omega (arith, pre.0.below _ (∈_at args.own.now c.loop-c.c c.loop-c-test.true))
-
 pub bounds-seen-v : goal.bounds-seen-v
 bounds-seen-v c = let pre = c.requires in
     let args = c.args in

@@ -9,21 +9,6 @@ use Rattle.matching.proofs.orders.written.Goals as goal
 pub loop-i-init : goal.loop-i-init
 loop-i-init c = writing_start _ _ _
 
-pub overflow_cast-next-in-loop-i : goal.overflow_cast-next-in-loop-i
-overflow_cast-next-in-loop-i c = omega arith
-
-pub overflow_mul-next-in-loop-i : goal.overflow_mul-next-in-loop-i
-overflow_mul-next-in-loop-i c = let pre = c.requires in omega (arith, pre.0, pre.1, c.loop-i-test.true)
-
-pub overflow_add-next-in-loop-i : goal.overflow_add-next-in-loop-i
-overflow_add-next-in-loop-i c = let pre = c.requires in omega (arith, pre.0, pre.1, c.loop-i-test.true)
-
-pub overflow_add-next-in-loop-i-2 : goal.overflow_add-next-in-loop-i-2
-overflow_add-next-in-loop-i-2 c = let pre = c.requires in omega (arith, pre.0, pre.1, c.loop-i-test.true)
-
-pub bounds-next-j-in-loop-i : goal.bounds-next-j-in-loop-i
-bounds-next-j-in-loop-i c = let pre = c.requires in omega (arith, pre.0, pre.1, c.loop-i-test.true)
-
 pub loop-i-preserved : goal.loop-i-preserved
 loop-i-preserved c = writing_again c.loop-i.invariant c.loop-i-test.true c.requires.0 c.requires.1
     (omega (arith, length-set c.args.orders (c.args.j * atom_width + 1) (length c.args.set.now)))

@@ -7,12 +7,6 @@ use Rattle.matching.proofs.spans.rows_left.Goals as goal
 pub loop-c-init : goal.loop-c-init
 loop-c-init c = bounds_start _ _
 
-pub bounds-own-c : goal.bounds-own-c
-bounds-own-c c = omega (arith, c.loop-c.invariant.within)
-
-pub offset_bounds-env-own : goal.offset_bounds-env-own
-offset_bounds-env-own c = omega (arith, bounds_variable c.loop-c.invariant c.loop-c-test.true c.requires.0)
-
 pub bounds-env-own : goal.bounds-env-own
 bounds-env-own c = let pre = c.requires in
     omega (arith, pre.1.long, bounds_variable c.loop-c.invariant c.loop-c-test.true pre.0)
@@ -52,30 +46,12 @@ pub loop-c-preserved : goal.loop-c-preserved
 loop-c-preserved c = let pre = c.requires in
     bounds_bound c.loop-c.invariant c.loop-c-test.true pre.1 c.if-x.false
 
-pub offset_bounds-keys-from : goal.offset_bounds-keys-from
-offset_bounds-keys-from c = omega (arith, c.if-from-keys.true)
-
-pub bounds-keys-from : goal.bounds-keys-from
-bounds-keys-from c = omega (arith, c.if-from-keys.true)
-
 pub returns-then-keys-from : goal.returns-then-keys-from
 returns-then-keys-from c = span_before c.loop-c.invariant c.loop-c-test.false c.args.keys.now c.requires.2 _ c.rank-from.ensures _ (omega arith)
     c.if-from-keys.true c.if-keys-from.true
 
 pub overflow_add-from : goal.overflow_add-from
 overflow_add-from c = omega (arith, c.rank-from.ensures, rank_le c.loop-c.low c.args.keys.now)
-
-pub overflow_add-from-then-from-keys-2 : goal.overflow_add-from-then-from-keys-2
-overflow_add-from-then-from-keys-2 c = omega (arith, c.if-from-keys-2.true)
-
-pub offset_bounds-keys-from-then-from-keys-2 : goal.offset_bounds-keys-from-then-from-keys-2
-offset_bounds-keys-from-then-from-keys-2 c = omega (arith, c.if-from-keys-2.true)
-
-pub bounds-keys-from-then-from-keys-2 : goal.bounds-keys-from-then-from-keys-2
-bounds-keys-from-then-from-keys-2 c = omega (arith, c.if-from-keys-2.true)
-
-pub overflow_add-result : goal.overflow_add-result
-overflow_add-result c = omega (arith, c.if-from-keys-2.true)
 
 pub returns-then-keys-from-2 : goal.returns-then-keys-from-2
 returns-then-keys-from-2 c = span_before c.loop-c.invariant c.loop-c-test.false c.args.keys.now c.requires.2 _ c.rank-from.ensures _ (omega arith)
