@@ -7,10 +7,10 @@ pub returns-then-refusal-ne0 : goal.returns-then-refusal-ne0
 returns-then-refusal-ne0 c = refused_answer _ _ _ _ c.check-checked.ensures.first (λ z. omega arith) c.refused.ensures
 
 pub read_iri-requires : goal.read_iri-requires
-read_iri-requires c = let e = c in
-    setting_loaded (e.check-checked.ensures.loaded e.if-refusal-ne0.false)
+read_iri-requires c =
+    setting_loaded (c.check-checked.ensures.loaded c.if-refusal-ne0.false)
 
 pub returns : goal.returns
-returns c = let e = c in
-    let a = e.check-checked.ensures.loaded e.if-refusal-ne0.false in
+returns c =
+    let a = c.check-checked.ensures.loaded c.if-refusal-ne0.false in
     found_answer _ _ a.pack a.is _ _ (c.read_iri.ensures a.pack a.is) c.answer.ensures
