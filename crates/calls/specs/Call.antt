@@ -2,7 +2,7 @@
 -- touches nothing; else a refusal, which keeps the output lists, or a success, which says what stands at the front of each;
 -- and the working buffers are zero. A call's own part is three things: what it says as 1, when it refuses, what it gives.
 -- Assumes nothing.
-use Rattle.std.specs.Borrow.{Bor}
+use Rattle.std.specs.Borrow.{MutBor}
 use denote.Triple.Both.{Both}
 use Rattle.std.specs.Prelude.{drop, length, List, [], ◌∷◌, ◌++◌, ◌≡◌, ℕ, ◌≤◌}
 use Rattle.meaning.specs.Limits.{max_working_length}
@@ -16,7 +16,7 @@ pub record Contents : Type 0 where
   pub after : List ℕ
 
 -- of a parameter, as a contract names it
-abbrev pub lent : Both (Bor (List ℕ)) (Bor (List ℕ)) → Contents
+abbrev pub lent : Both (MutBor (List ℕ)) (MutBor (List ℕ)) → Contents
 lent x = record { before = x.entry.now; after = x.exit.now }
 
 infix 85 ◌becomes◌
