@@ -31,6 +31,8 @@ flat_kind (c ∷ bs) (r ∷ rs) (Forall₂.cons h t) (suc n) b e =
     ap (λ i. get_or (r ++ flatten rs) i 0) (let z : suc n * node_width ≡ length r + n * node_width = omega (arith, ap length h.are, record_length c) in z)
     ∙ get_or-append-add r (flatten rs) (n * node_width) 0
     ∙ flat_kind bs rs t n b e
+flat_kind {P = P} [] (r ∷ rs) x4 n b e = elim x4 [ ]
+flat_kind {P = P} (c ∷ bs) [] x4 n b e = elim x4 [ ]
 
 core_kind : (k : Node) → kind (core k) < 2
 unfolding kind
