@@ -33,6 +33,8 @@ record_length (invented X) = refl
 node_flat : {P : Pack} (bs : List BuiltNode) (rs : List (List ℕ)) → Forall₂ (NodeRecord P) bs rs → length (flatten rs) ≡ length rs * node_width
 unfolding flatten
 node_flat [] [] Forall₂.nil = refl
+node_flat [] (r ∷ rs) h = elim h [ ]
+node_flat (b ∷ bs) [] h = elim h [ ]
 node_flat (b ∷ bs) (r ∷ rs) (Forall₂.cons h t) = let l = length-append r (flatten rs) in let m = node_flat bs rs t in omega (arith, ap length h.are, record_length b)
 
 triple_flat : {P : Pack} {bs : List BuiltNode} (rs : List (List ℕ)) → ((r : List ℕ) → r ∈ rs → TripleRecord P bs r) → length (flatten rs) ≡ length rs * 3
