@@ -7,7 +7,7 @@ ghost use Rattle.states.specs.Parts.{takes};
 use query::kinds;
 
 // How many nodes, triples and parts there are.
-#[derive(Drop)]
+#[derive(Clone, Copy)]
 pub struct Sizes {
     pub nodes: usize,
     pub edges: usize,
