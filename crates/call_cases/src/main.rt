@@ -2,18 +2,18 @@
 // tests/second (src/bin/call_cases), which says what the cases are.
 //
 // Standard input has a pack after another. A pack: lengths of its title, of the pack (three bytes) and number of its queries
-// (two bytes), lowest byte first; how much is lent for build (src/calls.rt); title; pack; queries. A query: how much is lent,
+// (two bytes), lowest byte first; how much is lent for build (src/open_calls.rt); title; pack; queries. A query: how much is lent,
 // length (two bytes), text.
 #![tactic(auto)]
 
-mod calls; // the calls
+mod open_calls; // the calls
 mod held; // what lists and buffers hold
 mod outcome; // what is written of a call
 mod say; // what is written of numbers and lists
 
 ghost use Rattle.std.specs.Prelude.{length, ◌≤◌};
 
-use crate::calls::{ask_build, ask_pairs, ask_yes_no};
+use crate::open_calls::{ask_build, ask_pairs, ask_yes_no};
 
 // Three bytes as a number, the lowest first.
 fn number(low: u8, middle: u8, high: u8) -> usize {
