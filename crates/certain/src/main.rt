@@ -88,10 +88,10 @@ fn answer(pack: &[u8], query: &[u8]) {
     say_pairs(pack, &nodes[..], &list[..], second.pairs);
 }
 
-fn main() {
+fn main(rt: HostRuntime) {
     let mut pack = [0u8; MAX_PACK_BYTES + 1];
     let mut query = [0u8; MAX_QUERY_BYTES + 2];
-    let n = read_pack(&mut pack);
+    let n = read_pack(&rt, &mut pack);
     let m = query_length(&mut query);
     answer(&pack[..n], &query[..m]);
 }
