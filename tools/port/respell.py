@@ -12,7 +12,6 @@ import sys
 
 NAME = r"[^\s(){}\[\];,.\"«»|@]+"
 SIGNATURE = re.compile(r"^(\s*)((?:abbrev |unfoldable |pub )*)((?:%s )+): " % NAME)
-HEAD = re.compile(r"^\s*(?:abbrev |unfoldable |pub )*(?:data|record|module|infix[lr]?) (\S+)")
 IMPORT = re.compile(r"^(?:ghost )?use ([^{;]+?)(?:\.\{([^}]*)\})?(?: as \S+)?;?$")
 KEEP = set("_ λ let in as where then else elim record open module deriving".split())
 # lemmas that would get the name of a function which stands in one file with them

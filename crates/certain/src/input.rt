@@ -1,5 +1,4 @@
 // The program's input. One byte more than may be is read, so that over-long input is over-long for the calls too.
-ghost use Rattle.std.specs.Prelude.{◌≤◌};
 ghost use Rattle.io.specs.Counts.{IsPrefixLen};
 
 use std::fs::File;

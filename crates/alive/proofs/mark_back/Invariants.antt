@@ -20,6 +20,7 @@ Ready sizes triples starts into tree next wanted heads links w bits alive waitin
     × ((AllAlive (lists sizes triples tree next wanted) alive × ((w < state_words) × AllMarked alive w bits)) × Table state_words (board alive waiting stack top))
 
 abbrev pub invariant-loop-e : goal.invariant-loop-e
-invariant-loop-e l = (length l.alive ≡ length l.initial.alive) × (length l.waiting ≡ length l.initial.waiting) × (length l.stack ≡ length l.initial.stack) × (l.hi ≡ get_or l.heads (l.w / node_words + 1) 0) × (l.hi < 2 ^ 16)
+invariant-loop-e l = (length l.alive ≡ length l.initial.alive) × (length l.waiting ≡ length l.initial.waiting) × (length l.stack ≡ length l.initial.stack)
+    × (l.hi ≡ get_or l.heads (l.w / node_words + 1) 0) × (l.hi < 2 ^ 16)
     × ((sizes : Sizes) → Ready sizes l.triples l.starts l.into l.tree l.next l.wanted l.heads l.links l.w l.bits l.initial.alive l.initial.waiting l.initial.stack l.top
     → Backing (lists sizes l.triples l.tree l.next l.wanted) l.heads l.links l.w l.bits (board l.initial.alive l.initial.waiting l.initial.stack l.top) (board l.alive l.waiting l.stack l.end) l.e)

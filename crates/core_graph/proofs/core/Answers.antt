@@ -1,4 +1,4 @@
--- `core::core` meets its contract: the nodes, the triples by their places, then the types. Assumes nothing.
+-- `core_graph::core` meets its contract: the nodes, the triples by their places, then the types. Assumes nothing.
 use Rattle.std.specs.Prelude.{◌≡◌, ℕ, ◌≤◌, List, length, take}
 use lib.ListN.{length-take}
 use mathlib.Core.Logic.{inl, inr}

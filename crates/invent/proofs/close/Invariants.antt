@@ -8,7 +8,8 @@ use Rattle.worklist.specs.Table.{Table, board, left}
 use Rattle.invent.proofs.close.Given as goal
 
 abbrev pub invariant-loop-end : goal.invariant-loop-end
-invariant-loop-end l = (length l.flags ≡ length l.initial.flags) × (length l.waiting ≡ length l.initial.waiting) × (length l.stack ≡ length l.initial.stack) × Table set_words (board l.flags l.waiting l.stack l.end)
+invariant-loop-end l = (length l.flags ≡ length l.initial.flags) × (length l.waiting ≡ length l.initial.waiting) × (length l.stack ≡ length l.initial.stack)
+    × Table set_words (board l.flags l.waiting l.stack l.end)
     × ((P : Pack) → OfTable l.demands P → Closing P l.initial.flags (board l.flags l.waiting l.stack l.end))
 
 abbrev pub decreases-loop-end : goal.decreases-loop-end

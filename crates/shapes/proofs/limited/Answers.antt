@@ -22,17 +22,13 @@ pub bounds-shapes-t : goal.bounds-shapes-t
 bounds-shapes-t c = (search_next c.loop-left.invariant.rest c.loop-left-test.true).0
 
 pub returns-then-limits_edges : goal.returns-then-limits_edges
-returns-then-limits_edges c = let at-loop-test = c in
-    let l = at-loop-test in
-    found l.loop-left.invariant at-loop-test.loop-left-test.true c.limits_edges.ensures l.requires c.if-cell-ne0.true c.if-limits_edges.true
+returns-then-limits_edges c = found c.loop-left.invariant c.loop-left-test.true c.limits_edges.ensures c.requires c.if-cell-ne0.true c.if-limits_edges.true
 
 pub loop-left-smaller-else-limits_edges : goal.loop-left-smaller-else-limits_edges
 loop-left-smaller-else-limits_edges c = omega (arith, ones_cleared c.loop-left.left (omega arith))
 
 pub loop-left-preserved-else-limits_edges : goal.loop-left-preserved-else-limits_edges
-loop-left-preserved-else-limits_edges c = let at-loop-test = c in
-    let at-loop = at-loop-test in
-    fails at-loop.loop-left.invariant at-loop-test.loop-left-test.true c.limits_edges.ensures c.if-limits_edges.false
+loop-left-preserved-else-limits_edges c = fails c.loop-left.invariant c.loop-left-test.true c.limits_edges.ensures c.if-limits_edges.false
 
 pub loop-left-smaller : goal.loop-left-smaller
 loop-left-smaller c = omega (arith, ones_cleared c.loop-left.left (omega arith))

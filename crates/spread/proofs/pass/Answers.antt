@@ -16,8 +16,8 @@ pub targets-requires : goal.targets-requires
 targets-requires c = let pre = c.requires in (pre.1.named, pre.0)
 
 pub returns-then-new-old : goal.returns-then-new-old
-returns-then-new-old c = let s = c in (
-  λ S tab. pass_same s.args.shapes.now s.args.key c.targets.result s.args.masks.now (omega (arith, s.requires.1.to, s.requires.2))
+returns-then-new-old c = (
+  λ S tab. pass_same c.args.shapes.now c.args.key c.targets.result c.args.masks.now (omega (arith, c.requires.1.to, c.requires.2))
       (search rules) (omega (arith, c.targets.type_inv)) c.targets.ensures S tab c.if-new-old.true,
   refl,
   λ e. absurd (true≢false (sym e)),
@@ -27,11 +27,11 @@ pub bounds-masks-o-2 : goal.bounds-masks-o-2
 bounds-masks-o-2 c = let pre = c.requires in omega (arith, pre.1.from, pre.1.to, pre.2)
 
 pub returns : goal.returns
-returns c = let s = c in (
-  λ S tab. pass_more s.args.shapes.now s.args.key c.targets.result s.args.masks.now (omega (arith, s.requires.1.to, s.requires.2))
+returns c = (
+  λ S tab. pass_more c.args.shapes.now c.args.key c.targets.result c.args.masks.now (omega (arith, c.requires.1.to, c.requires.2))
       (search rules) (omega (arith, c.targets.type_inv)) c.targets.ensures S tab,
-  pass_nearer s.args.shapes.now s.args.key c.targets.result s.args.masks.now (omega (arith, s.requires.1.to, s.requires.2))
+  pass_nearer c.args.shapes.now c.args.key c.targets.result c.args.masks.now (omega (arith, c.requires.1.to, c.requires.2))
       (search rules) (omega (arith, c.targets.type_inv)) c.targets.ensures c.if-new-old.false,
-  λ e. pass_adds s.args.shapes.now s.args.key c.targets.result s.args.masks.now (omega (arith, s.requires.1.to, s.requires.2))
+  λ e. pass_adds c.args.shapes.now c.args.key c.targets.result c.args.masks.now (omega (arith, c.requires.1.to, c.requires.2))
       (search rules) (omega (arith, c.targets.type_inv)) c.targets.ensures c.if-new-old.false,
 )

@@ -13,8 +13,7 @@ round-changed-requires c = let s = c.requires in
 
 pub overflow_add-rounds : goal.overflow_add-rounds
 overflow_add-rounds c = let l = c.loop-passed in
-    let s = c in
-    omega (arith, rounds_few l.invariant s.requires.3)
+    omega (arith, rounds_few l.invariant c.requires.3)
 
 pub returns-then-not-changed : goal.returns-then-not-changed
 returns-then-not-changed c = let made = c.loop-passed.invariant in

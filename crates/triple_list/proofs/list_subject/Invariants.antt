@@ -9,5 +9,6 @@ use Rattle.meaning.specs.Limits.{max_predicates}
 use Rattle.triple_list.proofs.list_subject.Given as goal
 
 abbrev pub invariant-loop-p : goal.invariant-loop-p
-invariant-loop-p l = (l.p ≤ max_predicates) × (length l.out ≡ length l.initial.out) × (l.next.triple + l.initial.next.at ≤ l.initial.next.triple + l.p + l.next.at) × (l.next.at ≡ keys_before (origin_at l.subject l.p) l.triples)
+invariant-loop-p l = (l.p ≤ max_predicates) × (length l.out ≡ length l.initial.out) × (l.next.triple + l.initial.next.at ≤ l.initial.next.triple + l.p + l.next.at)
+    × (l.next.at ≡ keys_before (origin_at l.subject l.p) l.triples)
     × RecordsListed (OfTable l.demands) (λ P. Upto (EdgeFrom P l.triples l.places l.subject l.mask) l.p) l.initial.next.triple l.initial.out l.out l.next.triple

@@ -14,7 +14,7 @@ pub offset_bounds-stack-top : goal.offset_bounds-stack-top
 offset_bounds-stack-top c = let a = top_few c.requires.2.stacked in omega arith
 
 pub bounds-stack-top : goal.bounds-stack-top
-bounds-stack-top c = let l = c in let (n, h, t) = l.requires in first_room t h _ l.if-all-old.false (omega arith)
+bounds-stack-top c = let (n, h, t) = c.requires in first_room t h _ c.if-all-old.false (omega arith)
 
 pub overflow_add-result : goal.overflow_add-result
 overflow_add-result c = let a = top_few c.requires.2.stacked in omega arith

@@ -1,4 +1,4 @@
--- `core::counted::add_at` meets its contract. Assumes nothing.
+-- `core_graph::counted::add_at` meets its contract. Assumes nothing.
 use Rattle.core_graph.proofs.Growing.{grown_added, grown_present, grown_full}
 use Rattle.core_graph.proofs.counted.add_at.Goals as goal
 

@@ -1,4 +1,4 @@
--- `core::keys::lists` meets its contract. Assumes nothing.
+-- `core_graph::keys::lists` meets its contract. Assumes nothing.
 use Rattle.core_graph.proofs.Powers.{bytes_made}
 use Rattle.core_graph.proofs.keys.lists.Goals as goal
 

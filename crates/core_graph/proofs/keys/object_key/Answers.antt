@@ -1,4 +1,4 @@
--- `core::keys::object_key` meets its contract. Assumes nothing.
+-- `core_graph::keys::object_key` meets its contract. Assumes nothing.
 use borrow.Author.Tests.{eq-eqb, ne_eqb}
 use native.Mathlib.Omega.{arith}
 use Rattle.std.specs.Prelude.{◌*◌, ◌%◌, ◌<◌}

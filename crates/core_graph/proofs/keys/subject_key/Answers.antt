@@ -1,4 +1,4 @@
--- `core::keys::subject_key` meets its contract. Assumes nothing.
+-- `core_graph::keys::subject_key` meets its contract. Assumes nothing.
 use native.Mathlib.Omega.{arith}
 use Rattle.std.specs.Prelude.{◌*◌, ◌/◌, ◌<◌}
 use Rattle.core_graph.specs.Collected.{subject_key}

@@ -1,4 +1,4 @@
--- `core::nodes::add_match` meets its contract: the subject first, then the object. Assumes nothing.
+-- `core_graph::nodes::add_match` meets its contract: the subject first, then the object. Assumes nothing.
 use lib.ListN.{length-take}
 use native.Mathlib.Omega.{arith}
 use Rattle.core_graph.proofs.Growing.{adding_then}

@@ -1,4 +1,4 @@
--- `core::nodes::nodes` meets its contract: the IRIs are the keys below the first literal's. Assumes nothing.
+-- `core_graph::nodes::nodes` meets its contract: the IRIs are the keys below the first literal's. Assumes nothing.
 use lib.ListN.{length-take}
 use native.Mathlib.Omega.{arith}
 use Rattle.core_graph.proofs.Passed.{nodes_beyond, nodes_listed, nodes_over}

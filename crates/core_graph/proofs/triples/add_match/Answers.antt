@@ -1,4 +1,4 @@
--- `core::triples::add_match` meets its contract. Assumes nothing.
+-- `core_graph::triples::add_match` meets its contract. Assumes nothing.
 use Rattle.std.specs.Prelude.{◌≡◌, ℕ, ◌≤◌, List, length}
 use Rattle.sets.specs.Ordered.{rank_of}
 use lib.ListN.{length-take}
@@ -16,16 +16,16 @@ pub returns-then-head-eq0 : goal.returns-then-head-eq0
 returns-then-head-eq0 c = type_triples _ _ _ c.if-head-eq0.true _ _ c.requires.4 c.requires.5
 
 pub overflow_mul-key : goal.overflow_mul-key
-overflow_mul-key c = omega (arith, few c.subject_key-subject.result c.rank_near-s.result c.args.nodes.now c.rank_near-s.ensures, few c.object_key-object.result c.rank_near-o.result c.args.nodes.now c.rank_near-o.ensures, c.requires.3)
+overflow_mul-key c = omega (arith, few _ _ c.args.nodes.now c.rank_near-s.ensures, few _ _ c.args.nodes.now c.rank_near-o.ensures, c.requires.3)
 
 pub overflow_add-key : goal.overflow_add-key
-overflow_add-key c = let pre = c.requires in omega (arith, few c.subject_key-subject.result c.rank_near-s.result c.args.nodes.now c.rank_near-s.ensures, few c.object_key-object.result c.rank_near-o.result c.args.nodes.now c.rank_near-o.ensures, pre.3, pre.0.named)
+overflow_add-key c = omega (arith, few _ _ c.args.nodes.now c.rank_near-s.ensures, few _ _ c.args.nodes.now c.rank_near-o.ensures, c.requires.3, c.requires.0.named)
 
 pub overflow_mul-key-2 : goal.overflow_mul-key-2
-overflow_mul-key-2 c = let pre = c.requires in omega (arith, few c.subject_key-subject.result c.rank_near-s.result c.args.nodes.now c.rank_near-s.ensures, few c.object_key-object.result c.rank_near-o.result c.args.nodes.now c.rank_near-o.ensures, pre.3, pre.0.named)
+overflow_mul-key-2 c = omega (arith, few _ _ c.args.nodes.now c.rank_near-s.ensures, few _ _ c.args.nodes.now c.rank_near-o.ensures, c.requires.3, c.requires.0.named)
 
 pub overflow_add-key-2 : goal.overflow_add-key-2
-overflow_add-key-2 c = let pre = c.requires in omega (arith, few c.subject_key-subject.result c.rank_near-s.result c.args.nodes.now c.rank_near-s.ensures, few c.object_key-object.result c.rank_near-o.result c.args.nodes.now c.rank_near-o.ensures, pre.3, pre.0.named)
+overflow_add-key-2 c = omega (arith, few _ _ c.args.nodes.now c.rank_near-s.ensures, few _ _ c.args.nodes.now c.rank_near-o.ensures, c.requires.3, c.requires.0.named)
 
 pub slice_bounds-rank_near-end-2 : goal.slice_bounds-rank_near-end-2
 slice_bounds-rank_near-end-2 c = let s = c.args in omega (arith, length-take s.n s.triples.now)

@@ -1,4 +1,4 @@
--- `core::triples::add_rule` meets its contract: the keys of the matches so far. Assumes nothing.
+-- `core_graph::triples::add_rule` meets its contract: the keys of the matches so far. Assumes nothing.
 use native.Mathlib.Omega.{arith}
 use Rattle.core_graph.proofs.Loops.{keys_start, keys_again, keys_full, keys_done}
 use Rattle.meaning.proofs.Lists.Places.{∈_at}

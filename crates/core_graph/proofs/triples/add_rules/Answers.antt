@@ -1,4 +1,4 @@
--- `core::triples::add_rules` meets its contract: the keys of the rules so far. Assumes nothing.
+-- `core_graph::triples::add_rules` meets its contract: the keys of the rules so far. Assumes nothing.
 use borrow.Author.Rules.{rules}
 use native.Mathlib.Omega.{arith}
 use Rattle.std.specs.Prelude.{◌<◌}

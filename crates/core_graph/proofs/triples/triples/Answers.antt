@@ -1,4 +1,4 @@
--- `core::triples::triples` meets its contract. Assumes nothing.
+-- `core_graph::triples::triples` meets its contract. Assumes nothing.
 use Rattle.core_graph.proofs.TripleAnswers.{triples_answer}
 use Rattle.core_graph.proofs.triples.triples.Goals as goal
 

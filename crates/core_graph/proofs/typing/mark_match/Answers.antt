@@ -1,4 +1,4 @@
--- `core::typing::mark_match` meets its contract. Assumes nothing.
+-- `core_graph::typing::mark_match` meets its contract. Assumes nothing.
 use borrow.Author.Rules.{rules}
 use native.Mathlib.Omega.{arith}
 use Rattle.core_graph.proofs.Marking.{mark_none, mark_one, place_inside}
@@ -28,4 +28,5 @@ bounds-masks-at-2 c = placed _ _ _ _ _ _ c.requires.2 c.requires.3 c.requires.4 
 
 pub returns : goal.returns
 returns c = mark_one _ _ c.args.k c.args.masks.now c.if-head-ne0.false _ (rw c.subject_key-subject.ensures at c.rank_near-at.ensures)
-    (placed _ _ _ _ _ _ c.requires.2 c.requires.3 c.requires.4 c.subject_key-subject.ensures c.rank_near-at.ensures) (omega (arith, c.requires.0.named)) (search rules) _ (weight_made 16 _ (omega (arith, c.requires.0.named))) (omega arith)
+    (placed _ _ _ _ _ _ c.requires.2 c.requires.3 c.requires.4 c.subject_key-subject.ensures c.rank_near-at.ensures)
+    (omega (arith, c.requires.0.named)) (search rules) _ (weight_made 16 _ (omega (arith, c.requires.0.named))) (omega arith)

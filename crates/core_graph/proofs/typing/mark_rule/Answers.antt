@@ -1,4 +1,4 @@
--- `core::typing::mark_rule` meets its contract: those of the matches so far. Assumes nothing.
+-- `core_graph::typing::mark_rule` meets its contract: those of the matches so far. Assumes nothing.
 use native.Mathlib.Omega.{arith}
 use Rattle.core_graph.proofs.Marking.{marks_start, marks_again, marks_done}
 use Rattle.meaning.proofs.Lists.Places.{∈_at}

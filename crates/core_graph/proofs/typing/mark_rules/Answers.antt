@@ -1,4 +1,4 @@
--- `core::typing::mark_rules` meets its contract: those of the rules so far. Assumes nothing.
+-- `core_graph::typing::mark_rules` meets its contract: those of the rules so far. Assumes nothing.
 use borrow.Author.Rules.{rules}
 use native.Mathlib.Omega.{arith}
 use Rattle.std.specs.Prelude.{◌<◌}

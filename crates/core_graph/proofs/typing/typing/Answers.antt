@@ -1,4 +1,4 @@
--- `core::typing::typing` meets its contract. Assumes nothing.
+-- `core_graph::typing::typing` meets its contract. Assumes nothing.
 use Rattle.core_graph.proofs.AllPasses.{types_answer}
 use Rattle.core_graph.proofs.typing.typing.Goals as goal
 

@@ -24,7 +24,8 @@ bounds-env-v-in-loop-c c = omega (arith, variable_below c.requires.0 c.loop-c.c 
 
 pub loop-c-preserved : goal.loop-c-preserved
 loop-c-preserved c = let h = c.loop-c-test.true in
-    columns_again c.loop-c.invariant h _ refl (variable_below c.requires.0 c.loop-c.c h) (elim c.if-env-v.branch [ then-env-v+else-env-v-2 w ↦ inr w.if-env-v-2.false | else-env-v w ↦ inl w.if-env-v.false ])
+    columns_again c.loop-c.invariant h _ refl (variable_below c.requires.0 c.loop-c.c h)
+    (elim c.if-env-v.branch [ then-env-v+else-env-v-2 w ↦ inr w.if-env-v-2.false | else-env-v w ↦ inl w.if-env-v.false ])
 
 pub returns : goal.returns
 returns c = columns_done c.loop-c.invariant (search rules)

@@ -31,19 +31,23 @@ pub returns-in-Value : goal.returns-in-Value
 returns-in-Value c = rw c.in-Value.is (value_kept c.args.s.now c.args.c c.args.at c.args.out.now c.keep_text.new.out c.keep_text.result c.value.result c.value.ensures c.keep_text.ensures)
 
 pub returns-in-Relation : goal.returns-in-Relation
-returns-in-Relation c = rw c.in-Relation.is (relation_kept c.args.s.now c.args.c c.args.at c.args.out.now c.keep_byte.new.out c.keep_byte.result c.relation.result c.relation.ensures c.keep_byte.ensures)
+returns-in-Relation c = rw c.in-Relation.is
+    (relation_kept c.args.s.now c.args.c c.args.at c.args.out.now c.keep_byte.new.out c.keep_byte.result c.relation.result c.relation.ensures c.keep_byte.ensures)
 
 pub returns-in-Dependency : goal.returns-in-Dependency
-returns-in-Dependency c = rw c.in-Dependency.is (dependency_kept c.args.s.now c.args.c c.args.at c.args.out.now c.keep_dependency.new.out c.keep_dependency.result c.dependency.result c.dependency.ensures c.keep_dependency.ensures)
+returns-in-Dependency c = rw c.in-Dependency.is
+    (dependency_kept c.args.s.now c.args.c c.args.at c.args.out.now c.keep_dependency.new.out c.keep_dependency.result c.dependency.result c.dependency.ensures c.keep_dependency.ensures)
 
 pub returns-in-Name : goal.returns-in-Name
-returns-in-Name c = rw c.in-Name.is (name_kept c.args.s.now c.args.c c.args.at c.args.out.now c.keep_text-in-Name.new.out c.keep_text-in-Name.result c.name.result c.name.ensures c.keep_text-in-Name.ensures)
+returns-in-Name c = rw c.in-Name.is
+    (name_kept c.args.s.now c.args.c c.args.at c.args.out.now c.keep_text-in-Name.new.out c.keep_text-in-Name.result c.name.result c.name.ensures c.keep_text-in-Name.ensures)
 
 pub returns-in-Shape : goal.returns-in-Shape
 returns-in-Shape c = rw c.in-Shape.is (shape_kept c.args.s.now c.args.c c.args.at c.args.out.now c.keep_shape.new.out c.keep_shape.result c.shape.result c.shape.ensures c.keep_shape.ensures)
 
 pub returns-in-Constructor : goal.returns-in-Constructor
-returns-in-Constructor c = rw c.in-Constructor.is (constructor_kept c.args.s.now c.args.c c.args.at c.args.out.now c.keep_constructor.new.out c.keep_constructor.result c.constructor.result c.constructor.ensures c.keep_constructor.ensures)
+returns-in-Constructor c = rw c.in-Constructor.is
+    (constructor_kept c.args.s.now c.args.c c.args.at c.args.out.now c.keep_constructor.new.out c.keep_constructor.result c.constructor.result c.constructor.ensures c.keep_constructor.ensures)
 
 pub returns-in-Rule : goal.returns-in-Rule
 returns-in-Rule c = rw c.in-Rule.is (rule_kept c.args.s.now c.args.c c.args.at c.args.out.now c.keep_rule.new.out c.keep_rule.result c.rule.result c.rule.ensures c.keep_rule.ensures)
