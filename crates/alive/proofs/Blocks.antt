@@ -20,7 +20,7 @@ use Rattle.states.proofs.Numbers.{word_mark}
 use Rattle.states.specs.Living.{SomeAt}
 use Rattle.states.specs.State.{state, word_at}
 use Rattle.worklist.proofs.Growth.{adds_as, adds_for, adds_none, adds_then, nothing_marked}
-use Rattle.worklist.specs.Table.{Adds, AddsOnly, Board, InWord, Marked, Unmarked, board, mark}
+use Rattle.worklist.specs.Table.{Adds, AddsOnly, Blank, Board, InWord, Marked, mark}
 use Rattle.backward.proofs.Backward.{at_nodes}
 
 -- ---- the nodes of a block
@@ -48,9 +48,8 @@ pub record Ending (nodes parts : ℕ) (b₁ b₂ : Board) (block : ℕ) : Type 0
   pub adds : Adds state_words (EndAt nodes parts) (λ y. ⊥) b₁ b₂
   pub before : (m : ℕ) → m < nodes → m < block * 64 → Marked b₂.marked (state parts m)
 
-pub end_start : {nodes parts : ℕ} {marked waiting stack : List ℕ} → Unmarked state_words marked waiting stack
-    → Ending nodes parts (board marked waiting stack 0) (board marked waiting stack 0) 0
-end_start u = record { adds = adds_none (nothing_marked u) (λ y h. h); before = λ m l h. absurd (omega arith) }
+pub end_start : {nodes parts : ℕ} {b : Board} → Blank state_words b → Ending nodes parts b b 0
+end_start (u, z) = record { adds = adds_none (nothing_marked u z) (λ y h. h); before = λ m l h. absurd (omega arith) }
 
 module _ {nodes parts : ℕ} {b₁ b₂ : Board} {block : ℕ} (g : Ending nodes parts b₁ b₂ block) where
   pub end_again : {b₃ : Board} (r : ℕ) → block < node_words → RealNodes nodes block r → AddsOnly state_words (InWord (parts * node_words + block) r) b₂ b₃

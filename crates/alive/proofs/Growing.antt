@@ -25,7 +25,7 @@ use Rattle.walk.proofs.Alive.{alive_least}
 use Rattle.walk.specs.Parts.{Child, Part, chain, either, leaf, listed, part_of, repeat, test}
 use Rattle.walk.specs.Walk.{Saturated, StepBy, ended}
 use Rattle.worklist.proofs.Growth.{adds_as, adds_for, adds_none, adds_sound, adds_then, all_looked, turn_looked, turn_marked}
-use Rattle.worklist.specs.Table.{Adds, AddsOnly, Board, FromWord, InWord, Looked, Marked, Table, Takes, Unmarked, board}
+use Rattle.worklist.specs.Table.{Adds, AddsOnly, Blank, Board, FromWord, InWord, Looked, Marked, Table, Takes}
 use Rattle.alive.proofs.States.{alive_at, back_part, led_more, part_alive, state_alive, word_alive}
 
 -- ---- one word, part by part
@@ -132,9 +132,8 @@ module _ {L : Lists} (f : ListsFit L) where
   none_led B out after (either a b) (inl x) = out a x
   none_led B out after (either a b) (inr x) = out b x
 
-  pub grow_start : {marked waiting stack : List ℕ} {b : Board} → Unmarked state_words marked waiting stack
-      → AddsOnly state_words (EndAt L.nodes L.parts) (board marked waiting stack 0) b → Growing L b
-  grow_start {marked} {waiting} {stack} {b} u a = record {
+  pub grow_start : {a b : Board} → Blank state_words a → AddsOnly state_words (EndAt L.nodes L.parts) a b → Growing L b
+  grow_start {b = b} (u, z) a = record {
     marks = a.after;
     sound = adds_sound a (StateAlive L) (λ x l e. absurd (let z = u.none x l in omega arith))
         (λ y e. state_alive f L.parts e.node y (omega arith) e.is e.state ended);
@@ -146,55 +145,66 @@ module _ {L : Lists} (f : ListsFit L) where
       none : (x : ℕ) → x < state_words * 64 → Looked b x → ⊥
       none x l h = let y = (a.looked x l h).is in let z = u.none x l in omega arith
 
-  module _ {w bits : ℕ} {marked waiting stack waiting' : List ℕ} {top top' : ℕ} (g : Growing L (board marked waiting stack top))
-      (k : Takes state_words (InWord w bits) waiting stack waiting' top') where
-    pub grow_again : {b : Board} → Adds state_words (StateAlive L) (FromWord w bits (BackTo L marked)) (board marked waiting' stack top') b → Growing L b
-    grow_again {b} a = record {
+  module _ {w bits : ℕ} {b c : Board} (g : Growing L b) (k : Takes state_words (InWord w bits) b c) where
+    pub taken_alive : AllAlive L c.marked
+    taken_alive x l e = g.sound x l (subst (λ t. Marked t x) k.marked e)
+
+    pub taken_marked : AllMarked c.marked w bits
+    taken_marked x h = subst (λ t. Marked t x) (sym k.marked) (turn_marked g.marks k x h)
+
+    pub grow_again : {d : Board} → Adds state_words (StateAlive L) (FromWord w bits (BackTo L c.marked)) c d → Growing L d
+    grow_again {d} a = record {
       marks = a.after;
-      sound = adds_sound a (StateAlive L) g.sound (λ x h. h);
-      ends = λ n h. a.more (state L.parts n) (g.ends n h);
+      sound = adds_sound a (StateAlive L) taken_alive (λ x h. h);
+      ends = λ n h. still (state L.parts n) (g.ends n h);
       led = λ x l h i n r e p j. by_leaf x i n l r e p j (turn_looked g.marks k a x l h);
       turned = λ i m r h x. by_part i m r h x (split_led m (get_or L.next i 0) (part_of L.tree i) x);
     }
       where
-        by_leaf : (x i n : ℕ) → x < state_words * 64 → i < L.parts → part_of L.tree i ≡ leaf → get_or L.next i 0 ≡ part_at x
-            → Joins (numbered L) (leaf_at L i) n (node_at x) → InWord w bits x ⊎ Looked (board marked waiting stack top) x → Marked b.marked (state i n)
-        by_leaf x i n l r e p j (inl z) = a.all (state i n) (record { from = x; is = z; leads = record { part = i; is = r; back = leads n e p j refl } })
-        by_leaf x i n l r e p j (inr h) = a.more (state i n) (g.led x l h i n r e p j)
+        still : (x : ℕ) → Marked b.marked x → Marked d.marked x
+        still x e = a.more x (subst (λ t. Marked t x) (sym k.marked) e)
 
-        marked_now : (m j : ℕ) → Passed b m j → AliveAt marked m j
+        all : (y : ℕ) → FromWord w bits (BackTo L b.marked) y → Marked d.marked y
+        all y x = a.all y (subst (λ t. FromWord w bits (BackTo L t) y) (sym k.marked) x)
+
+        by_leaf : (x i n : ℕ) → x < state_words * 64 → i < L.parts → part_of L.tree i ≡ leaf → get_or L.next i 0 ≡ part_at x
+            → Joins (numbered L) (leaf_at L i) n (node_at x) → InWord w bits x ⊎ Looked b x → Marked d.marked (state i n)
+        by_leaf x i n l r e p j (inl z) = all (state i n) (record { from = x; is = z; leads = record { part = i; is = r; back = leads n e p j refl } })
+        by_leaf x i n l r e p j (inr h) = still (state i n) (g.led x l h i n r e p j)
+
+        marked_now : (m j : ℕ) → Passed d m j → AliveAt b.marked m j
         marked_now m j p = ⊎_elim (turn_marked g.marks k (state j m)) (λ h. h.is) (turn_looked g.marks k a (state j m) p.inside p.looked)
 
         -- passed before, or one of the states that are passed now
-        passed_split : (m j : ℕ) → Passed b m j → Passed (board marked waiting stack top) m j ⊎ InWord w bits (state j m)
+        passed_split : (m j : ℕ) → Passed d m j → Passed b m j ⊎ InWord w bits (state j m)
         passed_split m j p = ⊎_elim (λ z. inr z) (λ h. inl (record { inside = p.inside; looked = h })) (turn_looked g.marks k a (state j m) p.inside p.looked)
 
         -- so what makes a part alive was passed before, or a state that is passed now touches it
-        split_led : (m after : ℕ) (p : Part) → Led (Passed b m) after p → Led (Passed (board marked waiting stack top) m) after p ⊎ ((j : ℕ) × InWord w bits (state j m) × Touches after p j)
+        split_led : (m after : ℕ) (p : Part) → Led (Passed d m) after p → Led (Passed b m) after p ⊎ ((j : ℕ) × InWord w bits (state j m) × Touches after p j)
         split_led m after leaf x = absurd x
-        split_led m after (test c) (x, y) = ⊎_elim (λ u. ⊎_elim (λ v. inl (u, v)) (λ v. inr (after, v, inr refl)) (passed_split m after y)) (λ u. inr (c, u, inl refl)) (passed_split m c x)
-        split_led m after (repeat c) (inl x) = ⊎_elim (λ u. inl (inl u)) (λ u. inr (after, u, inl refl)) (passed_split m after x)
-        split_led m after (repeat c) (inr x) = ⊎_elim (λ u. inl (inr u)) (λ u. inr (c, u, inr refl)) (passed_split m c x)
-        split_led m after (chain c d) x = ⊎_elim (λ u. inl u) (λ u. inr (c, u, refl)) (passed_split m c x)
-        split_led m after (either c d) (inl x) = ⊎_elim (λ u. inl (inl u)) (λ u. inr (c, u, inl refl)) (passed_split m c x)
-        split_led m after (either c d) (inr x) = ⊎_elim (λ u. inl (inr u)) (λ u. inr (d, u, inr refl)) (passed_split m d x)
+        split_led m after (test p) (x, y) = ⊎_elim (λ u. ⊎_elim (λ v. inl (u, v)) (λ v. inr (after, v, inr refl)) (passed_split m after y)) (λ u. inr (p, u, inl refl)) (passed_split m p x)
+        split_led m after (repeat p) (inl x) = ⊎_elim (λ u. inl (inl u)) (λ u. inr (after, u, inl refl)) (passed_split m after x)
+        split_led m after (repeat p) (inr x) = ⊎_elim (λ u. inl (inr u)) (λ u. inr (p, u, inr refl)) (passed_split m p x)
+        split_led m after (chain p q) x = ⊎_elim (λ u. inl u) (λ u. inr (p, u, refl)) (passed_split m p x)
+        split_led m after (either p q) (inl x) = ⊎_elim (λ u. inl (inl u)) (λ u. inr (p, u, inl refl)) (passed_split m p x)
+        split_led m after (either p q) (inr x) = ⊎_elim (λ u. inl (inr u)) (λ u. inr (q, u, inr refl)) (passed_split m q x)
 
-        by_part : (i m : ℕ) → i < L.parts → m < L.nodes → Led (Passed b m) (get_or L.next i 0) (part_of L.tree i)
-            → Led (Passed (board marked waiting stack top) m) (get_or L.next i 0) (part_of L.tree i)
-            ⊎ ((j : ℕ) × InWord w bits (state j m) × Touches (get_or L.next i 0) (part_of L.tree i) j) → Marked b.marked (state i m)
-        by_part i m r h x (inl y) = a.more (state i m) (g.turned i m r h y)
+        by_part : (i m : ℕ) → i < L.parts → m < L.nodes → Led (Passed d m) (get_or L.next i 0) (part_of L.tree i)
+            → Led (Passed b m) (get_or L.next i 0) (part_of L.tree i)
+            ⊎ ((j : ℕ) × InWord w bits (state j m) × Touches (get_or L.next i 0) (part_of L.tree i) j) → Marked d.marked (state i m)
+        by_part i m r h x (inl y) = still (state i m) (g.turned i m r h y)
         by_part i m r h x (inr (j, z, y)) =
             let q = f.graph.few_nodes in
             let u : m ≡ node_at (state j m) = sym (state_node j m (state j m) (omega arith) refl) in
             let v : j ≡ part_at (state j m) = sym (state_part j m (state j m) (omega arith) refl) in
-            a.all (state i m) (record {
+            all (state i m) (record {
               from = state j m;
               is = z;
               leads = record {
                 part = i;
                 is = r;
-                back = turns (subst (λ y. Led (AliveAt marked y) (get_or L.next i 0) (part_of L.tree i)) u
-                    (led_more f (Passed b m) (AliveAt marked m) (marked_now m) (get_or L.next i 0) (part_of L.tree i) x))
+                back = turns (subst (λ y. Led (AliveAt b.marked y) (get_or L.next i 0) (part_of L.tree i)) u
+                    (led_more f (Passed d m) (AliveAt b.marked m) (marked_now m) (get_or L.next i 0) (part_of L.tree i) x))
                     (subst (Touches (get_or L.next i 0) (part_of L.tree i)) v y) (ap (λ y. state i y) u);
               };
             })

@@ -1,20 +1,18 @@
 -- What the two answers ask of their lists: working slices that are long enough, and zero where they are read first. Assumes
 -- nothing.
 use Rattle.std.specs.Prelude.{length, List, ◌≡◌, ℕ, ◌*◌, ◌<◌, ◌≤◌}
-use Rattle.index.specs.Objects.{ListReady}
 use Rattle.index.specs.Subjects.{BySubject}
 use Rattle.index.specs.Triples.{PredicatesFit}
 use Rattle.meaning.specs.Limits.{max_core_nodes, max_pairs, seen_words, state_words}
 use Rattle.forward.specs.Own.{Inward}
 use Rattle.states.specs.Fits.{ListsFit}
 use Rattle.states.specs.Lists.{Lists}
-use Rattle.worklist.specs.Table.{Unmarked, mark}
+use Rattle.worklist.specs.Table.{Blank, Board, mark}
 
-pub record YesReady (L : Lists) (starts into alive waiting stack : List ℕ) : Type 0 where
+pub record YesReady (L : Lists) (board : Board) : Type 0 where
   pub fits : ListsFit L
   pub predicates : PredicatesFit L.triples L.edges
-  pub lists : ListReady L.nodes L.edges starts into
-  pub unmarked : Unmarked state_words alive waiting stack
+  pub blank : Blank state_words board
 
 -- Nothing is marked in the table of the states at named nodes.
 pub record Unseen (seen : List ℕ) : Type 0 where

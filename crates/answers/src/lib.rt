@@ -3,96 +3,78 @@
 
 ghost use Rattle.answers.specs.Ready.{PairsReady, YesReady};
 ghost use Rattle.reached.specs.Walked.{PairsAre};
-ghost use Rattle.states.specs.Lists.{lists};
+ghost use Rattle.states.specs.Lists.{lists_of};
 ghost use Rattle.states.specs.Living.{Yes};
+ghost use Rattle.worklist.specs.Table.{board_of};
 
 use alive::{mark_alive, some_alive};
+use forward::Named;
 use forward::own::own_by_subject;
 use index::objects::list_by_object;
-use reached::pairs::{Pairs, list_pairs};
-use states::Sizes;
+use meaning::{MAX_NODES, MAX_TRIPLES};
+use reached::pairs::{TooMany, list_pairs};
+use states::Lists;
+use worklist::Board;
 
 // Whether the query joins some two nodes.
-pub fn some_joined(
-    sizes: Sizes,
-    triples: &[u16],
-    tree: &[u32],
-    next: &[u16],
-    wanted: &[u16],
-    starts: &mut [u16],
-    into: &mut [u16],
-    alive: &mut [u64],
-    waiting: &mut [u64],
-    stack: &mut [u16],
-) -> bool
-    requires { YesReady (lists sizes triples.now tree.now next.now wanted.now) starts.old into.old alive.old waiting.old stack.old }
-    ensures { Yes result (lists sizes triples.now tree.now next.now wanted.now) }
+pub fn some_joined(lists: &Lists, board: &mut Board) -> bool
+    requires { YesReady (lists_of lists.now) (board_of board.old) }
+    ensures { Yes result (lists_of lists.now) }
 {
-    list_by_object(triples, sizes.nodes, sizes.edges, starts, into);
-    mark_alive(
-        sizes,
-        triples,
-        &starts[..],
-        &into[..],
-        tree,
-        next,
-        wanted,
-        alive,
-        waiting,
-        stack,
+    let mut starts = [0u16; MAX_NODES + 2];
+    let mut into = [0u16; MAX_TRIPLES];
+    let sizes = lists.sizes;
+    list_by_object(
+        lists.triples,
+        sizes.nodes,
+        sizes.edges,
+        &mut starts,
+        &mut into,
     );
-    some_alive(sizes.nodes, sizes.parts, &alive[..])
+    mark_alive(lists, &starts[..], &into[..], board);
+    let alive = &*board.marked;
+    some_alive(sizes.nodes, sizes.parts, alive)
 }
 
-// Lists the pairs of named nodes, which are the first ones, that the query joins. The list by object is of use no longer when
-// the walks begin, and its room is that of the triples between named nodes.
+// Lists the pairs of named nodes, which are the first ones, that the query joins, and answers how many they are. Which states are
+// alive is found on the board; then its room for what waits is that of the walks. The list by object is of use no longer when
+// these begin, and its room is that of the triples between named nodes.
 pub fn joined_pairs(
-    sizes: Sizes,
+    lists: &Lists,
     named: usize,
-    triples: &[u16],
     index: &[u16],
-    tree: &[u32],
-    next: &[u16],
-    wanted: &[u16],
-    starts: &mut [u16],
-    into: &mut [u16],
-    alive: &mut [u64],
-    waiting: &mut [u64],
-    stack: &mut [u16],
+    board: &mut Board,
     seen: &mut [u64],
     pairs: &mut [u32],
-) -> Pairs
-    requires { YesReady (lists sizes triples.now tree.now next.now wanted.now) starts.old into.old alive.old waiting.old stack.old
-        × PairsReady (lists sizes triples.now tree.now next.now wanted.now) named index.now seen.old pairs.old }
-    ensures { PairsAre result (lists sizes triples.now tree.now next.now wanted.now) named pairs.new }
+) -> Result<usize, TooMany>
+    requires { YesReady (lists_of lists.now) (board_of board.old)
+        × PairsReady (lists_of lists.now) named index.now seen.old pairs.old }
+    ensures { PairsAre result (lists_of lists.now) named pairs.new }
 {
-    list_by_object(triples, sizes.nodes, sizes.edges, starts, into);
-    mark_alive(
-        sizes,
-        triples,
-        &starts[..],
-        &into[..],
-        tree,
-        next,
-        wanted,
-        alive,
-        waiting,
-        stack,
+    let mut starts = [0u16; MAX_NODES + 2];
+    let mut into = [0u16; MAX_TRIPLES];
+    let sizes = lists.sizes;
+    list_by_object(
+        lists.triples,
+        sizes.nodes,
+        sizes.edges,
+        &mut starts,
+        &mut into,
     );
-    own_by_subject(triples, index, named, into);
-    list_pairs(
-        sizes,
-        named,
-        triples,
-        &into[..],
+    mark_alive(lists, &starts[..], &into[..], board);
+    own_by_subject(lists.triples, index, named, &mut into);
+    let alive = &mut *board.marked;
+    let named = Named {
+        count: named,
+        own: &into[..],
         index,
-        tree,
-        next,
-        wanted,
-        &alive[..],
-        seen,
-        waiting,
-        stack,
-        pairs,
-    )
+        alive: &alive[..],
+    };
+    let mut walked = Board {
+        marked: seen,
+        waiting: &mut *board.waiting,
+        stack: &mut *board.stack,
+        top: board.top,
+    };
+    list_pairs(lists, &named, &mut walked, pairs)
 }

@@ -5,11 +5,12 @@ ghost use Rattle.build.specs.Answer.{BuildAnswers};
 ghost use Rattle.calls.specs.Call.{lent};
 
 use calls::long_enough;
-use construct::{Constructed, construct, refused};
+use construct::construct;
+use graph::Size;
+use meaning::refusal::Refusal;
 use meaning::{
     HEADS_LENGTH, INDEX_LENGTH, NODE_LIST_LENGTH, ROWS_LENGTH, SETTING_LENGTH, TRIPLE_LIST_LENGTH,
 };
-use sets::buffers::{clear_u16, clear_u64};
 
 // What each list and buffer must hold at least, in the order in which they are lent.
 const LEAST_LENGTHS: [usize; 5] = [
@@ -29,7 +30,7 @@ pub fn build(
     index: &mut [u16],
     rows: &mut [u16],
     heads: &mut [u64],
-) -> Constructed
+) -> Result<Size, Refusal>
     ensures { BuildAnswers pack.now result (lent nodes) (lent triples) (lent index) (lent rows) (lent heads) }
 {
     let asked = LEAST_LENGTHS;
@@ -41,12 +42,11 @@ pub fn build(
         heads.len(),
     ];
     if !long_enough(&asked, &lengths) {
-        return refused(1);
+        return Err(Refusal::ShortBuffer);
     }
     let mut numbers = [0u16; SETTING_LENGTH];
     let made = construct(pack, &mut numbers, nodes, triples, index, rows, heads);
-    let answer = made.graph;
-    clear_u16(rows);
-    clear_u64(heads);
-    answer
+    rows.fill(0);
+    heads.fill(0);
+    Ok(made?.size)
 }

@@ -4,27 +4,14 @@ ghost use Rattle.std.specs.Prelude.{length, ◌≤◌};
 // What every entry of a list or buffer holds before a call.
 pub const FILLED: u8 = 165;
 
-pub fn all_u16(x: u16, list: &[u16]) -> bool {
-    for i in 0..list.len() {
-        if list[i] != x {
-            return false;
-        }
-    }
-    true
-}
-
-fn all_u64(x: u64, list: &[u64]) -> bool {
-    for i in 0..list.len() {
-        if list[i] != x {
-            return false;
-        }
-    }
-    true
+// Whether every entry of a list is x.
+pub fn all<T: Drop + PartialEq>(x: T, list: &[T]) -> bool {
+    list.iter().all(|y| *y == x)
 }
 
 // Whether the buffers that build works in hold x alone.
 pub fn build_buffers_are(x: u8, rows: &[u16], heads: &[u64]) -> bool {
-    all_u16(x as u16, rows) && all_u64(x as u64, heads)
+    all(x as u16, rows) && all(x as u64, heads)
 }
 
 // Whether the buffers that yes/no works in hold x alone.
@@ -37,9 +24,9 @@ pub fn yes_no_buffers_are(
     stack: &[u16],
 ) -> bool {
     build_buffers_are(x, rows, heads)
-        && all_u64(x as u64, alive)
-        && all_u64(x as u64, waiting)
-        && all_u16(x as u16, stack)
+        && all(x as u64, alive)
+        && all(x as u64, waiting)
+        && all(x as u16, stack)
 }
 
 // Whether the buffers that pairs works in hold x alone.
@@ -56,10 +43,10 @@ pub fn pairs_buffers_are(
     own_index: &[u16],
 ) -> bool {
     yes_no_buffers_are(x, rows, heads, alive, waiting, stack)
-        && all_u64(x as u64, seen)
-        && all_u16(x as u16, own_nodes)
-        && all_u16(x as u16, own_triples)
-        && all_u16(x as u16, own_index)
+        && all(x as u64, seen)
+        && all(x as u16, own_nodes)
+        && all(x as u16, own_triples)
+        && all(x as u16, own_index)
 }
 
 // A count, so small that a multiple of it is a number too.

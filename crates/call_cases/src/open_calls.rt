@@ -3,10 +3,11 @@ ghost use Rattle.std.specs.Prelude.{◌≤◌};
 
 use crate::held::{FILLED, build_buffers_are, pairs_buffers_are, yes_no_buffers_are};
 use crate::outcome::{
-    say_buffers, say_clash, say_graph, say_pairs, say_pairs_kept, say_small_graph,
+    say_buffers, say_clash, say_graph, say_list, say_pairs_kept, say_small_graph,
 };
 use crate::say::say_whether;
 use build::build;
+use meaning::refusal::Refusal;
 use meaning::{
     HEADS_LENGTH, INDEX_LENGTH, NODE_LIST_LENGTH, PAIR_LIST_LENGTH, ROWS_LENGTH, SEEN_WORDS,
     STATE_WORDS, TRIPLE_LIST_LENGTH,
@@ -53,16 +54,15 @@ fn call_build(
     rows: &mut [u16],
     heads: &mut [u64],
 ) {
-    let r = build(pack, nodes, triples, index, rows, heads);
-    let clash = r.clash;
+    let graph = build(pack, nodes, triples, index, rows, heads);
     io::write_all(1, b"build:");
-    say_graph(r.refusal, nodes, r.nodes, triples, r.triples, index);
+    say_graph(graph, nodes, triples, index);
     say_buffers(
         build_buffers_are(0, rows, heads),
         build_buffers_are(FILLED, rows, heads),
     );
-    say_clash(r.refusal, clash);
-    say_small_graph(nodes, r.nodes, triples, r.triples, index);
+    say_clash(graph);
+    say_small_graph(graph, nodes, triples, index);
     io::write_all(1, b"\n");
 }
 
@@ -89,7 +89,7 @@ pub fn ask_build(pack: &[u8], lending: u8) {
 
 // What is written of yes/no that left these lists and buffers.
 fn say_yes_no(
-    answer: YesNo,
+    answer: Result<YesNo, Refusal>,
     nodes: &[u16],
     triples: &[u16],
     index: &[u16],
@@ -99,25 +99,17 @@ fn say_yes_no(
     waiting: &[u64],
     stack: &[u16],
 ) {
-    let graph = answer.graph;
-    let clash = graph.clash;
+    let graph = answer.map(|a| a.size);
     io::write_all(1, b"yes/no:");
-    if graph.refusal == 0 {
-        say_whether(answer.yes, b" yes,", b" no,");
+    if let Ok(a) = answer {
+        say_whether(a.yes, b" yes,", b" no,");
     }
-    say_graph(
-        graph.refusal,
-        nodes,
-        graph.nodes,
-        triples,
-        graph.triples,
-        index,
-    );
+    say_graph(graph, nodes, triples, index);
     say_buffers(
         yes_no_buffers_are(0, rows, heads, alive, waiting, stack),
         yes_no_buffers_are(FILLED, rows, heads, alive, waiting, stack),
     );
-    say_clash(graph.refusal, clash);
+    say_clash(graph);
     io::write_all(1, b"\n");
 }
 
@@ -175,7 +167,7 @@ pub fn ask_yes_no(pack: &[u8], query: &[u8], lending: u8) {
 
 // What is written of pairs that left these lists and buffers.
 fn say_pairs_call(
-    answer: PairAnswer,
+    answer: Result<PairAnswer, Refusal>,
     nodes: &[u16],
     triples: &[u16],
     index: &[u16],
@@ -190,18 +182,10 @@ fn say_pairs_call(
     own_triples: &[u16],
     own_index: &[u16],
 ) {
-    let graph = answer.graph;
-    let clash = graph.clash;
-    let count = answer.pairs;
+    let graph = answer.map(|a| a.size);
+    let count = answer.map_or(0, |a| a.pairs);
     io::write_all(1, b"pairs:");
-    say_graph(
-        graph.refusal,
-        nodes,
-        graph.nodes,
-        triples,
-        graph.triples,
-        index,
-    );
+    say_graph(graph, nodes, triples, index);
     say_pairs_kept(list, count);
     say_buffers(
         pairs_buffers_are(
@@ -229,8 +213,10 @@ fn say_pairs_call(
             own_index,
         ),
     );
-    say_clash(graph.refusal, clash);
-    say_pairs(graph.refusal, list, count);
+    say_clash(graph);
+    if answer.is_ok() {
+        say_list(list, count);
+    }
     io::write_all(1, b"\n");
 }
 

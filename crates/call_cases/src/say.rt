@@ -27,12 +27,12 @@ pub fn say_whether(holds: bool, good: &[u8], bad: &[u8]) {
 pub fn say_records(key: &[u8], list: &[u16], width: usize)
     requires { 0 < width }
 {
-    for i in 0..list.len() {
+    for (i, n) in list.iter().enumerate() {
         if i % width == 0 {
             io::write_all(1, b"\n");
             io::write_all(1, key);
         }
-        say_number(list[i]);
+        say_number(*n);
     }
 }
 
@@ -43,11 +43,7 @@ fn digested(d: u32, x: u16) -> u32 {
 
 // A number by which lists are compared.
 fn digest(list: &[u16]) -> u32 {
-    let mut d = 0;
-    for i in 0..list.len() {
-        d = digested(d, list[i]);
-    }
-    d
+    list.iter().fold(0, |d, x| digested(d, *x))
 }
 
 pub fn say_digest(list: &[u16]) {

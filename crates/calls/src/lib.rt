@@ -9,10 +9,5 @@ pub fn long_enough(asked: &[usize], lent: &[usize]) -> bool
     requires { length asked.now ≡ length lent.now }
     ensures { T result ↔ Each₂ ◌≤◌ asked.now lent.now }
 {
-    for i in 0..asked.len() {
-        if lent[i] < asked[i] {
-            return false;
-        }
-    }
-    true
+    asked.iter().zip(lent).all(|(least, have)| least <= have)
 }

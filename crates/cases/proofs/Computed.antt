@@ -35,13 +35,14 @@ use Rattle.cases.specs.Says.{
 }
 use Rattle.cases.proofs.SubjectIndex.{index_computed, index_of}
 use Rattle.construct.proofs.Accepted.{accepted_formed, none_obey, some_obeys}
-use Rattle.construct.specs.Outcome.{Gives, Refuses, counted, mixed_kinds, not_accepted, refused_as, two_objects}
-use Rattle.construct.specs.declared.Constructed.{Constructed}
+use Rattle.construct.proofs.Refused.{same_refusal}
+use Rattle.construct.specs.Outcome.{GivesGraph, Refuses, mixed_kinds, not_accepted, two_objects}
 use Rattle.grammar.proofs.Agree.{reading}
 use Rattle.grammar.specs.Grammar.{IsQuery}
 use Rattle.grammar.specs.Parse.{expression_of}
 use Rattle.graph.specs.Fronts.{GraphListed}
-use Rattle.iris.specs.Read.{iri_read}
+use Rattle.graph.specs.declared.Size.{Size}
+use Rattle.iris.specs.Read.{iri_read, term}
 use Rattle.meaning.proofs.Computed.Certain.{graph_there, pair_records, pairs_listed, walk_built, yes_computed_certain}
 use Rattle.meaning.proofs.Computed.Evaluate.{answers_yes}
 use Rattle.meaning.proofs.Lists.Members.{both}
@@ -60,6 +61,10 @@ use Rattle.meaning.specs.Pack.{Pack, Text}
 use Rattle.meaning.specs.Query.{Expr}
 use Rattle.pack.specs.Checked.{Checked, accepted, first_refusal, well_formed, refused as stopped}
 use Rattle.pairs.specs.Answer as Pairs
+use Rattle.std.specs.Prelude.{None, Some, Err}
+use Rattle.meaning.specs.Refusals.{refusal_of}
+use Rattle.meaning.specs.declared.refusal.Refusal.TheVariants.{MixedKinds, NoExpression}
+use Rattle.meaning.specs.declared.refusal.Refusal.{Refusal}
 use Rattle.prepare.specs.Prepared as Prepared
 use Rattle.query.specs.Answer.{Refusal2}
 use Rattle.readback.proofs.FromRead.{found_answer}
@@ -112,7 +117,7 @@ module _ (s : Text) (P : Pack) (is : first_refusal s ≡ accepted P) where
   distinct = plain_distinct P formed.distinct formed.prefix_free formed.named
 
   module _ (small : T (small_core P)) where
-    ten : (d : Clash) → first_clash P ≡ some d → Refuses s (shown_clash P d)
+    ten : (d : Clash) → first_clash P ≡ some d → Refuses {A = Size} s (Err (shown_clash P d))
     ten d e = two_objects P is (not_large P wf small) (none_obey formed (inl x.clash)) _ _ _ _ given refl
       where
         x : Shown P d
@@ -131,7 +136,7 @@ module _ (s : Text) (P : Pack) (is : first_refusal s ≡ accepted P) where
           second_is = recorded x.second_is;
         }
 
-    eleven : first_clash P ≡ none → T (mixed_kinds? P) → Refuses s (refused_as 11)
+    eleven : first_clash P ≡ none → T (mixed_kinds? P) → Refuses {A = Size} s (Err MixedKinds)
     eleven not_10 t =
         let m = (mixed_iff P wf).0 t in
         mixed_kinds P is (not_large P wf small) (none_obey formed (inr m)) (subst (Shows P) not_10 (first_shown P wf)) m refl
@@ -147,8 +152,8 @@ record Passes (s : Text) (P : Pack) : Type 0 where
   few_triples : length (triple_records P) ≤ max_triples
 
 module _ (s : Text) (P : Pack) (x : Passes s P) where
-  abbrev answered : Constructed
-  answered = counted (length (node_records P)) (length (triple_records P))
+  abbrev size : Size
+  size = record { nodes = length (node_records P); triples = length (triple_records P) }
 
   abbrev entries : List (List ℕ)
   entries = index_of (length (node_records P)) (triple_records P)
@@ -169,7 +174,7 @@ module _ (s : Text) (P : Pack) (x : Passes s P) where
     triples_are = refl;
   }
 
-  abbrev the_graph : Gives s answered fronts
+  abbrev the_graph : GivesGraph s size fronts
   the_graph = record {
     of = P;
     has = record {
@@ -178,11 +183,10 @@ module _ (s : Text) (P : Pack) (x : Passes s P) where
       obeyed = some_obeys (formed s P x.is) (graph_there (plain P) (plain? P) P (formed s P x.is).named (distinct s P x.is) x.not_10 x.not_11);
       graph = record { nodes = _; triples = _; listed = in_lists; entries = entries; indexed = index_computed in_lists; fronts_are = refl };
     };
-    counts = refl;
   }
 
   module _ (q : Text) (e : Expr) (reads : IsQuery q e) where
-    abbrev prepared : Prepared.Gives s q answered fronts
+    abbrev prepared : Prepared.Gives s q size fronts
     prepared = record { expression = e; is = reads; graph = the_graph }
 
     abbrev is_yes : Bool
@@ -199,7 +203,7 @@ module _ (s : Text) (P : Pack) (x : Passes s P) where
 
     says_answer : length pairs ≤ max_pairs → Says s (ask q) (answer is_yes pairs)
     says_answer few =
-        ask_gives {y = record { graph = answered; yes = is_yes }} {p = record { graph = answered; pairs = length pairs }}
+        ask_gives {y = record { size = size; yes = is_yes }} {p = record { size = size; pairs = length pairs }}
         (record { asked = prepared; answer = yes_computed_certain (plain P) (plain? P) P (formed s P x.is).named (distinct s P x.is) x.not_10 x.not_11 e }) refl
         (record {
           graph_fronts = fronts;
@@ -214,15 +218,15 @@ module _ (s : Text) (P : Pack) (x : Passes s P) where
 -- ---- the tests before a graph is given, for any call that gives one
 
 abbrev Refused : Text → Call → Type 0
-Refused s c = (r : Constructed) → Refuses s r → Says s c (refuses r)
+Refused s c = (e : Refusal) → Refuses {A = Size} s (Err e) → Says s c (refuses e)
 
 module _ (s : Text) (c : Call) (says : Refused s c) where
   with_graph_lem : (f : Pack → Option Outcome) → ((P : Pack) → Passes s P → Right s c (f P)) → Right s c (graph_of s f)
   with_graph_lem f gives =
-      on_pack_lem s c refuses_as (first_refusal s) (with_graph f) (λ k e. says (refused_as k) (not_accepted k e refl)) λ P is.
+      on_pack_lem s c refuses_as (first_refusal s) (with_graph f) (λ k e. says (refusal_of k) (not_accepted k e refl)) λ P is.
       only_if_lem s c (small_core P) _ λ small.
       on_clash s c P (first_clash P) _ (λ d e. says (shown_clash P d) (ten s P is small d e)) λ not_10.
-      on_test s c (mixed_kinds? P) 11 _ (λ t. says (refused_as 11) (eleven s P is small not_10 t)) λ not_11.
+      on_test s c (mixed_kinds? P) 11 _ (λ t. says MixedKinds (eleven s P is small not_10 t)) λ not_11.
       only_if_lem s c (short_lists (node_records P) (triple_records P)) _ λ short.
       let b = (both (leb (length (node_records P)) max_nodes) (leb (length (triple_records P)) max_triples)).0 short in
       gives P (record { is = is; small = small; not_10 = not_10; not_11 = not_11; few_nodes = leb→le _ _ b.0; few_triples = leb→le _ _ b.1 })
@@ -230,21 +234,19 @@ module _ (s : Text) (c : Call) (says : Refused s c) where
 -- ---- the calls
 
 build_right : (s : Text) → Right s build (run build s)
-build_right s = with_graph_lem s build (λ r x. build_refused x) listed λ P x. build_gives (the_graph s P x) refl refl refl
+build_right s = with_graph_lem s build (λ e x. build_refused x) listed λ P x. build_gives (the_graph s P x) refl refl refl
 
 ask_right : (q s : Text) → Right s (ask q) (run (ask q) s)
 ask_right q s = go (expression_of q) refl
   where
-    both_refuse : (r : Constructed) → Prepared.Refuses s q r → Says s (ask q) (refuses r)
-    both_refuse r x =
-        ask_refused {y = record { graph = r; yes = false }} {p = record { graph = r; pairs = 0 }}
-        (record { cause = x; says_no = refl }) refl (Pairs.before_12 x refl) refl
+    no_query : Refusal2 q → Says s (ask q) (refuses NoExpression)
+    no_query n = ask_refused (Prepared.no_query n refl) (Pairs.before_12 (Prepared.no_query n refl))
 
     no_expression : expression_of q ≡ none → Refusal2 q
     no_expression n e x = let p = (reading q e).0 x in let z : ◌≡◌ {A = ℕ} 0 1 = cc in omega arith
 
     go : (o : Option Expr) → expression_of q ≡ o → Right s (ask q) (on_query o (λ e. graph_of s (asked e)))
-    go none n = both_refuse (refused_as 2) (Prepared.no_query (no_expression n) refl)
+    go none n = no_query (no_expression n)
     go (some e) h =
         with_graph_lem s (ask q) pack_refused (asked e) λ P x.
         only_if_lem s (ask q) (leb (length (pair_records (plain P) (plain? P) P e)) max_pairs) _ λ t. says_answer s P x q e reads (leb→le _ _ t)
@@ -253,15 +255,15 @@ ask_right q s = go (expression_of q) refl
         reads = (reading q e).1 h
 
         pack_refused : Refused s (ask q)
-        pack_refused r x = both_refuse r (Prepared.no_graph e reads x)
+        pack_refused r x = ask_refused (Prepared.no_graph e reads (same_refusal x)) (Pairs.before_12 (Prepared.no_graph e reads (same_refusal x)))
 
 read_right : (t s : Text) → Right s (read t) (run (read t) s)
 unfolding iri_read
-read_right t s = on_pack_lem s (read t) refused (well_formed s) _ (λ k e. read_refused (not_well_formed k e refl)) λ P w. go P w (read_back P t) refl
+read_right t s = on_pack_lem s (read t) refuses_as (well_formed s) _ (λ k e. read_refused (not_well_formed k e refl)) λ P w. go P w (read_back P t) refl
   where
     go : (P : Pack) → well_formed s ≡ accepted P → (o : Option (ℕ × List ℕ)) → read_back P t ≡ o → Right s (read t) (on_term o)
-    go P w none e = read_refused (found_answer s t P w (iri_read none) _ (ap iri_read (sym e)) refl)
-    go P w (some v) e = read_gives (found_answer s t P w (iri_read (some v)) _ (ap iri_read (sym e)) refl)
+    go P w none e = read_refused (found_answer s t P w None (ap iri_read (sym e)) refl)
+    go P w (some v) e = read_gives (found_answer s t P w (Some (term v.0 v.1)) (ap iri_read (sym e)) refl)
 
 -- Every outcome that is computed is so.
 run_right : (c : Call) (s : Text) → Right s c (run c s)

@@ -1,10 +1,7 @@
 -- A call on a pack has one outcome: of two cases of the same call on the same pack, only one outcome is so. Assumes nothing.
 use Rattle.pack.proofs.Order.{not_both, one_number, one_pack}
-use mathlib.Core.List.{List, ◌∷◌}
+use mathlib.Core.List.{◌∷◌}
 use mathlib.Core.Path.{◌≡◌, refl, sym, ap, ◌∙◌}
-use native.Mathlib.Omega.{arith}
-use Prim.Native.Nat.{ℕ}
-use Rattle.pack.proofs.Accepted.{well_formed_lem, zero_accepted}
 use Rattle.cases.specs.Says.{
   Call,
   Outcome,
@@ -26,36 +23,25 @@ use Rattle.cases.specs.Says.{
   term,
 }
 use Rattle.construct.proofs.Once.{not_given, one_index, one_records, one_refusal}
-use Rattle.meaning.proofs.Lists.Places.{inside}
-use Rattle.meaning.specs.Limits.{unused}
+use Rattle.construct.proofs.Refused.{no_error}
+use Rattle.iris.specs.declared.iri.Term.{Term}
 use Rattle.meaning.specs.Pack.{Text}
-use Rattle.pack.proofs.Unpacking.{unpacked}
-use Rattle.pack.specs.Checked.{number_of}
+use Rattle.meaning.specs.declared.refusal.Refusal.{Refusal}
 use Rattle.pairs.proofs.Once.{one_list}
 use Rattle.readback.proofs.Once.{answers_once}
-use Rattle.readback.specs.Answer.{ReadBackAnswers, iri as reads, no_iri, not_well_formed, unread_as}
-use Rattle.readback.specs.declared.ReadBack.{ReadBack}
 use Rattle.spelling.specs.Iri.{iri_of}
+use Rattle.std.specs.Prelude.{Result, Ok, Err}
 use Rattle.yes_no.proofs.Once as yes_no
 use Rattle.yes_no.specs.declared.YesNo.{YesNo}
 
--- ---- read-back: a refusal's number is not 0
+-- ---- what equal results say
 
-not_zero : {pack t : Text} {c : ℕ} {values : List ℕ} → c ≡ unused → ReadBackAnswers pack t (record { refusal = 0; constructor = c; values = values }) → ⊥
-not_zero {pack} u (not_well_formed k w e) =
-    let z : 0 ≡ k = ap (λ (x : ReadBack). x.refusal) e in
-    let (P, a) = zero_accepted pack (z ∙ sym (ap number_of w)) in
-    not_both w a
-not_zero u (no_iri P w n e) = let z : ◌≡◌ {A = ℕ} 0 13 = ap (λ (x : ReadBack). x.refusal) e in omega arith
-not_zero {pack} {c = c} u (reads P d vs w b e) =
-    let z : c ≡ d = ap (λ (x : ReadBack). x.constructor) e in
-    let few = (unpacked pack P (well_formed_lem pack P w).read).constructors.1 in
-    let l = inside P.setting.constructors d b.term.constructor b.term.listed in
-    omega arith
+module _ {A : Type 0} where
+  same_error : {e f : Refusal} → ◌≡◌ {A = Result A Refusal} (Err e) (Err f) → e ≡ f
+  same_error q = cc
 
-refused_or_read : {X : Type 0} {pack t : Text} {k c : ℕ} {values : List ℕ} → ReadBackAnswers pack t (unread_as k)
-    → ReadBackAnswers pack t (record { refusal = 0; constructor = c; values = values }) → X
-refused_or_read x y = absurd (not_zero (ap (λ (r : ReadBack). r.constructor) (answers_once y x)) y)
+  same_value : {x y : A} → ◌≡◌ {A = Result A Refusal} (Ok x) (Ok y) → x ≡ y
+  same_value q = cc
 
 -- ---- one outcome
 
@@ -64,7 +50,7 @@ says_once (is_refused e) (is_refused f) = ap refused (one_number e f)
 says_once (is_refused e) (is_fine f) = not_both e f
 says_once (is_fine e) (is_refused f) = not_both f e
 says_once (is_fine e) (is_fine f) = refl
-says_once (build_refused x) (build_refused y) = ap refuses (one_refusal x y)
+says_once (build_refused x) (build_refused y) = ap refuses (same_error (one_refusal x y))
 says_once (build_refused x) (build_gives G n t e) = absurd (not_given x G)
 says_once (build_gives G n t e) (build_refused y) = absurd (not_given y G)
 says_once (build_gives G n t e) (build_gives H m u f) =
@@ -73,15 +59,15 @@ says_once (build_gives G n t e) (build_gives H m u f) =
     let ts = sym t ∙ l.1 ∙ u in
     let es = sym e ∙ one_index G H ∙ f in
     λ i. graph (ns i) (ts i) (es i)
-says_once (ask_refused {q} x e z d) (ask_refused y f w c) = ap refuses (sym e ∙ ap (λ (a : YesNo). a.graph) ((yes_no.fixed _ q).one_refusal x y) ∙ f)
-says_once (ask_refused {q} x e z d) (ask_gives Y f H u) = absurd ((yes_no.fixed _ q).not_both x Y)
-says_once (ask_gives {q} X e G t) (ask_refused y f w c) = absurd ((yes_no.fixed _ q).not_both y X)
-says_once (ask_gives {q} X e G t) (ask_gives Y f H u) =
-    let b = sym e ∙ ap (λ (a : YesNo). a.yes) ((yes_no.fixed _ q).one_result X Y).0 ∙ f in
+says_once (ask_refused {q} x z) (ask_refused y w) = ap refuses (same_error ((yes_no.fixed _ q).one_refusal x y))
+says_once (ask_refused {q} x z) (ask_gives {y} Y f H u) = absurd ((yes_no.fixed _ q).not_both {s = Ok y} x Y)
+says_once (ask_gives {q} {y} X e G t) (ask_refused x w) = absurd ((yes_no.fixed _ q).not_both {s = Ok y} x X)
+says_once (ask_gives {q} {y = r} X e G t) (ask_gives {y = s} Y f H u) =
+    let b = sym e ∙ ap (λ (a : YesNo). a.yes) (same_value ((yes_no.fixed _ q).one_result {r = Ok r} {s = Ok s} X Y).0) ∙ f in
     let ps = sym t ∙ one_list G H ∙ u in
     λ i. answer (b i) (ps i)
-says_once (read_refused x) (read_refused y) = ap (λ (r : ReadBack). refused r.refusal) (answers_once x y)
-says_once (read_refused x) (read_gives y) = refused_or_read x y
-says_once (read_gives x) (read_refused y) = refused_or_read y x
-says_once (read_gives x) (read_gives y) = ap (λ (r : ReadBack). term (r.constructor ∷ r.values)) (answers_once x y)
+says_once (read_refused x) (read_refused y) = ap refuses (same_error (answers_once x y))
+says_once (read_refused x) (read_gives y) = no_error (answers_once y x)
+says_once (read_gives x) (read_refused y) = no_error (answers_once x y)
+says_once (read_gives x) (read_gives y) = ap (λ (r : Term). term (r.constructor ∷ r.values)) (same_value (answers_once x y))
 says_once (spelled {c} {values} w i e) (spelled v j f) = ap iri (sym e ∙ ap (λ P. iri_of P c values) (one_pack w v) ∙ f)

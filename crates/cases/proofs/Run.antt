@@ -3,13 +3,11 @@
 use lib.Dec.{eqb, leb, ltb}
 use lib.ListN.{get_elem?, length}
 use mathlib.Core.Bool.{Bool, true, false, ◌&&◌}
-use mathlib.Core.List.{List}
+use mathlib.Core.List.{List, [], ◌∷◌, ◌++◌}
 use mathlib.Core.Option.{Option, none, some}
 use Prim.Native.Nat.{ℕ}
 use Rattle.cases.proofs.SubjectIndex.{index_of}
 use Rattle.cases.specs.Says.{Call, Outcome, answer, ask, build, check, fine, graph, iri, read, refused, refuses, spell, term}
-use Rattle.construct.specs.Outcome.{clashing, refused_as}
-use Rattle.construct.specs.declared.Constructed.{Constructed}
 use Rattle.grammar.specs.Parse.{expression_of}
 use Rattle.meaning.proofs.Computed.Certain.{pair_records, walk_built}
 use Rattle.meaning.proofs.Computed.Evaluate.{answers_yes}
@@ -22,6 +20,9 @@ use Rattle.meaning.specs.Built.{core}
 use Rattle.meaning.specs.Limits.{max_core_triples, max_iris, max_nodes, max_pairs, max_triples}
 use Rattle.meaning.specs.Pack.{Constructor, Pack, Text}
 use Rattle.meaning.specs.Query.{Expr}
+use Rattle.meaning.specs.Refusals.{refusal_of}
+use Rattle.meaning.specs.declared.refusal.Refusal.TheVariants.{Clash as ClashOf, NoIri}
+use Rattle.meaning.specs.declared.refusal.Refusal.{Refusal}
 use Rattle.meaning.specs.Tests.{every, there_and}
 use Rattle.pack.specs.Checked.{Checked, accepted, first_refusal, well_formed, refused as stopped}
 use Rattle.spelling.proofs.CoreTerms.{plain?}
@@ -56,11 +57,15 @@ only_if true o = o
 only_if false o = none
 
 abbrev pub refuses_as : ℕ → Outcome
-refuses_as k = refuses (refused_as k)
+refuses_as k = refuses (refusal_of k)
 
--- 10 with the clash by the core's own records
-abbrev pub shown_clash : Pack → Clash → Constructed
-shown_clash P c = clashing (node_numbers P (core c.subject)) c.predicate (node_numbers P (core c.first)) (node_numbers P (core c.second))
+-- 10 with a clash
+abbrev pub with_clash : List ℕ → ℕ → List ℕ → List ℕ → Refusal
+with_clash subject predicate first second = ClashOf (subject ++ (predicate ∷ []) ++ first ++ second)
+
+-- with the clash by the core's own records
+abbrev pub shown_clash : Pack → Clash → Refusal
+shown_clash P c = with_clash (node_numbers P (core c.subject)) c.predicate (node_numbers P (core c.first)) (node_numbers P (core c.second))
 
 abbrev pub unless_clash : Pack → Option Clash → Option Outcome → Option Outcome
 unless_clash P none o = o
@@ -95,7 +100,7 @@ on_query none f = some (refuses_as 2)
 on_query (some e) f = f e
 
 abbrev pub on_term : Option (ℕ × List ℕ) → Option Outcome
-on_term none = some (refused 13)
+on_term none = some (refuses NoIri)
 on_term (some t) = some (term (numbers t.0 t.1))
 
 -- ---- the calls
@@ -104,5 +109,5 @@ abbrev pub run : Call → Text → Option Outcome
 run check s = on_pack refused (first_refusal s) (λ P. some fine)
 run build s = graph_of s listed
 run (ask q) s = on_query (expression_of q) (λ e. graph_of s (asked e))
-run (read t) s = on_pack refused (well_formed s) (λ P. on_term (read_back P t))
+run (read t) s = on_pack refuses_as (well_formed s) (λ P. on_term (read_back P t))
 run (spell c values) s = of_pack (well_formed s) (λ P. only_if (is_term P c values) (some (iri (iri_of P c values))))

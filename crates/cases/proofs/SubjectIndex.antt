@@ -31,9 +31,12 @@ end_from zero triples edges m k = k
 end_from (suc fuel) triples edges m k = onward (ltb k edges) (eqb (subject_at triples k) m) (end_from fuel triples edges m (k + 1)) k
 
 module _ {triples : List ℕ} {edges m k : ℕ} (up : SubjectsRise triples edges) (s : SubjectsSplit triples edges m k) where
+  at_end : {end : ℕ} → Ending triples edges m k end → edges ≤ end → (k ≤ end) × SubjectsSplit triples edges (m + 1) end
+  at_end {end} x l = let e : end ≡ edges = omega (arith, x.inside) in rw e (end_last x s l)
+
   ends : (fuel end : ℕ) → Ending triples edges m k end → edges ≤ end + fuel
       → (k ≤ end_from fuel triples edges m end) × SubjectsSplit triples edges (m + 1) (end_from fuel triples edges m end)
-  ends zero end x l = end_last x s (omega arith)
+  ends zero end x l = at_end x (omega arith)
   ends (suc fuel) end x l = go (λ y. ends fuel (end + 1) y (omega arith)) (ltb end edges) (eqb (subject_at triples end) m) refl refl
     where
       go : (Ending triples edges m k (end + 1) → (k ≤ end_from fuel triples edges m (end + 1)) × SubjectsSplit triples edges (m + 1) (end_from fuel triples edges m (end + 1)))
@@ -41,7 +44,7 @@ module _ {triples : List ℕ} {edges m k : ℕ} (up : SubjectsRise triples edges
           → (k ≤ onward a b (end_from fuel triples edges m (end + 1)) end) × SubjectsSplit triples edges (m + 1) (onward a b (end_from fuel triples edges m (end + 1)) end)
       go rest true true p q = rest (end_again x (ltb-true end edges p) (eqb-true (subject_at triples end) m q))
       go rest true false p q = end_stop x s up (ltb-true end edges p) (eqb-false (subject_at triples end) m q)
-      go rest false b p q = end_last x s (ltb-false end edges p)
+      go rest false b p q = at_end x (ltb-false end edges p)
 
 -- ---- the entries of so many nodes, from the node m on
 

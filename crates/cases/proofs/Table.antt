@@ -9,9 +9,8 @@ use Prim.Native.Nat.{ℕ}
 use Prim.Native.String.{String}
 use Rattle.cases.proofs.Computed.{run_says}
 use Rattle.cases.proofs.Encode.{encode}
-use Rattle.cases.proofs.Run.{is_term, run, small_core}
+use Rattle.cases.proofs.Run.{with_clash, is_term, refuses_as, run, small_core}
 use Rattle.cases.specs.Says.{Call, Outcome, Says, answer, ask, build, check, fine, graph, iri, read, refused, refuses, spell, term}
-use Rattle.construct.specs.Outcome.{clashing, refused_as}
 use Rattle.grammar.specs.Grammar.{stars}
 use Rattle.grammar.specs.Parse.{
   run as readRun,
@@ -155,33 +154,33 @@ cases =
     of sample (query "<sty:r1>/name/\"Roman\"") (answer true ((0 ∷ 1 ∷ []) ∷ [])) ∷
     of sample (query "nosuch*") (answer true ((0 ∷ 0 ∷ []) ∷ (1 ∷ 1 ∷ []) ∷ [])) ∷
     -- P: "adding Style(r1,g) is 8; without the dependency, 10."
-    of (two_names first_decides_second) build (refuses (refused_as 8)) ∷
-    of (two_names []) build (refuses (clashing (iri_node₁ 0 1 0) 0 (plain_node 1 1 0) (plain_node 1 2 0))) ∷
+    of (two_names first_decides_second) build (refuses_as 8) ∷
+    of (two_names []) build (refuses (with_clash (iri_node₁ 0 1 0) 0 (plain_node 1 1 0) (plain_node 1 2 0))) ∷
     -- card 8: lowest subject, then lowest predicate, then the two lowest objects
-    of several_clashes build (refuses (clashing (iri_node₁ 0 1 0) 1 (iri_node₁ 1 2 0) (iri_node₁ 1 2 1))) ∷
-    of several_clashes (query "name") (refuses (clashing (iri_node₁ 0 1 0) 1 (iri_node₁ 1 2 0) (iri_node₁ 1 2 1))) ∷
+    of several_clashes build (refuses (with_clash (iri_node₁ 0 1 0) 1 (iri_node₁ 1 2 0) (iri_node₁ 1 2 1))) ∷
+    of several_clashes (query "name") (refuses (with_clash (iri_node₁ 0 1 0) 1 (iri_node₁ 1 2 0) (iri_node₁ 1 2 1))) ∷
     -- P: "a rule giving sty(s) name fam(s) in place of n: 11."
-    of name_is_iri build (refuses (refused_as 11)) ∷
+    of name_is_iri build (refuses_as 11) ∷
     -- P: "a second type on sty(s) whose shape for family is Literal 3: 11."
-    of second_type build (refuses (refused_as 11)) ∷
+    of second_type build (refuses_as 11) ∷
     -- P: "value a/b under "sty:" is sty:a%2Fb; the empty value, sty:.": spelled, and read back
     of special (spell 0 (0 ∷ [])) (iri (ascii "sty:a%2Fb")) ∷
     of special (spell 0 (1 ∷ [])) (iri (ascii "sty:")) ∷
     of special (spell 2 (0 ∷ 3 ∷ [])) (iri (ascii "http://x/a%2Fb/%00%FF")) ∷
     of special (text "sty:a%2Fb") (term (0 ∷ 0 ∷ unused ∷ unused ∷ unused ∷ [])) ∷
     of special (text "sty:") (term (0 ∷ 1 ∷ unused ∷ unused ∷ unused ∷ [])) ∷
-    of special (text "sty:a/b") (refused 13) ∷
+    of special (text "sty:a/b") (refuses_as 13) ∷
     of sample (text "fam:g") (term (1 ∷ 2 ∷ unused ∷ unused ∷ unused ∷ [])) ∷
-    of special (text "sty:a%2fb") (refused 13) ∷
-    of special (text "sty:%7E") (refused 13) ∷
+    of special (text "sty:a%2fb") (refuses_as 13) ∷
+    of special (text "sty:%7E") (refuses_as 13) ∷
     of special (text "http://x/~/") (term (2 ∷ 2 ∷ 1 ∷ unused ∷ unused ∷ [])) ∷
-    of special (text "http://x/~") (refused 13) ∷
+    of special (text "http://x/~") (refuses_as 13) ∷
     of special (text "fam:%00%FF") (term (1 ∷ 3 ∷ unused ∷ unused ∷ unused ∷ [])) ∷
-    case [] (text "fam:g") (refused 3) ∷
+    case [] (text "fam:g") (refuses_as 3) ∷
     -- P: "`name**` is read; `name|` is 2."
     of sample (query "name**") (answer true ((0 ∷ 0 ∷ []) ∷ (0 ∷ 1 ∷ []) ∷ (1 ∷ 1 ∷ []) ∷ [])) ∷
-    of sample (query "name|") (refuses (refused_as 2)) ∷
-    case [] (query "name|") (refuses (refused_as 2)) ∷
+    of sample (query "name|") (refuses_as 2) ∷
+    case [] (query "name|") (refuses_as 2) ∷
     -- 3: too short, a byte left out, a byte too many, a length that is one too large, lengths whose sum is right modulo 2 ^ 32
     case [] check (refused 3) ∷
     case (replicate 35 0) check (refused 3) ∷

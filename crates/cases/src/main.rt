@@ -3,12 +3,12 @@
 // each the program writes the first refusal of the pack from 3 to 8, or 0, and what read-back answers.
 #![tactic(auto)]
 
-ghost use Rattle.std.specs.Prelude.{◌≤◌, ◌+◌};
-
 use checks::check;
 use depends::is_broken;
+use meaning::refusal::Refusal;
 use meaning::{ROWS_LENGTH, SETTING_LENGTH};
 use readback::read_back;
+use records::setting::LoadedSetting;
 
 // A space and a number.
 fn say_number(n: u16) {
@@ -16,43 +16,40 @@ fn say_number(n: u16) {
     io::print_decimal(1, n as u64);
 }
 
-// The first refusal of 3 to 8, or 0.
-fn first_refusal(pack: &[u8]) -> u8 {
+// Whether none of 3 to 8 refuses the pack; else the first that does.
+fn first_refusal(pack: &[u8]) -> Result<(), Refusal> {
     let mut numbers = [0u16; SETTING_LENGTH];
     let mut rows = [0u16; ROWS_LENGTH];
-    let checked = check(pack, &mut numbers, &mut rows);
-    let counts = checked.counts;
-    if checked.refusal != 0 {
-        return checked.refusal;
+    let counts = check(pack, &mut numbers, &mut rows)?;
+    let setting = LoadedSetting {
+        counts,
+        numbers: &numbers[..],
+    };
+    if is_broken(&setting, &rows[..]) {
+        return Err(Refusal::BrokenDependency);
     }
-    if is_broken(counts, &numbers[..], &rows[..]) {
-        return 8;
-    }
-    0
+    Ok(())
 }
 
 fn say(pack: &[u8], text: &[u8]) {
-    io::print_decimal(1, first_refusal(pack) as u64);
-    let r = read_back(pack, text);
-    if r.refusal != 0 {
-        io::write_all(1, b" refused ");
-        io::print_decimal(1, r.refusal as u64);
-    } else {
-        let values = r.values;
-        say_number(r.constructor);
-        say_number(values[0]);
-        say_number(values[1]);
-        say_number(values[2]);
-        say_number(values[3]);
+    let first = match first_refusal(pack) {
+        Ok(()) => 0,
+        Err(refusal) => refusal.number(),
+    };
+    io::print_decimal(1, first as u64);
+    match read_back(pack, text) {
+        Ok(term) => {
+            say_number(term.constructor);
+            for &v in &term.values {
+                say_number(v);
+            }
+        }
+        Err(refusal) => {
+            io::write_all(1, b" refused ");
+            io::print_decimal(1, refusal.number() as u64);
+        }
     }
     io::write_all(1, b"\n");
-}
-
-// Two bytes as a number, the lowest first.
-fn word(low: u8, high: u8) -> usize
-    ensures { result ≤ 65535 }
-{
-    low as usize + 256 * (high as usize)
 }
 
 // The cases from `from` on.
@@ -62,8 +59,8 @@ fn say_cases(s: &[u8]) {
         if s.len() - from < 4 {
             return;
         }
-        let pack = word(s[from], s[from + 1]);
-        let text = word(s[from + 2], s[from + 3]);
+        let pack = u16::from_le_bytes([s[from], s[from + 1]]) as usize;
+        let text = u16::from_le_bytes([s[from + 2], s[from + 3]]) as usize;
         let start = from + 4;
         if s.len() - start < pack {
             return;

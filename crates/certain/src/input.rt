@@ -11,15 +11,8 @@ fn read_full(file: &mut File, pack: &mut [u8]) -> usize
     let mut done = 0;
     while done < pack.len() {
         match file.read(&mut pack[done..]) {
-            Ok(n) => {
-                if n == 0 {
-                    return done;
-                }
-                done += n;
-            }
-            Err(_) => {
-                return done;
-            }
+            Ok(0) | Err(_) => return done,
+            Ok(n) => done += n,
         }
     }
     done
@@ -40,11 +33,8 @@ pub fn query_length(query: &mut [u8]) -> usize
     ensures { IsPrefixLen result query.new }
 {
     let n = io::read_full(0, query);
-    if n == 0 {
-        return 0;
+    match query[..n].last() {
+        Some(b'\n') => n - 1,
+        _ => n,
     }
-    if query[n - 1] == 10 {
-        return n - 1;
-    }
-    n
 }

@@ -7,6 +7,7 @@ mod spelled; // nodes, spelled
 
 use crate::input::{query_length, read_pack};
 use crate::spelled::say_pairs;
+use meaning::refusal::Refusal;
 use meaning::{
     HEADS_LENGTH, INDEX_LENGTH, MAX_PACK_BYTES, MAX_QUERY_BYTES, NODE_LIST_LENGTH,
     PAIR_LIST_LENGTH, ROWS_LENGTH, SEEN_WORDS, STATE_WORDS, TRIPLE_LIST_LENGTH,
@@ -15,9 +16,9 @@ use pairs::pairs;
 use yes_no::yes_no;
 
 // A refusal's number.
-fn say_refused(k: u8) {
+fn say_refused(e: Refusal) {
     io::write_all(1, b"refused ");
-    io::print_decimal(1, k as u64);
+    io::print_decimal(1, e.number() as u64);
     io::write_all(1, b"\n");
 }
 
@@ -32,8 +33,8 @@ fn say_answer(yes: bool, count: usize) {
     io::write_all(1, b"\n");
 }
 
-// Asks both calls; a refusal by either is printed alone.
-fn answer(pack: &[u8], query: &[u8]) {
+// Asks both calls and prints what they answer; a refusal by either is handed back.
+fn answer(pack: &[u8], query: &[u8]) -> Result<(), Refusal> {
     let mut nodes = [0u16; NODE_LIST_LENGTH];
     let mut triples = [0u16; TRIPLE_LIST_LENGTH];
     let mut index = [0u16; INDEX_LENGTH];
@@ -53,11 +54,7 @@ fn answer(pack: &[u8], query: &[u8]) {
         &mut alive,
         &mut waiting,
         &mut stack,
-    );
-    if first.graph.refusal != 0 {
-        say_refused(first.graph.refusal);
-        return;
-    }
+    )?;
     let mut list = [0u16; PAIR_LIST_LENGTH];
     let mut seen = [0u64; SEEN_WORDS];
     let mut own_nodes = [0u16; NODE_LIST_LENGTH];
@@ -79,13 +76,10 @@ fn answer(pack: &[u8], query: &[u8]) {
         &mut own_nodes,
         &mut own_triples,
         &mut own_index,
-    );
-    if second.graph.refusal != 0 {
-        say_refused(second.graph.refusal);
-        return;
-    }
+    )?;
     say_answer(first.yes, second.pairs);
     say_pairs(pack, &nodes[..], &list[..], second.pairs);
+    Ok(())
 }
 
 fn main(rt: HostRuntime) {
@@ -93,5 +87,7 @@ fn main(rt: HostRuntime) {
     let mut query = [0u8; MAX_QUERY_BYTES + 2];
     let n = read_pack(&rt, &mut pack);
     let m = query_length(&mut query);
-    answer(&pack[..n], &query[..m]);
+    if let Err(e) = answer(&pack[..n], &query[..m]) {
+        say_refused(e);
+    }
 }

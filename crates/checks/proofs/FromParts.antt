@@ -1,37 +1,45 @@
 -- What an answer of the check says, by what its parts answered. Assumes nothing.
 use lib.ListN.{get_or, length}
-use mathlib.Core.Bool.{Bool, false, true}
+use mathlib.Core.Bool.{false}
 use mathlib.Core.List.{List}
 use mathlib.Core.Option.{none}
-use mathlib.Core.Path.{◌≡◌, sym, subst, ◌∙◌}
-use native.Mathlib.Omega.{arith}
+use mathlib.Core.Path.{◌≡◌, sym, ◌∙◌}
 use Prim.Native.Nat.{ℕ, ◌<◌, ◌≤◌}
 use Rattle.checks.specs.Checked.{Accepted, CheckedAs}
-use Rattle.checks.specs.declared.Checked.{Checked}
 use Rattle.load.specs.Loaded.{PackLoaded, PackShown}
+use Rattle.meaning.proofs.Lists.Bytes.{bytes_known}
 use Rattle.meaning.specs.Limits.{setting_length}
 use Rattle.meaning.specs.WellFormed.{dangling, duplicates, prefix_clash}
 use Rattle.names.proofs.ReadWithinBounds.{given_of}
 use Rattle.names.specs.PackGiven.{IsPack, PackGiven}
-use Rattle.pack.proofs.Order.{accepted_is, accepted_number}
-use Rattle.pack.specs.Checked.{number_of, well_formed}
+use Rattle.pack.proofs.Order.{accepted_is}
+use Rattle.pack.specs.Checked.{refused, well_formed}
 use Rattle.pack.specs.Contents.{bad_size}
 use Rattle.pack.specs.Unpack.{unpack}
+use Rattle.meaning.specs.declared.refusal.Refusal.TheVariants.{BadBody}
+use Rattle.meaning.specs.declared.refusal.Refusal.{Refusal}
+use Rattle.std.specs.Option.{ok_or}
+use Rattle.std.specs.Prelude.{Option, None, Some, Result, Ok, Err}
 use Rattle.texts.specs.Compared.{SomePack}
-use Rattle.meaning.proofs.Lists.Bytes.{bytes_known}
 
--- A refusal.
-pub refuses : {s numbers rows : List ℕ} (r : Checked) (k : ℕ) → r.refusal ≡ k → 0 < k → k ≡ number_of (well_formed s) → CheckedAs s r numbers rows
-refuses r k e h n = record { first = e ∙ n; loaded = λ z. absurd (let q : ⊥ = omega arith in q) }
+-- ---- what was loaded, where 4 is in the place of None
 
-module _ (s counts numbers rows : List ℕ) where
-  pub as_loaded : (w : Bool) → w ≡ true → PackShown w s counts numbers rows → PackLoaded s counts numbers rows
-  as_loaded true e h = h
-  as_loaded false e h = absurd (let z : ◌≡◌ {A = ℕ} 0 1 = cc in omega arith)
+module _ (s numbers rows : List ℕ) (o : Option (List ℕ)) (h : PackShown s o numbers rows) {r : Result (List ℕ) Refusal} (v : r ≡ ok_or o BadBody) where
+  pub loaded : {counts : List ℕ} → r ≡ Ok counts → PackLoaded s counts numbers rows
+  loaded {counts} e = go o h (sym v ∙ e)
+    where
+      go : (o : Option (List ℕ)) → PackShown s o numbers rows → ok_or o BadBody ≡ Ok counts → PackLoaded s counts numbers rows
+      go None h q = absurd (cc)
+      go (Some n) h q = let k : n ≡ counts = cc in rw k at h
 
-  pub not_loaded : (w : Bool) → w ≡ false → PackShown w s counts numbers rows → unpack s ≡ none
-  not_loaded false e h = h
-  not_loaded true e h = absurd (let z : ◌≡◌ {A = ℕ} 0 1 = cc in omega arith)
+  pub broken : (unpack s ≡ none → well_formed s ≡ refused 4) → {e : Refusal} → r ≡ Err e → CheckedAs s (Err e) numbers rows
+  broken four {e} f = go o h (sym v ∙ f)
+    where
+      go : (o : Option (List ℕ)) → PackShown s o numbers rows → ok_or o BadBody ≡ Err e → CheckedAs s (Err e) numbers rows
+      go None h q = (4, four h, (let k : BadBody ≡ e = cc in sym k))
+      go (Some n) h q = absurd (cc)
+
+-- ---- what holds of it
 
 module _ {s counts numbers rows : List ℕ} (l : PackLoaded s counts numbers rows) where
   pub some_pack : SomePack s counts numbers
@@ -44,14 +52,10 @@ module _ {s counts numbers rows : List ℕ} (l : PackLoaded s counts numbers row
     pub is_pack : IsPack counts numbers rows
     is_pack = record { pack = l.pack; given = given }
 
-    pub accepts : bad_size s ≡ false → duplicates l.pack ≡ false → prefix_clash l.pack ≡ false → dangling l.pack ≡ false → (r : Checked)
-        → r.refusal ≡ 0 → r.counts ≡ counts → CheckedAs s r numbers rows
-    accepts size a b d r z e = record {
-      first = z ∙ accepted_number s size l.pack l.is a b d;
-      loaded = λ q. subst (λ (k : List ℕ). Accepted s k numbers rows) (sym e) (record {
-        pack = l.pack;
-        is = accepted_is s size l.pack l.is a b d;
-        held = l.held;
-        given = given;
-      });
+    pub accepts : bad_size s ≡ false → duplicates l.pack ≡ false → prefix_clash l.pack ≡ false → dangling l.pack ≡ false → Accepted s counts numbers rows
+    accepts size a b d = record {
+      pack = l.pack;
+      is = accepted_is s size l.pack l.is a b d;
+      held = l.held;
+      given = given;
     }

@@ -7,48 +7,33 @@ ghost use Rattle.meaning.specs.Limits.{rows_length, setting_length};
 
 use load::load;
 use meaning::BODIES;
+use meaning::refusal::Refusal;
 use names::is_dangling;
 use pack::contents::bad_size;
+use records::setting::LoadedSetting;
 use texts::{has_duplicates, has_prefix_clash};
 
-// The number of the first refusal that is true of a pack, or 0; and how many records each body has.
-#[derive(Drop)]
-pub struct Checked {
-    pub refusal: u8,
-    pub counts: [usize; BODIES],
-}
-
-fn refused(k: u8) -> Checked
-    ensures { result.refusal ≡ k }
-{
-    Checked {
-        refusal: k,
-        counts: [0; BODIES],
-    }
-}
-
-// The first refusal of 3 to 7; where there is none, the setting's numbers and the rows'.
-pub fn check(s: &[u8], numbers: &mut [u16], rows: &mut [u16]) -> Checked
+// How many records each body has, and in the lent lists the setting's numbers and the rows'; or the first refusal of 3 to 7.
+pub fn check(s: &[u8], numbers: &mut [u16], rows: &mut [u16]) -> Result<[usize; BODIES], Refusal>
     requires { (setting_length ≤ length numbers.old) × (rows_length ≤ length rows.old) }
     ensures { CheckedAs s.now result numbers.new rows.new }
 {
     if bad_size(s) {
-        return refused(3);
+        return Err(Refusal::BadSize);
     }
-    let loaded = load(s, numbers, rows);
-    let whole = loaded.whole;
-    if !whole {
-        return refused(4);
+    let counts = load(s, numbers, rows).ok_or(Refusal::BadBody)?;
+    let setting = LoadedSetting {
+        counts,
+        numbers: &numbers[..],
+    };
+    if has_duplicates(s, &setting) {
+        return Err(Refusal::Duplicate);
     }
-    let counts = loaded.counts;
-    if has_duplicates(s, counts, numbers) {
-        return refused(5);
+    if has_prefix_clash(s, &setting) {
+        return Err(Refusal::PrefixClash);
     }
-    if has_prefix_clash(s, counts, numbers) {
-        return refused(6);
+    if is_dangling(&setting, rows) {
+        return Err(Refusal::Dangling);
     }
-    if is_dangling(counts, numbers, rows) {
-        return refused(7);
-    }
-    Checked { refusal: 0, counts }
+    Ok(counts)
 }

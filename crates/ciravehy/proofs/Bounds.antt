@@ -1,18 +1,19 @@
 -- The counts of an answer fit into 16 bits. Assumes nothing.
-use mathlib.Core.Bool.{false}
 use mathlib.Core.List.{List}
-use mathlib.Core.Path.{sym, subst}
 use native.Mathlib.Omega.{arith}
 use Prim.Native.Nat.{ℕ, ◌<◌}
+use Rattle.std.specs.Prelude.{IfOk, Ok, Result}
 use Rattle.calls.proofs.Meets.{every}
 use Rattle.calls.specs.Call.{Call, Lent}
 use Rattle.ciravehy.proofs.Pairs.{few_pairs}
-use Rattle.construct.specs.Outcome.{Gives, Refuses, mixed_kinds, not_accepted, refused_as, too_large, two_objects}
-use Rattle.construct.specs.declared.Constructed.{Constructed}
+use Rattle.construct.proofs.Refused.{no_error, no_value}
+use Rattle.construct.specs.Outcome.{Gives, GivesGraph, Refuses, refused_as}
+use Rattle.graph.specs.declared.Size.{Size}
 use Rattle.meaning.specs.Pack.{Text}
+use Rattle.meaning.specs.declared.refusal.Refusal.{Refusal}
 use Rattle.pairs.specs.Answer as Pairs
 use Rattle.pairs.specs.declared.PairAnswer.{PairAnswer}
-use Rattle.prepare.specs.Prepared as Prepared
+use Rattle.prepare.proofs.RefusedOrGraph.{not_ok}
 use Rattle.spelling.specs.Iri.{plain}
 use Rattle.yes_no.specs.Answer as YesOrNo
 use Rattle.yes_no.specs.declared.YesNo.{YesNo}
@@ -22,53 +23,41 @@ use Rattle.yes_no.specs.declared.YesNo.{YesNo}
 abbrev pub Small : ℕ → Type 0
 Small n = n < 65536
 
-zero_small : Small 0
-zero_small = omega arith
+-- ---- what is given
 
--- ---- what a pack comes to
+abbrev Counts : Size → Type 0
+Counts s = Small s.nodes × Small s.triples
 
-abbrev Counts : Constructed → Type 0
-Counts g = Small g.nodes × Small g.triples
-
-module _ {pack : Text} {r : Constructed} where
-  refused_small : Refuses pack r → Counts r
-  refused_small (not_accepted k a q) = subst Counts (sym q) (zero_small, zero_small)
-  refused_small (too_large P a l q) = subst Counts (sym q) (zero_small, zero_small)
-  refused_small (two_objects P a l n s p f t c q) = subst Counts (sym q) (zero_small, zero_small)
-  refused_small (mixed_kinds P a l n t m q) = subst Counts (sym q) (zero_small, zero_small)
-
-  given_small : {fronts : List (List ℕ)} → Gives pack r fronts → Counts r
-  given_small G = let n = G.has.graph.listed.few_nodes in let t = G.has.graph.listed.few_triples in (omega arith, omega arith)
-
-unprepared_small : {pack query : Text} {g : Constructed} → Prepared.Refuses pack query g → Counts g
-unprepared_small (Prepared.no_query f q) = subst Counts (sym q) (zero_small, zero_small)
-unprepared_small (Prepared.no_graph e i f) = refused_small f
-
--- ---- the three answers: refusal 1, or what the pack and the query come to
-
-pub build_small : {pack : Text} {r : Constructed} {lists buffers : List Lent} → Call (refused_as 1) (Refuses pack) (Gives pack) r lists buffers → Small r.nodes × Small r.triples
-build_small A = every Counts (zero_small, zero_small) refused_small (λ _ G. given_small G) A
-
-module _ {pack query : Text} {r : YesNo} where
-  pub yes_no_small : {lists buffers : List Lent} → Call (record { graph = refused_as 1; yes = false }) (YesOrNo.Refuses pack query) (YesOrNo.Gives pack query) r lists buffers
-      → Small r.graph.nodes × Small r.graph.triples
-  yes_no_small A = every (λ x. Counts x.graph) (zero_small, zero_small) (λ x. unprepared_small x.cause) (λ _ G. given_small G.asked.graph) A
+given_small : {pack : Text} {size : Size} {fronts : List (List ℕ)} → GivesGraph pack size fronts → Counts size
+given_small G = let n = G.has.graph.listed.few_nodes in let t = G.has.graph.listed.few_triples in (omega arith, omega arith)
 
 abbrev pub All : PairAnswer → Type 0
-All a = Small a.graph.nodes × Small a.graph.triples × Small a.pairs
+All a = Small a.size.nodes × Small a.size.triples × Small a.pairs
 
-module _ {pack query : Text} {r : PairAnswer} where
-  refused_pairs : Pairs.Refuses pack query r → All r
-  refused_pairs (Pairs.before_12 f n) = let (a, b) = unprepared_small f in (a, b, subst Small (sym n) zero_small)
-  refused_pairs (Pairs.too_many e i P a l o m q n) = let (x, y) = subst Counts (sym q) (zero_small, zero_small) in (x, y, subst Small (sym n) zero_small)
+given_pairs : {pack query : Text} {a : PairAnswer} {fronts : List (List ℕ)} → Pairs.GivesPairs pack query a fronts → All a
+given_pairs G =
+    let (a, b) = given_small G.asked.graph in
+    let P = G.asked.graph.of in
+    let l = G.asked.graph.has.graph.listed.lists in
+    let h = few_pairs (plain P) P G.asked.expression l.in_order l.ordered G.records G.certain G.few in
+    (a, b, omega (arith, G.count))
 
-  given_pairs : (fronts : List (List ℕ)) → Pairs.Gives pack query r fronts → All r
-  given_pairs fronts G =
-      let (a, b) = given_small G.asked.graph in
-      let P = G.asked.graph.of in
-      let l = G.asked.graph.has.graph.listed.lists in
-      let h = few_pairs (plain P) P G.asked.expression l.in_order l.ordered G.records G.certain G.few in
-      (a, b, omega (arith, G.count))
+-- ---- what is true of all that is given is true of an answer that is no refusal
 
-  pub pairs_small : {lists buffers : List Lent} → Call (record { graph = refused_as 1; pairs = 0 }) (Pairs.Refuses pack query) (Pairs.Gives pack query) r lists buffers → All r
-  pairs_small A = every All (zero_small, zero_small, zero_small) refused_pairs given_pairs A
+module _ {A : Type 0} (Q : A → Type 0) {Refuses : Result A Refusal → Type 0} {Gives : Result A Refusal → List (List ℕ) → Type 0} {a : A} {one : Result A Refusal} {lists buffers : List Lent} where
+  of_given : IfOk one Q → (Refuses (Ok a) → ⊥) → ((fronts : List (List ℕ)) → Gives (Ok a) fronts → Q a) → Call one Refuses Gives (Ok a) lists buffers → Q a
+  of_given o f g = every (λ r. IfOk r Q) o (λ x. absurd (f x)) g
+
+pub build_small : {pack : Text} {size : Size} {lists buffers : List Lent} → Call (refused_as 1) (Refuses pack) (Gives pack) (Ok size) lists buffers → Counts size
+build_small = of_given Counts tt no_value (λ _ G. given_small G)
+
+module _ {pack query : Text} where
+  pub yes_no_small : {a : YesNo} {lists buffers : List Lent} → Call (refused_as 1) (YesOrNo.Refuses pack query) (YesOrNo.Gives pack query) (Ok a) lists buffers → Counts a.size
+  yes_no_small = of_given (λ (a : YesNo). Counts a.size) tt not_ok (λ _ G. given_small G.asked.graph)
+
+  no_pairs : {a : PairAnswer} → Pairs.Refuses {A = PairAnswer} pack query (Ok a) → ⊥
+  no_pairs (Pairs.before_12 x) = not_ok x
+  no_pairs (Pairs.too_many e i P o n w x q) = no_error q
+
+  pub pairs_small : {a : PairAnswer} {lists buffers : List Lent} → Call (refused_as 1) (Pairs.Refuses pack query) (Pairs.Gives pack query) (Ok a) lists buffers → All a
+  pairs_small = of_given All tt no_pairs (λ _ G. given_pairs G)

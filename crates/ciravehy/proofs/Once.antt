@@ -1,22 +1,24 @@
 -- What the exported calls say and leave is fixed by the bytes and the lengths of what they are lent: for each, its result, its
 -- report, and what the open call's own theorem says of the lists and buffers. Assumes nothing.
-use mathlib.Core.List.{List, ◌∷◌}
-use mathlib.Core.Path.{◌≡◌, refl, sym, ap, ◌∙◌}
+use mathlib.Core.List.{List}
+use mathlib.Core.Path.{◌≡◌, sym, ap, ◌∙◌}
 use Prim.Native.Nat.{ℕ}
+use Rattle.std.specs.Prelude.{Result}
 use Rattle.build.proofs.Once as build
 use Rattle.build.specs.Answer as Build
 use Rattle.calls.proofs.Once.{Same, SameLengths}
 use Rattle.calls.specs.Call.{Contents}
-use Rattle.ciravehy.specs.Exported.{Builds, Decides, Finds, Reads}
+use Rattle.ciravehy.specs.Exported.{Builds, Decides, Finds, Reads, refusal_number, report_of, term_of}
 use Rattle.construct.specs.Outcome as Graph
-use Rattle.construct.specs.declared.Constructed.{Constructed}
 use Rattle.graph.specs.Fronts.{graph_lists}
+use Rattle.graph.specs.declared.Size.{Size}
 use Rattle.meaning.specs.Pack.{Text}
+use Rattle.meaning.specs.declared.refusal.Refusal.{Refusal}
 use Rattle.pairs.proofs.Once as pairs
 use Rattle.pairs.specs.Answer as Pairs
 use Rattle.pairs.specs.declared.PairAnswer.{PairAnswer}
 use Rattle.readback.proofs.Once as readback
-use Rattle.report.specs.Report.{number, reported}
+use Rattle.report.specs.Report.{number}
 use Rattle.yes_no.proofs.Once as yes-no
 use Rattle.yes_no.specs.Answer as YesOrNo
 use Rattle.yes_no.specs.declared.YesNo.{YesNo}
@@ -27,9 +29,10 @@ use Rattle.yes_no.specs.declared.YesNo.{YesNo}
 abbrev pub SameReport : ℕ → ℕ → List ℕ → List ℕ → Type 0
 SameReport result result₂ report report₂ = (result ≡ result₂) × (report ≡ report₂)
 
-same_report : {g h : Constructed} {n m result result₂ : ℕ} {report report₂ : List ℕ} → g ≡ h → n ≡ m → result ≡ g.refusal → result₂ ≡ h.refusal
-    → report ≡ reported g.nodes g.triples n g.clash → report₂ ≡ reported h.nodes h.triples m h.clash → SameReport result result₂ report report₂
-same_report e d q p u v = (q ∙ ap (λ (x : Constructed). x.refusal) e ∙ sym p, u ∙ (λ i. reported (e i).nodes (e i).triples (d i) (e i).clash) ∙ sym v)
+same_report : {A : Type 0} {r s : Result A Refusal} (size : A → Size) (answer : A → ℕ) {result result₂ : ℕ} {report report₂ : List ℕ} → r ≡ s
+    → result ≡ refusal_number r → result₂ ≡ refusal_number s → report ≡ report_of size answer r → report₂ ≡ report_of size answer s
+    → SameReport result result₂ report report₂
+same_report size answer e q p u v = (q ∙ ap refusal_number e ∙ sym p, u ∙ ap (report_of size answer) e ∙ sym v)
 
 -- ---- the calls
 
@@ -41,7 +44,7 @@ module _ (pack : Text) (nodes nodes₂ triples triples₂ index index₂ rows ro
       (Build.buffers rows heads) (Build.buffers rows₂ heads₂)
   builds_once e f x y =
       let s = build.answers_once pack x.answer y.answer nodes nodes₂ triples triples₂ index index₂ rows rows₂ heads heads₂ e f x.answers y.answers in
-      (same_report s.answer refl x.refusal y.refusal x.report y.report, s)
+      (same_report (λ size. size) (λ size. 0) s.answer x.refusal y.refusal x.report y.report, s)
 
 module _ (pack query : Text)
     (nodes nodes₂ triples triples₂ index index₂ rows rows₂ heads heads₂ alive alive₂ waiting waiting₂ stack stack₂ : Contents)
@@ -56,7 +59,7 @@ module _ (pack query : Text)
   decides_once e f x y =
       let s = yes-no.answers_once pack query x.answer
       y.answer nodes nodes₂ triples triples₂ index index₂ rows rows₂ heads heads₂ alive alive₂ waiting waiting₂ stack stack₂ e f x.answers y.answers in
-      (same_report (ap (λ (a : YesNo). a.graph) s.answer) (ap (λ (a : YesNo). number a.yes) s.answer) x.refusal y.refusal x.report y.report, s)
+      (same_report (λ (a : YesNo). a.size) (λ a. number a.yes) s.answer x.refusal y.refusal x.report y.report, s)
 
 module _ (pack query : Text)
     (nodes nodes₂ triples triples₂ index index₂ list list₂ rows rows₂ heads heads₂ alive alive₂
@@ -75,10 +78,10 @@ module _ (pack query : Text)
       let s =
       pairs.answers_once pack query x.answer y.answer nodes nodes₂ triples triples₂ index index₂ list list₂ rows rows₂ heads heads₂ alive alive₂ waiting waiting₂ stack stack₂
       seen seen₂ own_nodes own_nodes₂ own_triples own_triples₂ own_index own_index₂ e f x.answers y.answers in
-      (same_report (ap (λ (a : PairAnswer). a.graph) s.answer) (ap (λ (a : PairAnswer). a.pairs) s.answer) x.refusal y.refusal x.report y.report, s)
+      (same_report (λ (a : PairAnswer). a.size) (λ a. a.pairs) s.answer x.refusal y.refusal x.report y.report, s)
 
 pub reads_once : {pack text : Text} {result result₂ : ℕ} {report report₂ : List ℕ} → Reads pack text result report → Reads pack text result₂ report₂
     → (result ≡ result₂) × (report ≡ report₂)
 reads_once x y =
     let e = readback.answers_once x.answers y.answers in
-    (x.refusal ∙ (λ i. (e i).refusal) ∙ sym y.refusal, x.report ∙ (λ i. (e i).constructor ∷ (e i).values) ∙ sym y.report)
+    (x.refusal ∙ ap refusal_number e ∙ sym y.refusal, x.report ∙ ap term_of e ∙ sym y.report)

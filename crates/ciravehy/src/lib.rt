@@ -2,14 +2,37 @@
 #![tactic(auto)]
 
 ghost use Rattle.calls.specs.Call.{lent};
-ghost use Rattle.ciravehy.specs.Exported.{Builds, Decides, Finds, Reads};
+ghost use Rattle.ciravehy.specs.Exported.{Builds, Decides, Finds, Reads, clash_of, refusal_number};
+ghost use Rattle.report.specs.Report.{reported};
+ghost use Rattle.std.specs.Prelude.{◌≡◌};
 
 use build::build;
-use meaning::{REPORT_LENGTH, TERM_LENGTH};
+use meaning::refusal::Refusal;
+use meaning::{CLASH_WIDTH, REPORT_LENGTH, TERM_LENGTH, UNUSED};
 use pairs::pairs as find_pairs;
 use readback::read_back;
 use report::{numbers, said, term};
 use yes_no::yes_no;
+
+// A refusal's number, 0 where there is none.
+fn refusal_number<T: Copy>(answer: Result<T, Refusal>) -> u8
+    ensures { result ≡ refusal_number answer }
+{
+    match answer {
+        Ok(_) => 0,
+        Err(e) => e.number(),
+    }
+}
+
+// The report of a refusal: the clash of 10, all else zero.
+fn refused(e: Refusal) -> [u16; REPORT_LENGTH]
+    ensures { result ≡ reported 0 0 0 (clash_of e) }
+{
+    match e {
+        Refusal::Clash(clash) => numbers(0, 0, 0, clash),
+        _ => [0; REPORT_LENGTH],
+    }
+}
 
 // `build::build`. The result is the refusal's number, 0 where there is none; the rest of the answer is in `report`.
 #[unsafe(no_mangle)]
@@ -25,9 +48,11 @@ pub extern "C" fn ciravehy_build(
     ensures { Builds pack.now result (lent nodes) (lent triples) (lent index) (lent rows) (lent heads) report.new }
 {
     let built = build(pack, nodes, triples, index, rows, heads);
-    let clash = built.clash;
-    *report = numbers(built.nodes, built.triples, 0, clash);
-    built.refusal
+    *report = match built {
+        Ok(size) => numbers(size.nodes, size.triples, 0, [0; CLASH_WIDTH]),
+        Err(e) => refused(e),
+    };
+    refusal_number(built)
 }
 
 // `yes_no::yes_no`, in the same way.
@@ -51,10 +76,11 @@ pub extern "C" fn ciravehy_yes_no(
     let decided = yes_no(
         pack, query, nodes, triples, index, rows, heads, alive, waiting, stack,
     );
-    let graph = decided.graph;
-    let clash = graph.clash;
-    *report = numbers(graph.nodes, graph.triples, said(decided.yes), clash);
-    graph.refusal
+    *report = match decided {
+        Ok(a) => numbers(a.size.nodes, a.size.triples, said(a.yes), [0; CLASH_WIDTH]),
+        Err(e) => refused(e),
+    };
+    refusal_number(decided)
 }
 
 // `pairs::pairs`, in the same way.
@@ -97,10 +123,11 @@ pub extern "C" fn ciravehy_pairs(
         own_triples,
         own_index,
     );
-    let constructed = found.graph;
-    let clash = constructed.clash;
-    *report = numbers(constructed.nodes, constructed.triples, found.pairs, clash);
-    constructed.refusal
+    *report = match found {
+        Ok(a) => numbers(a.size.nodes, a.size.triples, a.pairs, [0; CLASH_WIDTH]),
+        Err(e) => refused(e),
+    };
+    refusal_number(found)
 }
 
 // `readback::read_back`, in the same way.
@@ -113,7 +140,9 @@ pub extern "C" fn ciravehy_read_back(
     ensures { Reads pack.now text.now result report.new }
 {
     let read = read_back(pack, text);
-    let values = read.values;
-    *report = term(read.constructor, values);
-    read.refusal
+    *report = match read {
+        Ok(t) => term(t.constructor, t.values),
+        Err(_) => [UNUSED; TERM_LENGTH],
+    };
+    refusal_number(read)
 }

@@ -42,16 +42,6 @@ module _ (table : List (List ℕ)) (triples masks : List ℕ) where
     pub from : 0 < i
     pub clear : (j : ℕ) → 0 < j → j < i → Clashes table triples masks j false
 
-  pub searched_start : Searched 1
-  searched_start = record { from = omega arith; clear = λ j h l. absurd (let z : ⊥ = omega arith in z) }
-
-  pub searched_again : (i : ℕ) → Searched i → Clashes table triples masks i false → Searched (i + 1)
-  searched_again i s n = record { from = omega arith; clear = λ j h l. go j h l (ℕ_discrete j i) }
-    where
-      go : (j : ℕ) → 0 < j → j < i + 1 → Dec (j ≡ i) → Clashes table triples masks j false
-      go j h l (yes e) = subst (λ k. Clashes table triples masks k false) (sym e) n
-      go j h l (no k) = s.clear j h (omega arith)
-
   -- no key below b is a clash with the one before
   abbrev Cleared : ℕ → Type 0
   Cleared b = (j : ℕ) → 0 < j → j < length triples → get_or triples j 0 < b → Clashes table triples masks j false

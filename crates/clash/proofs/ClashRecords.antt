@@ -1,14 +1,14 @@
 -- The records of a clash, written one after the other. Assumes nothing.
-use lib.ListN.{drop, get_or, get_elem?, length, length-append, length-set, set}
+use lib.ListN.{drop, drop_of_length-le, get_or, get_elem?, length, length-append, set}
 use lib.Seq.{sets-eq}
-use mathlib.Core.List.{List, [], ◌∷◌, ◌++◌}
+use mathlib.Core.List.{List, [], ◌∷◌, ◌++◌, append-nil}
 use mathlib.Core.Option.{some}
 use mathlib.Core.Path.{◌≡◌, sym, ap, subst, ◌∙◌}
 use native.Mathlib.Omega.{arith}
 use Prim.Native.Nat.{ℕ, suc, ◌+◌, ◌<◌, ◌≤◌}
 use Rattle.spread.specs.Keys.{key_of, object_of, predicate_of, subject_of, triple_key}
 use Rattle.clash.specs.Clash.{ClashAt, ClashWritten}
-use Rattle.core_lists.specs.Input.{Input, KeysSmall, CoreFits}
+use Rattle.core_lists.specs.Input.{Input, CoreFits}
 use Rattle.node_list.specs.Records.{Arities, core_numbers, overwritten}
 use Rattle.node_list.proofs.CoreList.{numbers_long}
 use Rattle.core_lists.proofs.Places.{masked, place_small, predicate_small, well}
@@ -17,7 +17,7 @@ use Rattle.node_list.proofs.Records.{core_record}
 use Rattle.meaning.proofs.Lists.Places.{entry_is, inside, ∈_at}
 use Rattle.meaning.specs.Built.{core}
 use Rattle.meaning.specs.Core.{CoreNode, Node, as_object, as_subject}
-use Rattle.meaning.specs.Limits.{clash_width, first_literal, max_predicates, max_values, node_width, place_room}
+use Rattle.meaning.specs.Limits.{clash_width, max_predicates, node_width, place_room}
 use Rattle.meaning.specs.Listing.{NodeRecord}
 use Rattle.meaning.specs.Pack.{Pack}
 use Rattle.meaning.proofs.Lists.Overwriting.{parts_written, written_long}
@@ -43,10 +43,6 @@ four_parts p a b c out la lb lc h =
     let l₃ : 0 + length (a ++ (p ∷ []) ++ b ++ c) ≡ clash_width = (let l = length-append (a ++ (p ∷ []) ++ b) c in omega arith) in
     ap (λ x. overwritten second_at c (overwritten first_at b x)) e₁ ∙ ap (overwritten second_at c) e₂ ∙ e₃ ∙ ap (λ (n : ℕ). a ++ (p ∷ []) ++ b ++ c ++ drop n out) l₃
 
--- a store keeps the length
-pub kept_set : (n : ℕ) (out : List ℕ) (i v : ℕ) → n ≡ length (set out i v) → n ≡ length out
-kept_set n out i v e = e ∙ length-set out i v
-
 -- the places that a key names
 module _ {nodes triples masks : List ℕ} (l : CoreFits nodes triples masks) (i : ℕ) (h : i < length triples) where
   pub subject_place : subject_of (get_or triples i 0) < length nodes
@@ -54,9 +50,6 @@ module _ {nodes triples masks : List ℕ} (l : CoreFits nodes triples masks) (i 
 
   pub object_place : object_of (get_or triples i 0) < length nodes
   object_place = l.object (get_or triples i 0) (∈_at triples i h)
-
-pub key_small : {nodes : List ℕ} → KeysSmall nodes → (j : ℕ) → j < length nodes → get_or nodes j 0 < first_literal + max_values
-key_small {nodes} k j h = k.small (get_or nodes j 0) (∈_at nodes j h)
 
 pub clash_place : {P : Pack} {nodes triples : List ℕ} {i : ℕ} → ClashAt P nodes triples i → suc i < length triples
 clash_place {triples = triples} {i} x = inside triples (suc i) _ x.second_key
@@ -72,11 +65,11 @@ module _ {P : Pack} {table : List (List ℕ)} {nodes triples masks : List ℕ} (
       (subst (λ k. NodeRecord P (core n) (core_numbers arities k (get_or masks i 0))) (sym (entry_is nodes i (key_of n) 0 e))
       (core_record P I.bounded arities ar (get_or masks i 0) n (proper P (well I) c) (masked I n i c e)))
 
-  pub clash_written : {i : ℕ} (out out₁ out₂ out₃ : List ℕ) → clash_width ≤ length out → let f = get_or triples i 0 in let g = get_or triples (i + 1) 0 in
+  pub clash_written : {i : ℕ} (out out₁ out₂ out₃ : List ℕ) → length out ≡ clash_width → let f = get_or triples i 0 in let g = get_or triples (i + 1) 0 in
       out₁ ≡ overwritten 0 (core_numbers arities (get_or nodes (subject_of f) 0) (get_or masks (subject_of f) 0)) out
       → out₂ ≡ overwritten first_at (core_numbers arities (get_or nodes (object_of f) 0) (get_or masks (object_of f) 0)) (set out₁ node_width (predicate_of f))
       → out₃ ≡ overwritten second_at (core_numbers arities (get_or nodes (object_of g) 0) (get_or masks (object_of g) 0)) out₂
-      → ClashAt P nodes triples i → ClashWritten P out out₃
+      → ClashAt P nodes triples i → ClashWritten P out₃
   clash_written {i} out out₁ out₂ out₃ room e₁ e₂ e₃ x = record {
     subject = sn;
     predicate = predicate_of f;
@@ -91,7 +84,8 @@ module _ {P : Pack} {table : List (List ℕ)} {nodes triples masks : List ℕ} (
       second_is = node_record x.clash.second x.second (object_of g) (ap (λ (k : ℕ). object_of k) eg ∙ pg.2) (as_object x.clash.edge₂) x.second_at;
     };
     written = e₃ ∙ ap (overwritten second_at gn) (e₂ ∙ ap (λ y. overwritten first_at fn (set y node_width (predicate_of f))) e₁)
-        ∙ four_parts (predicate_of f) sn fn gn out (numbers_long arities _ _) (numbers_long arities _ _) (numbers_long arities _ _) room;
+        ∙ four_parts (predicate_of f) sn fn gn out (numbers_long arities _ _) (numbers_long arities _ _) (numbers_long arities _ _) (omega arith)
+        ∙ rw (drop_of_length-le out (let l : length out ≤ clash_width = omega arith in l)) (append-nil (sn ++ (predicate_of f ∷ []) ++ fn ++ gn));
   }
     where
       f : ℕ

@@ -1,16 +1,14 @@
 -- What a search for refusal 10 answers, and the clash as numbers. Assumes nothing.
-use Rattle.std.specs.Prelude.{drop, get_or, Bool, true, false, List, [], ◌∷◌, ◌++◌, ◌≡◌, ℕ, suc, ◌-◌}
+use Rattle.std.specs.Prelude.{get_or, Bool, true, false, List, [], ◌∷◌, ◌++◌, ◌≡◌, None, Option, Some, ℕ, suc, ◌-◌}
 use Rattle.std.proofs.Math.ListN.{get_elem?}
 use Rattle.std.proofs.Math.Option.{some}
 use Rattle.spread.specs.Keys.{key_of, origin_of, predicate_of, subject_of, triple_key}
-use Rattle.core_lists.specs.Input.{Input}
+use Rattle.core_lists.specs.Held.{InputOf}
+use Rattle.core_lists.specs.declared.Core.{Core}
 use Rattle.node_list.specs.Records.{Arities}
 use Rattle.meaning.specs.Clash.{ClashGiven, FirstClash}
-use Rattle.meaning.specs.Limits.{clash_width}
 use Rattle.meaning.specs.NoGraph.{TwoObjects}
 use Rattle.meaning.specs.Pack.{Pack, limits}
-use Rattle.sets.specs.declared.ordered.Found.{Found}
-use Rattle.sets.specs.declared.ordered.Found.TheVariants.{At, Nothing}
 use Rattle.shapes.specs.Shapes.{SomePasses}
 
 -- ---- "a core node has two p-objects and a type with multiplicity 1 or 2 for p": the triple at a place and the one before
@@ -41,22 +39,22 @@ pub record ClashAt (P : Pack) (nodes triples : List ℕ) (i : ℕ) : Type 0 wher
   pub first_key : get_elem? triples i ≡ some (triple_key subject clash.predicate first)
   pub second_key : get_elem? triples (suc i) ≡ some (triple_key subject clash.predicate second)
 
-module _ (table : List (List ℕ)) (nodes triples masks : List ℕ) where
-  abbrev pub ClashShown : Found → Type 0
-  ClashShown (At i) = (P : Pack) → Input P table nodes triples masks → ClashAt P nodes triples i
-  ClashShown Nothing = (P : Pack) → Input P table nodes triples masks → ¬ TwoObjects P
+module _ (table : List (List ℕ)) (core : Core) where
+  abbrev pub ClashShown : Option ℕ → Type 0
+  ClashShown (Some i) = (P : Pack) → InputOf P table core → ClashAt P core.nodes.now core.triples.now i
+  ClashShown None = (P : Pack) → InputOf P table core → ¬ TwoObjects P
 
 -- ---- "one such node, predicate and two objects are given, the nodes as node records of the core"
 
-pub record ClashWritten (P : Pack) (out out' : List ℕ) : Type 0 where
+pub record ClashWritten (P : Pack) (numbers : List ℕ) : Type 0 where
   pub subject : List ℕ
   pub predicate : ℕ
   pub first : List ℕ
   pub second : List ℕ
   pub given : ClashGiven P subject predicate first second
-  pub written : out' ≡ subject ++ (predicate ∷ []) ++ first ++ second ++ drop clash_width out
+  pub written : numbers ≡ subject ++ (predicate ∷ []) ++ first ++ second
 
-abbrev pub ClashRecorded : List ℕ → List ℕ → List ℕ → List ℕ → ℕ → List ℕ → List ℕ → Type 0
-ClashRecorded arities nodes triples masks i out out' =
-    (P : Pack) (table : List (List ℕ)) → Input P table nodes triples masks → Arities P arities → ClashAt P nodes triples i
-    → ClashWritten P out out'
+abbrev pub ClashRecorded : List ℕ → Core → ℕ → List ℕ → Type 0
+ClashRecorded arities core i numbers =
+    (P : Pack) (table : List (List ℕ)) → InputOf P table core → Arities P arities → ClashAt P core.nodes.now core.triples.now i
+    → ClashWritten P numbers

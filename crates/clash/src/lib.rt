@@ -1,15 +1,18 @@
 // Refusal 10: a node with two p-objects and a type that allows one.
 #![tactic(auto)]
 
-ghost use Rattle.std.specs.Prelude.{get_or, length, ◌+◌, ◌<◌, ◌≤◌};
+ghost use Rattle.std.specs.Prelude.{get_or, length, slice_index, ◌≡◌, ◌+◌, ◌<◌};
 ghost use Rattle.spread.specs.Keys.{predicate_of, subject_of};
+ghost use Rattle.core_lists.specs.Input.{KeysSmall};
+ghost use Rattle.node_list.specs.Records.{core_numbers};
 ghost use Rattle.clash.specs.Clash.{ClashRecorded, ClashShown, Clashes};
-ghost use Rattle.core_lists.specs.Input.{KeysSmall, CoreFits};
-ghost use Rattle.meaning.specs.Limits.{clash_width, max_predicates};
+ghost use Rattle.meaning.specs.Limits.{max_predicates};
 
-use meaning::{Arities, NODE_WIDTH, PLACE_ROOM, PREDICATE_ROOM, SUBJECT_ROOM, ShapeTable};
-use node_list::write_core_node;
-use sets::ordered::Found;
+use core_lists::Core;
+use meaning::{
+    Arities, CLASH_WIDTH, NODE_WIDTH, PLACE_ROOM, PREDICATE_ROOM, SUBJECT_ROOM, ShapeTable,
+};
+use node_list::{core_node, write_record};
 use shapes::limited;
 
 // Whether the triple at a place and the one before clash: they have one subject and predicate, which a type limits to one object.
@@ -30,17 +33,16 @@ pub fn clashes(shapes: &ShapeTable, triples: &[u64], masks: &[u16], i: usize) ->
 }
 
 // Looks for the first clash. Triples ascend by subject, predicate and object: so the objects of a subject and a predicate stand side
-// by side, and the first two triples that clash are those asked for.
-pub fn find_clash(shapes: &ShapeTable, nodes: &[u64], triples: &[u64], masks: &[u16]) -> Found
-    requires { CoreFits nodes.now triples.now masks.now }
-    ensures { ClashShown shapes.now nodes.now triples.now masks.now result }
+// by side, and the first two triples that clash are those asked for. A loop and no `position`: what `clashes` says is no equation.
+pub fn find_clash(shapes: &ShapeTable, core: &Core) -> Option<usize>
+    ensures { ClashShown shapes.now core.now result }
 {
-    for i in 1..triples.len() {
-        if clashes(shapes, triples, masks, i) {
-            return Found::At(i - 1);
+    for i in 1..core.triples.len() {
+        if clashes(shapes, core.triples, core.masks, i) {
+            return Some(i - 1);
         }
     }
-    Found::Nothing
+    None
 }
 
 // Where the objects' records stand in a clash.
@@ -48,25 +50,28 @@ const FIRST_OBJECT: usize = NODE_WIDTH + 1;
 
 const SECOND_OBJECT: usize = FIRST_OBJECT + NODE_WIDTH;
 
-// Writes the clash at a place as numbers: the subject's record, the predicate, the records of both objects.
-pub fn clash_records(
-    arities: Arities,
-    nodes: &[u64],
-    triples: &[u64],
-    masks: &[u16],
-    i: usize,
-    out: &mut [u16],
-)
-    requires { CoreFits nodes.now triples.now masks.now × KeysSmall nodes.now × (i + 1 < length triples.now) × (clash_width ≤ length out.old) }
-    ensures { ClashRecorded arities nodes.now triples.now masks.now i out.old out.new }
+// The record of the core node at a place.
+fn record_at(arities: Arities, core: &Core, i: usize) -> [u16; NODE_WIDTH]
+    requires { KeysSmall core.now.nodes.now × (i < length core.now.nodes.now) }
+    ensures { result ≡ core_numbers arities (slice_index core.now.nodes.now i) (slice_index core.now.masks.now i) }
 {
-    let first = triples[i];
-    let second = triples[i + 1];
+    core_node(arities, core.nodes[i], core.masks[i])
+}
+
+// The clash at a place as numbers: the subject's record, the predicate, the records of both objects.
+pub fn clash_records(arities: Arities, core: &Core, i: usize) -> [u16; CLASH_WIDTH]
+    requires { KeysSmall core.now.nodes.now × (i + 1 < length core.now.triples.now) }
+    ensures { ClashRecorded arities core.now i result }
+{
+    let first = core.triples[i];
+    let second = core.triples[i + 1];
     let s = (first / SUBJECT_ROOM) as usize;
     let a = (first % PLACE_ROOM) as usize;
     let b = (second % PLACE_ROOM) as usize;
-    write_core_node(arities, nodes[s], masks[s], 0, out);
-    out[NODE_WIDTH] = (first / PLACE_ROOM % PREDICATE_ROOM) as u16;
-    write_core_node(arities, nodes[a], masks[a], FIRST_OBJECT, out);
-    write_core_node(arities, nodes[b], masks[b], SECOND_OBJECT, out);
+    let mut numbers = [0u16; CLASH_WIDTH];
+    write_record(&mut numbers, 0, &record_at(arities, core, s));
+    numbers[NODE_WIDTH] = (first / PLACE_ROOM % PREDICATE_ROOM) as u16;
+    write_record(&mut numbers, FIRST_OBJECT, &record_at(arities, core, a));
+    write_record(&mut numbers, SECOND_OBJECT, &record_at(arities, core, b));
+    numbers
 }

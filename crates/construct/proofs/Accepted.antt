@@ -1,10 +1,12 @@
 -- What is known of a pack that none of 3 to 8 refuses. Assumes nothing.
-use Rattle.std.proofs.Common.{◌≡◌, ℕ, Bool, true, false, List, sym, refl, ap, ◌∙◌, arith}
+use Rattle.std.proofs.Common.{◌≡◌, ℕ, Bool, true, false, List, sym, refl, ap, ◌∙◌, ◌≤◌, arith}
 use mathlib.Core.Option.{Option, none, some}
 use Rattle.pack.proofs.Accepted.{WellFormed}
 use Rattle.meaning.proofs.Theory.Theorem.{has_graph, none_obeys}
 use Rattle.meaning.specs.NoGraph.{NoGraph}
+use Rattle.meaning.proofs.RefusalNumbers.{number_of_refusal}
 use Rattle.meaning.specs.Pack.{Pack}
+use Rattle.meaning.specs.Refusals.{number_of as number, refusal_of}
 use Rattle.meaning.specs.WellFormed.{duplicates, prefix_clash, dangling, broken}
 use Rattle.pack.specs.Checked.{Checked, refused, accepted, first_true, on_pack, check_within, well_formed, first_refusal, number_of}
 use Rattle.pack.specs.Contents.{bad_size}
@@ -57,9 +59,35 @@ accepted_formed s P e =
     let z : ◌≡◌ {A = Checked} (accepted a.pack) (accepted P) = sym a.all ∙ e in
     a.formed ∙ z
 
--- a refusal has a number
-pub refused_some : (s : List ℕ) (k : ℕ) → first_refusal s ≡ refused k → k ≡ 0 → ⊥
-refused_some s k e z =
-    let a = accepts s (sym (ap number_of e ∙ z)) in
-    let q : ◌≡◌ {A = Checked} (accepted a.pack) (refused k) = sym a.all ∙ e in
-    absurd (let w : ◌≡◌ {A = ℕ} 0 1 = cc in omega arith)
+-- ---- "A refusal gives its number"
+
+-- the first refusal is one of 3 to 8
+first_within : (s : List ℕ) (k : ℕ) → first_refusal s ≡ refused k → (3 ≤ k) × (k ≤ 8)
+unfolding first_refusal check_within on_pack first_true
+first_within s k h = go (bad_size s) refl
+  where
+    here : (m : ℕ) → 3 ≤ m → m ≤ 8 → ◌≡◌ {A = Checked} (refused m) (refused k) → (3 ≤ k) × (k ≤ 8)
+    here m a b e = let z : m ≡ k = cc in (omega arith, omega arith)
+
+    tests : bad_size s ≡ false → (P : Pack) → unpack s ≡ some P → (a b c d : Bool) → duplicates P ≡ a → prefix_clash P ≡ b → dangling P ≡ c → broken P ≡ d → (3 ≤ k) × (k ≤ 8)
+    tests z P e true b c d u v w x = here 5 (omega arith) (omega arith) (rw (z, check_within, e, u, first_true) at h)
+    tests z P e false true c d u v w x = here 6 (omega arith) (omega arith) (rw (z, check_within, e, u, first_true, v) at h)
+    tests z P e false false true d u v w x = here 7 (omega arith) (omega arith) (rw (z, check_within, e, u, first_true, v, w) at h)
+    tests z P e false false false true u v w x = here 8 (omega arith) (omega arith) (rw (z, check_within, e, u, first_true, v, w, x) at h)
+    tests z P e false false false false u v w x =
+        let q : ◌≡◌ {A = Checked} (accepted P) (refused k) = rw (z, check_within, e, u, first_true, v, w, x) at h in
+        absurd (let y : ◌≡◌ {A = ℕ} 0 1 = cc in omega arith)
+
+    parsed : bad_size s ≡ false → (o : Option Pack) → unpack s ≡ o → (3 ≤ k) × (k ≤ 8)
+    parsed z none e = here 4 (omega arith) (omega arith) (rw (z, check_within, e) at h)
+    parsed z (some P) e = tests z P e (duplicates P) (prefix_clash P) (dangling P) (broken P) refl refl refl refl
+
+    go : (b : Bool) → bad_size s ≡ b → (3 ≤ k) × (k ≤ 8)
+    go true e = here 3 (omega arith) (omega arith) (rw (e, check_within) at h)
+    go false e = parsed e (unpack s) refl
+
+-- so the refusal that is answered has that number
+pub number_given : (s : List ℕ) (k : ℕ) → first_refusal s ≡ refused k → number (refusal_of k) ≡ k
+number_given s k h =
+    let (a, b) = first_within s k h in
+    number_of_refusal k (omega arith) (omega arith) (λ e. omega arith)

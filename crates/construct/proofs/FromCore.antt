@@ -1,10 +1,9 @@
 -- From what the graph builder says to what a core comes to. Assumes nothing.
-use Rattle.std.proofs.Common.{◌≡◌, ℕ, ◌+◌, ◌*◌, ◌<◌, ◌≤◌, List, [], ◌∷◌, ◌++◌, length, take, drop, sym, refl, ap, ◌∙◌, subst, append-nil, arith, take-append-drop}
+use Rattle.std.proofs.Common.{◌≡◌, ℕ, ◌+◌, ◌*◌, ◌<◌, ◌≤◌, List, [], ◌∷◌, ◌++◌, length, take, drop, sym, refl, ap, ◌∙◌, subst, Result, Ok, Err, arith, take-append-drop}
 use mathlib.Core.List.{flatten}
 use Rattle.calls.specs.Call.{Contents, ◌becomes◌}
-use Rattle.construct.specs.Outcome.{counted, refused_as}
+use Rattle.construct.specs.Outcome.{refused_as}
 use Rattle.construct.specs.Steps.{CoreGiven, FromCore, GraphLeft, OfCore, clash, graph, mixed}
-use Rattle.construct.specs.declared.Constructed.{Constructed}
 use Rattle.clash.proofs.ClashRecords.{clash_place}
 use Rattle.graph.proofs.Fronts.{at_front, index_length, listed_there, node_length, triple_length}
 use Rattle.graph.proofs.SubjectEntries.{entries_flat, entries_say, entries_of}
@@ -14,17 +13,21 @@ use Rattle.graph.specs.Fronts.{GraphListed}
 use Rattle.index.specs.Subjects.{Indexed}
 use Rattle.index.specs.Triples.{GraphFits, SubjectsRise}
 use Rattle.clash.specs.Clash.{ClashAt, ClashRecorded}
-use Rattle.core_lists.specs.Input.{Input}
+use Rattle.core_lists.specs.Held.{InputOf}
+use Rattle.core_lists.specs.declared.Core.{Core}
 use Rattle.node_list.specs.Records.{Arities}
-use Rattle.graph.specs.declared.Built.{Built}
-use Rattle.graph.specs.declared.Built.TheVariants.{Clash, Graph, Mixed}
-use Rattle.meaning.specs.Limits.{clash_width, index_width, node_width, triple_list_length}
+use Rattle.graph.specs.declared.NoGraph.{NoGraph}
+use Rattle.graph.specs.declared.NoGraph.TheVariants.{Clash, Mixed}
+use Rattle.graph.specs.declared.Size.{Size}
+use Rattle.meaning.specs.Limits.{index_width, node_width, triple_list_length}
 use Rattle.meaning.specs.Listing.{SubjectIndex}
 use Rattle.meaning.specs.Pack.{Pack}
+use Rattle.meaning.specs.declared.refusal.Refusal.{Refusal}
+use Rattle.meaning.specs.declared.refusal.Refusal.TheVariants.{Clash as Clashing}
 
 -- the answer with a clash's numbers
-abbrev pub with_clash : List ℕ → Constructed
-with_clash numbers = record { refusal = 10; nodes = 0; triples = 0; clash = numbers }
+abbrev pub with_clash : List ℕ → Result Size Refusal
+with_clash numbers = Err (Clashing numbers)
 
 -- the numbers at the front of the lists, and their index
 graph_left : {P : Pack} {n t : ℕ} (nodes triples index : Contents) → GraphWritten P n t nodes triples → Indexed triples.after n t index.before index.after
@@ -56,46 +59,44 @@ graph_left {P} {n} {t} nodes triples index w x = record {
         sym (take-append-drop (n * index_width) index.after) ∙ (λ i. entries_flat n index.after x.says.long i ++ x.kept i)
         ∙ ap (λ k. flatten (entries_of n index.after) ++ drop k index.before) (sym (index_length I))
 
-module _ (table : List (List ℕ)) (arities nodes triples masks out out' edges edges' : List ℕ) (r : Built)
-    (shown : BuildShown table arities nodes triples masks out out' edges edges' r) where
+module _ (table : List (List ℕ)) (arities : List ℕ) (core : Core) (out out' edges edges' : List ℕ) (r : Result Size NoGraph)
+    (shown : BuildShown table arities core out out' edges edges' r) where
   -- ---- the graph
 
-  module _ (n t : ℕ) (e : r ≡ Graph n t) where
-    written_for : (P : Pack) → Input P table nodes triples masks → Arities P arities → GraphWritten P n t (out becomes out') (edges becomes edges')
-    written_for = subst (BuildShown table arities nodes triples masks out out' edges edges') e shown
+  module _ (size : Size) (e : r ≡ Ok size) where
+    written_for : (P : Pack) → InputOf P table core → Arities P arities → GraphWritten P size.nodes size.triples (out becomes out') (edges becomes edges')
+    written_for = subst (BuildShown table arities core out out' edges edges') e shown
 
     -- what the index asks
-    pub index_ready : CoreGiven table arities nodes triples masks → triple_list_length ≤ length edges' → GraphFits n t edges' × SubjectsRise edges' t
+    pub index_ready : CoreGiven table arities core → triple_list_length ≤ length edges' → GraphFits size.nodes size.triples edges' × SubjectsRise edges' size.triples
     index_ready g room =
         let w = listed_there (written_for g.pack g.input g.arity) in
         (graph_fits edges' w (omega (arith, w.few_triples)), subjects_rise edges' w)
 
-    pub graph_answer : (a : Constructed) → a ≡ counted n t → (index index' : List ℕ) → Indexed edges' n t index index'
-        → OfCore table arities nodes triples masks (λ P. FromCore P a (out becomes out') (edges becomes edges') (index becomes index'))
-    graph_answer a q index index' x P I A = graph n t (graph_left (out becomes out') (edges becomes edges') (index becomes index') (written_for P I A) x) q
+    pub graph_answer : (a : Result Size Refusal) → a ≡ Ok size → (index index' : List ℕ) → Indexed edges' size.nodes size.triples index index'
+        → OfCore table arities core (λ P. FromCore P a (out becomes out') (edges becomes edges') (index becomes index'))
+    graph_answer a q index index' x P I A = graph size.nodes size.triples (graph_left (out becomes out') (edges becomes edges') (index becomes index') (written_for P I A) x) q
 
   -- ---- 11
 
-  pub mixed_answer : r ≡ Mixed → (a : Constructed) → a ≡ refused_as 11 → (index : List ℕ)
-      → OfCore table arities nodes triples masks (λ P. FromCore P a (out becomes out') (edges becomes edges') (index becomes index))
+  pub mixed_answer : r ≡ Err Mixed → (a : Result Size Refusal) → a ≡ refused_as 11 → (index : List ℕ)
+      → OfCore table arities core (λ P. FromCore P a (out becomes out') (edges becomes edges') (index becomes index))
   mixed_answer e a q index P I A =
-      let s = subst (BuildShown table arities nodes triples masks out out' edges edges') e shown in
+      let s = subst (BuildShown table arities core out out' edges edges') e shown in
       mixed (s.2 P I).0 (s.2 P I).1 q (s.0, (s.1, (refl, tt)))
 
   -- ---- 10
 
-  module _ (i : ℕ) (e : r ≡ Clash i) where
-    clash_at : (P : Pack) → Input P table nodes triples masks → ClashAt P nodes triples i
-    clash_at = (subst (BuildShown table arities nodes triples masks out out' edges edges') e shown).2
+  module _ (i : ℕ) (e : r ≡ Err (Clash i)) where
+    clash_at : (P : Pack) → InputOf P table core → ClashAt P core.nodes.now core.triples.now i
+    clash_at = (subst (BuildShown table arities core out out' edges edges') e shown).2
 
-    pub clash_inside : CoreGiven table arities nodes triples masks → i + 1 < length triples
+    pub clash_inside : CoreGiven table arities core → i + 1 < length core.triples.now
     clash_inside g = let h = clash_place (clash_at g.pack g.input) in omega arith
 
-    pub clash_answer : (before after : List ℕ) → drop clash_width before ≡ [] → ClashRecorded arities nodes triples masks i before after → (index : List ℕ)
-        → OfCore table arities nodes triples masks (λ P. FromCore P (with_clash after) (out becomes out') (edges becomes edges') (index becomes index))
-    clash_answer before after none w index P I A =
-        let s = subst (BuildShown table arities nodes triples masks out out' edges edges') e shown in
+    pub clash_answer : (numbers : List ℕ) → ClashRecorded arities core i numbers → (index : List ℕ)
+        → OfCore table arities core (λ P. FromCore P (with_clash numbers) (out becomes out') (edges becomes edges') (index becomes index))
+    clash_answer numbers w index P I A =
+        let s = subst (BuildShown table arities core out out' edges edges') e shown in
         let c = w P table I A (clash_at P I) in
-        let numbers = c.subject ++ (c.predicate ∷ []) ++ c.first ++ c.second in
-        let q : after ≡ numbers = c.written ∙ ap (λ z. numbers ++ z) none ∙ append-nil numbers in
-        clash c.subject c.predicate c.first c.second c.given (ap with_clash q) (s.0, (s.1, (refl, tt)))
+        clash c.subject c.predicate c.first c.second c.given (ap with_clash c.written) (s.0, (s.1, (refl, tt)))

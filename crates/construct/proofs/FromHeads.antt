@@ -1,9 +1,8 @@
 -- From the heads of a pack to its core, and on to what it comes to. Assumes nothing.
-use Rattle.std.proofs.Common.{◌≡◌, ℕ, ◌≤◌, true, ltb, List, length, take, sym, subst, inl, arith, length-take-le, ltb-false, ltb-true}
+use Rattle.std.proofs.Common.{◌≡◌, ℕ, ◌≤◌, true, ltb, List, Result, Ok, Err, length, take, sym, subst, inl, arith, length-take-le, ltb-false, ltb-true}
 use Rattle.calls.specs.Call.{Contents, Kept}
 use Rattle.construct.specs.Outcome.{refused_as}
-use Rattle.construct.specs.Steps.{CoreGiven, FromCore, FromHeads, HeadsGiven, HeadsOf, OfCore, OfHeads, large, small}
-use Rattle.construct.specs.declared.Constructed.{Constructed}
+use Rattle.construct.specs.Steps.{FromCore, FromHeads, HeadsGiven, HeadsOf, OfHeads, large, small}
 use Rattle.core_graph.proofs.Fits.{heads_fit}
 use Rattle.core_graph.proofs.Iris.{iris_over}
 use Rattle.core_graph.proofs.Shapes.{codes_fit, tabled}
@@ -11,21 +10,23 @@ use Rattle.core_graph.specs.Bounds.{Bounded, HeadsFit}
 use Rattle.core_graph.specs.Heads.{HeadsHeld}
 use Rattle.core_graph.specs.CoreHeld.{CoreHeld}
 use Rattle.core_graph.specs.Outcomes.{CoreAnswer, CoreListed}
-use Rattle.core_graph.specs.declared.Outcome.TheVariants.{Held, TooLarge}
-use Rattle.core_graph.specs.declared.Outcome.{Outcome}
+use Rattle.core_graph.specs.declared.CoreSize.{CoreSize}
 use Rattle.core_lists.specs.Input.{Input}
 use Rattle.graph.specs.Fronts.{graph_lists}
+use Rattle.graph.specs.declared.Size.{Size}
 use Rattle.node_list.specs.Records.{Arities}
 use Rattle.meaning.specs.Limits.{first_literal, heads_length, max_core_nodes, max_core_triples, max_iris}
 use Rattle.meaning.specs.NoGraph.{CoreIri}
 use Rattle.meaning.specs.Ordered.{Over}
 use Rattle.meaning.specs.Pack.{Pack}
 use Rattle.meaning.specs.Tables.{ShapeTable}
+use Rattle.meaning.specs.declared.refusal.Refusal.{Refusal}
 use Rattle.names.specs.PackGiven.{ForSetting, IsSetting}
 use Rattle.rule_heads.proofs.HeldRule.{bounded}
 use Rattle.rule_heads.specs.declared.AllHeads.{AllHeads}
 use Rattle.meaning.proofs.Cases.{case_on}
 use Rattle.sets.specs.Ordered.{rank_of}
+use Rattle.sets.specs.declared.ordered.Full.{Full}
 use Rattle.shapes.specs.Shapes.{CodesFit}
 use Rattle.tables.specs.Tables.{HeadTable, IsResolvedSetting}
 
@@ -42,7 +43,7 @@ pub record Tables (counts numbers : List ℕ) (table rules : List (List ℕ)) : 
   pub heads : ForSetting counts numbers (λ P. HeadTable P rules)
 
 -- and what the core answered
-pub record Cored (counts numbers : List ℕ) (found : AllHeads) (heads : List ℕ) (table rules : List (List ℕ)) (nodes triples masks : List ℕ) (r : Outcome) : Type 0 where
+pub record Cored (counts numbers : List ℕ) (found : AllHeads) (heads : List ℕ) (table rules : List (List ℕ)) (nodes triples masks : List ℕ) (r : Result CoreSize Full) : Type 0 where
   pub tables : Tables counts numbers table rules
   pub answer : CoreAnswer r table rules found.count heads found.counts nodes triples masks
   pub room : length nodes ≡ max_core_nodes
@@ -63,56 +64,54 @@ module _ {counts numbers : List ℕ} {found : AllHeads} {heads : List ℕ} where
         let f = g.is.found in
         (codes_fit (t.shapes g.pack g.is.given) b, heads_fit (heads_held g.is) b f.few l f.short)
 
-module _ {counts numbers : List ℕ} {found : AllHeads} {heads : List ℕ} {table rules : List (List ℕ)} {nodes triples masks : List ℕ} {r : Outcome}
+module _ {counts numbers : List ℕ} {found : AllHeads} {heads : List ℕ} {table rules : List (List ℕ)} {nodes triples masks : List ℕ} {r : Result CoreSize Full}
     (k : Cored counts numbers found heads table rules nodes triples masks r) where
   -- 9
-  pub large_answer : {a : Constructed} {out edges index : Contents} → r ≡ TooLarge → a ≡ refused_as 9 → Kept (graph_lists out edges index)
+  pub large_answer : {a : Result Size Refusal} {out edges index : Contents} {x : Full} → r ≡ Err x → a ≡ refused_as 9 → Kept (graph_lists out edges index)
       → OfHeads counts numbers found heads (λ P. FromHeads P a out edges index)
   large_answer e q x P g =
-      large (subst (λ (o : Outcome). CoreAnswer o table rules found.count heads found.counts nodes triples masks) e k.answer P (heads_held k.tables g) (within g)) q x
+      large (subst (λ (o : Result CoreSize Full). CoreAnswer o table rules found.count heads found.counts nodes triples masks) e k.answer P (heads_held k.tables g) (within g)) q x
 
-  module _ {n t rounds : ℕ} (e : r ≡ Held n t rounds) where
-    listed : CoreListed n t rounds table rules found.count heads found.counts nodes triples masks
-    listed = subst (λ (o : Outcome). CoreAnswer o table rules found.count heads found.counts nodes triples masks) e k.answer
+  module _ {size : CoreSize} (e : r ≡ Ok size) where
+    listed : CoreListed size.nodes size.triples size.rounds table rules found.count heads found.counts nodes triples masks
+    listed = subst (λ (o : Result CoreSize Full). CoreAnswer o table rules found.count heads found.counts nodes triples masks) e k.answer
 
     -- as many as are taken of the two lists
-    pub node_room : n ≤ length nodes
+    pub node_room : size.nodes ≤ length nodes
     node_room = omega (arith, listed.few_nodes, k.room)
 
-    pub triple_room : t ≤ length triples
+    pub triple_room : size.triples ≤ length triples
     triple_room = omega (arith, listed.few_triples, k.space)
 
-    pub nodes_taken : n ≡ length (take n nodes)
-    nodes_taken = sym (length-take-le n nodes node_room)
+    pub nodes_taken : size.nodes ≡ length (take size.nodes nodes)
+    nodes_taken = sym (length-take-le size.nodes nodes node_room)
 
-    pub triples_taken : t ≡ length (take t triples)
-    triples_taken = sym (length-take-le t triples triple_room)
+    pub triples_taken : size.triples ≡ length (take size.triples triples)
+    triples_taken = sym (length-take-le size.triples triples triple_room)
 
     -- the core of the pack
-    input : {P : Pack} → HeadsOf P counts numbers found heads → Input P table (take n nodes) (take t triples) masks
+    pub input : {P : Pack} → HeadsOf P counts numbers found heads → Input P table (take size.nodes nodes) (take size.triples triples) masks
     input {P} g = record {
       bounded = within g;
       shapes = k.tables.shapes P g.given;
       held = held;
       few = omega (arith, listed.few_nodes, nodes_taken);
-      iris = case_on (ltb max_iris (rank_of first_literal (take n nodes)))
+      iris = case_on (ltb max_iris (rank_of first_literal (take size.nodes nodes)))
           (λ h. absurd (listed.within P (heads_held k.tables g) (within g) (inl (over h))))
-          (λ h. ltb-false max_iris (rank_of first_literal (take n nodes)) h);
+          (λ h. ltb-false max_iris (rank_of first_literal (take size.nodes nodes)) h);
       short = omega (arith, listed.few_triples, triples_taken);
     }
       where
-        held : CoreHeld P (take n nodes) (take t triples) masks
+        held : CoreHeld P (take size.nodes nodes) (take size.triples triples) masks
         held = listed.held P (heads_held k.tables g) (within g) (tabled (k.tables.shapes P g.given) (within g))
 
-        over : ltb max_iris (rank_of first_literal (take n nodes)) ≡ true → Over max_iris (CoreIri P)
+        over : ltb max_iris (rank_of first_literal (take size.nodes nodes)) ≡ true → Over max_iris (CoreIri P)
         over h =
-            iris_over (within g) (take n nodes) held.node_keys_are.ascending (λ i m. (held.node_keys_are.members i).0 m)
-            (ltb-true max_iris (rank_of first_literal (take n nodes)) h)
+            iris_over (within g) (take size.nodes nodes) held.node_keys_are.ascending (λ i m. (held.node_keys_are.members i).0 m)
+            (ltb-true max_iris (rank_of first_literal (take size.nodes nodes)) h)
 
     module _ {arities : List ℕ} (are : ForSetting counts numbers (λ P. Arities P arities)) where
-      pub core_given : HeadsGiven counts numbers found heads → CoreGiven table arities (take n nodes) (take t triples) masks
-      core_given g = record { pack = g.pack; input = input g.is; arity = are g.pack g.is.given }
-
-      pub small_answer : {a : Constructed} {out edges index : Contents} → OfCore table arities (take n nodes) (take t triples) masks (λ P. FromCore P a out edges index)
+      pub small_answer : {a : Result Size Refusal} {out edges index : Contents}
+          → ((P : Pack) → Input P table (take size.nodes nodes) (take size.triples triples) masks → Arities P arities → FromCore P a out edges index)
           → OfHeads counts numbers found heads (λ P. FromHeads P a out edges index)
       small_answer o P g = small (listed.within P (heads_held k.tables g) (within g)) (o P (input g) (are P g.given))

@@ -1,18 +1,17 @@
 -- From what the steps say to what a pack comes to. Assumes nothing.
-use Rattle.std.proofs.Common.{◌≡◌, ℕ, false, List, sym, refl, ap, ◌∙◌, subst, inl, inr, ⊎_elim, arith}
+use Rattle.std.proofs.Common.{◌≡◌, ℕ, false, List, Result, Err, sym, ap, subst, inl, inr, ⊎_elim}
 use Rattle.checks.specs.Checked.{Accepted, CheckedAs, SettingLoaded}
-use Rattle.checks.specs.declared.Checked.{Checked}
-use Rattle.pack.proofs.Accepted.{WellFormed, keeps_dependencies, refused_8, refused_before, well_formed_lem}
+use Rattle.pack.proofs.Accepted.{WellFormed, keeps_dependencies, refused_8, refused_first, well_formed_lem}
 use Rattle.construct.proofs.Accepted.{Accepts, none_obey, some_obeys}
 use Rattle.calls.specs.Call.{Contents, Kept, gives, refuses}
 use Rattle.construct.specs.Outcome.{Constructs, Gives, HasGraph, counted, mixed_kinds, not_accepted, refused_as, too_large, two_objects}
 use Rattle.construct.specs.Steps.{FromCore, FromHeads, FromRows, clash, dependency, graph, kept, large, mixed, small}
-use Rattle.construct.specs.declared.Constructed.{Constructed}
 use Rattle.graph.specs.Fronts.{graph_lists}
+use Rattle.graph.specs.declared.Size.{Size}
 use Rattle.meaning.specs.NoGraph.{TooLarge}
 use Rattle.meaning.specs.Pack.{Pack, Text}
 use Rattle.meaning.specs.WellFormed.{broken}
-use Rattle.pack.specs.Checked.{Checked as Found, accepted, first_refusal, number_of, refused}
+use Rattle.meaning.specs.declared.refusal.Refusal.{Refusal}
 use Rattle.names.specs.PackGiven.{ForResolved, IsResolved, Resolved}
 
 -- ---- the pack is well formed, and the numbers hold it
@@ -27,7 +26,7 @@ module _ {s counts numbers rows : List ℕ} (a : Accepted s counts numbers rows)
   pub is_resolved : IsResolved counts numbers rows
   is_resolved = record { pack = a.pack; is = resolved_of }
 
-  setting_loaded : SettingLoaded s counts numbers
+  pub setting_loaded : SettingLoaded s counts numbers
   setting_loaded = record { pack = a.pack; is = a.is; held = a.held.setting; given = a.given.setting }
 
   -- and it keeps its dependencies
@@ -39,27 +38,12 @@ module _ {s counts numbers rows : List ℕ} (a : Accepted s counts numbers rows)
 formed : {s : Text} (a : Accepts s) → WellFormed s a.pack
 formed {s} a = well_formed_lem s a.pack a.formed
 
-module _ {pack : Text} {r : Constructed} where
+module _ {pack : Text} {r : Result Size Refusal} where
   -- a graph of so many nodes and triples, counted so
   counted_graph : {fronts : List (List ℕ)} (P : Pack) (n t : ℕ) → r ≡ counted n t → HasGraph pack P n t fronts → Gives pack r fronts
-  counted_graph {fronts} P n t q h =
-      record {
-        of = P;
-        has = subst (λ (z : ℕ × ℕ). HasGraph pack P z.0 z.1 fronts) (λ i. ((sym q i).nodes, (sym q i).triples)) h;
-        counts = q
-            ∙ (λ i. counted (sym q i).nodes (sym q i).triples);
-      }
+  counted_graph {fronts} P n t q h = subst (λ s. Gives pack s fronts) (sym q) (record { of = P; has = h })
 
-module _ {pack : Text} {r : Constructed} {nodes triples index : Contents} where
-  -- 3 to 8
-  refused_answer : (k : ℕ) → k ≡ number_of (first_refusal pack) → (k ≡ 0 → ⊥) → r ≡ refused_as k → Kept (graph_lists nodes triples index)
-      → Constructs pack r nodes triples index
-  refused_answer k e n h x = go (first_refusal pack) refl e
-    where
-      go : (c : Found) → first_refusal pack ≡ c → k ≡ number_of c → Constructs pack r nodes triples index
-      go (refused m) w q = refuses (not_accepted m w (h ∙ ap refused_as q)) x
-      go (accepted P) w q = absurd (n q)
-
+module _ {pack : Text} {r : Result Size Refusal} {nodes triples index : Contents} where
   module _ (a : Accepts pack) where
     -- 9
     large_heads : TooLarge a.pack → r ≡ refused_as 9 → Kept (graph_lists nodes triples index) → Constructs pack r nodes triples index
@@ -77,19 +61,16 @@ module _ {pack : Text} {r : Constructed} {nodes triples index : Contents} where
     heads_answer (large h q x) = large_heads h q x
     heads_answer (small n c) = core_answer n c
 
-  -- 3 to 7
-  pub checked_answer : {c : Checked} {numbers rows : List ℕ} → CheckedAs pack c numbers rows → (c.refusal ≡ 0 → ⊥) → r ≡ refused_as c.refusal
-      → Kept (graph_lists nodes triples index) → Constructs pack r nodes triples index × (r.refusal ≡ 0 → SettingLoaded pack c.counts numbers)
-  checked_answer {c} k n q x = (
-    refused_answer c.refusal (refused_before pack c.refusal k.first n) n q x,
-    λ z. absurd (n (sym (ap (λ (a : Constructed). a.refusal) q) ∙ z)),
-  )
-
   -- 8 to 11, or the graph
   pub rows_answer : {counts numbers rows : List ℕ} → Accepted pack counts numbers rows → ForResolved counts numbers rows (λ P. FromRows P r nodes triples index)
-      → Constructs pack r nodes triples index × (r.refusal ≡ 0 → SettingLoaded pack counts numbers)
-  rows_answer a f = (go (f a.pack (resolved_of a)), λ z. setting_loaded a)
+      → Constructs pack r nodes triples index
+  rows_answer a f = go (f a.pack (resolved_of a))
     where
       go : FromRows a.pack r nodes triples index → Constructs pack r nodes triples index
-      go (dependency b q x) = refused_answer 8 (refused_8 pack a.pack (pack_formed a) b) (λ z. omega arith) q x
+      go (dependency b q x) = refuses (not_accepted 8 (refused_8 pack a.pack (pack_formed a) b) q) x
       go (kept b h) = heads_answer (keeps a b) h
+
+-- 3 to 7
+pub checked_answer : {pack : Text} {e : Refusal} (numbers rows : List ℕ) {nodes triples index : Contents} → CheckedAs pack (Err e) numbers rows
+    → Kept (graph_lists nodes triples index) → Constructs pack (Err e) nodes triples index
+checked_answer {pack} numbers rows (k, w, q) x = refuses (not_accepted k (refused_first pack k w) (ap Err q)) x

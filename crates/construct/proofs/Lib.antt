@@ -4,4 +4,4 @@ pub mod FromHeads
 pub mod FromRows
 pub mod FromSteps
 pub mod Once
-pub mod RefusalNumbers
+pub mod Refused

@@ -1,14 +1,16 @@
 -- The outcomes of the steps from a pack to its graph: from its rows, from its heads, from its core. Assumes nothing.
-use Rattle.std.specs.Prelude.{◌≡◌, ℕ, true, false, List}
+use Rattle.std.specs.Prelude.{◌≡◌, ℕ, true, false, List, Result}
 use Rattle.calls.specs.Call.{Contents, Kept, Written}
 use Rattle.construct.specs.Outcome.{clashing, counted, refused_as}
-use Rattle.construct.specs.declared.Constructed.{Constructed}
 use Rattle.graph.specs.Fronts.{GraphFronts, graph_lists}
-use Rattle.core_lists.specs.Input.{Input}
+use Rattle.graph.specs.declared.Size.{Size}
+use Rattle.core_lists.specs.Held.{InputOf}
+use Rattle.core_lists.specs.declared.Core.{Core}
 use Rattle.node_list.specs.Records.{Arities}
 use Rattle.meaning.specs.Clash.{ClashGiven}
 use Rattle.meaning.specs.NoGraph.{MixedKinds, TooLarge, TwoObjects}
 use Rattle.meaning.specs.Pack.{Pack}
+use Rattle.meaning.specs.declared.refusal.Refusal.{Refusal}
 use Rattle.meaning.specs.WellFormed.{broken, dangling}
 use Rattle.names.specs.PackGiven.{SettingGiven}
 use Rattle.rule_heads.specs.Answer.{HeadsFound}
@@ -22,7 +24,7 @@ pub record GraphLeft (P : Pack) (n t : ℕ) (nodes triples index : Contents) : T
   pub not_10 : ¬ TwoObjects P
   pub not_11 : ¬ MixedKinds P
 
-module _ (P : Pack) (r : Constructed) (nodes triples index : Contents) where
+module _ (P : Pack) (r : Result Size Refusal) (nodes triples index : Contents) where
   -- the lists are as they were
   abbrev pub ListsKept : Type 0
   ListsKept = Kept (graph_lists nodes triples index)
@@ -45,13 +47,13 @@ module _ (P : Pack) (r : Constructed) (nodes triples index : Contents) where
     kept : broken P ≡ false → FromHeads → FromRows
 
 -- The core's numbers are those of some pack; what is answered is true of each.
-pub record CoreGiven (table : List (List ℕ)) (arities nodes triples masks : List ℕ) : Type 0 where
+pub record CoreGiven (table : List (List ℕ)) (arities : List ℕ) (core : Core) : Type 0 where
   pub pack : Pack
-  pub input : Input pack table nodes triples masks
+  pub input : InputOf pack table core
   pub arity : Arities pack arities
 
-abbrev pub OfCore : List (List ℕ) → List ℕ → List ℕ → List ℕ → List ℕ → (Pack → Type 0) → Type 0
-OfCore table arities nodes triples masks Q = (P : Pack) → Input P table nodes triples masks → Arities P arities → Q P
+abbrev pub OfCore : List (List ℕ) → List ℕ → Core → (Pack → Type 0) → Type 0
+OfCore table arities core Q = (P : Pack) → InputOf P table core → Arities P arities → Q P
 
 -- The setting's numbers and the heads are those of this pack, of which refusal 7 is false.
 pub record HeadsOf (P : Pack) (counts numbers : List ℕ) (a : AllHeads) (heads : List ℕ) : Type 0 where

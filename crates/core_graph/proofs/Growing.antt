@@ -6,14 +6,16 @@ use mathlib.Core.Logic.{inl, inr, ⊎_swap}
 use mathlib.Core.Path.{refl, subst}
 use native.Mathlib.Decide.{dec_lt}
 use native.Mathlib.Omega.{arith}
-use Rattle.core_graph.specs.Collected.{Adding, Beyond, FromKeys, FromRules, SetGrown}
+use Rattle.core_graph.specs.Collected.{Beyond, FromKeys, FromRules, Grown, SetGrown}
 use Rattle.core_graph.specs.Heads.{keys_of}
-use Rattle.core_graph.specs.declared.counted.Counted.{Counted}
-use Rattle.core_graph.specs.declared.counted.Counted.TheVariants.{Count, TooLarge}
+use Rattle.sets.specs.declared.ordered.Full.{Full}
+use Rattle.std.specs.Prelude.{Bool, false, true, Ok, Err}
 use Rattle.meaning.specs.Member.{◌∈◌}
 use Rattle.meaning.specs.Ordered.{InOrder}
 use Rattle.sets.proofs.Insert.{insert_ascending, insert_length, insert_only}
 use Rattle.sets.proofs.Insertion.{added_list, present_list}
+use Rattle.sets.proofs.Slices.{same_then}
+use Rattle.sets.specs.OrderedSet.{Inserted, OrderedSet, members_of}
 use Rattle.sets.specs.Ordered.{WasAdded, WasFull, WasPresent, insert_sorted}
 use Rattle.meaning.proofs.Lists.SetLists.{list_as, own_list}
 use Rattle.meaning.proofs.Lists.Members.{front_more, take_in}
@@ -34,6 +36,14 @@ module _ {n x : ℕ} {d d' : List ℕ} (l : n ≤ length d) (a : InOrder ◌<◌
     members = λ y m. ⊎_swap (insert_only x y (take n d) m);
     over = omega (arith, insert_length x (take n d) w.new, length-take n d, w.full);
   }
+
+module _ {x : ℕ} {a b : OrderedSet} (l : a.count ≤ length a.keys) (o : InOrder ◌<◌ (members_of a)) where
+  pub grows_one : (added : Bool) → Inserted (Ok added) x a b → Grown (λ y. y ≡ x) a b
+  grows_one true i = (rw i.count (grown_added l o i.answer i.same.long), i.same)
+  grows_one false i = (rw i.count (grown_present l o i.answer i.same.long), i.same)
+
+  pub one_beyond : {e : Full} → Inserted (Err e) x a b → Beyond (length a.keys) (λ y. (y ∈ members_of a) ⊎ (y ≡ x))
+  one_beyond i = grown_full l o i.answer
 
 -- ---- no number
 
@@ -72,25 +82,28 @@ module _ {X Y Z : ℕ → Type 0} {n m : ℕ} {d₀ d : List ℕ} (both : (y : �
   pub beyond_then : length d ≡ length d₀ → Beyond (length d) (λ y. (y ∈ take m d) ⊎ Y y) → Beyond (length d₀) (λ y. (y ∈ take n d₀) ⊎ Z y)
   beyond_then e b = subst (λ k. Beyond k (λ y. (y ∈ take n d₀) ⊎ Z y)) e (beyond_as forth b)
 
-  pub adding_then : (r : Counted) (d' : List ℕ) → length d ≡ length d₀ → Adding r Y m d d' → Adding r Z n d₀ d'
-  adding_then (Count k) d' e h = grown_then h
-  adding_then TooLarge d' e b = beyond_then e b
+module _ {X Y Z : ℕ → Type 0} {a b : OrderedSet} (both : (y : ℕ) → (X y ⊎ Y y) ↔ Z y) (g : Grown X a b) where
+  pub grows_then : {c : OrderedSet} → Grown Y b c → Grown Z a c
+  grows_then h = (grown_then both g.0 h.0, same_then g.1 h.1)
+
+  pub full_then : Beyond (length b.keys) (λ y. (y ∈ members_of b) ⊎ Y y) → Beyond (length a.keys) (λ y. (y ∈ members_of a) ⊎ Z y)
+  full_then w = beyond_then both g.0 g.1.long w
 
 -- the same numbers, said in another way
-pub adding_as : {X Y : ℕ → Type 0} (n : ℕ) (d : List ℕ) → ((y : ℕ) → X y ↔ Y y) → (r : Counted) (d' : List ℕ) → Adding r X n d d' → Adding r Y n d d'
-adding_as {X} {Y} n d h r d' = go r
-  where
-    forth : (y : ℕ) → (y ∈ take n d) ⊎ X y → (y ∈ take n d) ⊎ Y y
-    forth y (inl m) = inl m
-    forth y (inr x) = inr ((h y).0 x)
+module _ {X Y : ℕ → Type 0} (a : OrderedSet) (h : (y : ℕ) → X y ↔ Y y) where
+  ahead : (y : ℕ) → (y ∈ members_of a) ⊎ X y → (y ∈ members_of a) ⊎ Y y
+  ahead y (inl m) = inl m
+  ahead y (inr x) = inr ((h y).0 x)
 
-    back : (y : ℕ) → (y ∈ take n d) ⊎ Y y → (y ∈ take n d) ⊎ X y
-    back y (inl m) = inl m
-    back y (inr q) = inr ((h y).1 q)
+  behind : (y : ℕ) → (y ∈ members_of a) ⊎ Y y → (y ∈ members_of a) ⊎ X y
+  behind y (inl m) = inl m
+  behind y (inr q) = inr ((h y).1 q)
 
-    go : (r : Counted) → Adding r X n d d' → Adding r Y n d d'
-    go (Count m) g = record { fits = g.fits; list = list_as (λ y. (forth y, back y)) g.list }
-    go TooLarge b = beyond_as forth b
+  pub grows_as : {b : OrderedSet} → Grown X a b → Grown Y a b
+  grows_as g = (record { fits = g.0.fits; list = list_as (λ y. (ahead y, behind y)) g.0.list }, g.1)
+
+  pub full_as : Beyond (length a.keys) (λ y. (y ∈ members_of a) ⊎ X y) → Beyond (length a.keys) (λ y. (y ∈ members_of a) ⊎ Y y)
+  full_as w = beyond_as ahead w
 
 -- ---- match by match, and rule by rule
 

@@ -4,10 +4,11 @@ use Rattle.std.specs.Prelude.{◌≡◌, ℕ, ◌⊎◌, ◌↔◌, List, [], �
 use mathlib.Core.List.Memᴰ
 use mathlib.Core.Logic.{inl, inr}
 use Rattle.core_graph.proofs.Growing.{beyond_as}
-use Rattle.core_graph.specs.Collected.{Beyond, SetGrown, node_keys, object_key, subject_key}
+use Rattle.core_graph.specs.Collected.{Beyond, Grown, node_keys, object_key, subject_key}
 use Rattle.core_graph.specs.Heads.{kind_number}
 use Rattle.meaning.specs.Member.{◌∈◌, here, there}
 use Rattle.meaning.proofs.Lists.SetLists.{list_as}
+use Rattle.sets.specs.OrderedSet.{OrderedSet, members_of}
 
 module _ (head : List ℕ) (k : ℕ) where
   pub keys_of_type : kind_number head ≡ 0 → node_keys head k ≡ subject_key head k ∷ []
@@ -34,15 +35,14 @@ module _ (head : List ℕ) (k : ℕ) where
   pub link_keys : (kind_number head ≡ 0 → ⊥) → (y : ℕ) → ((y ≡ subject_key head k) ⊎ (y ≡ object_key head k)) ↔ (y ∈ node_keys head k)
   link_keys n y = rw (keys_of_link n) (both, two)
 
-  pub type_keys : {n m : ℕ} {d d' : List ℕ} → kind_number head ≡ 0 → SetGrown (λ y. y ≡ subject_key head k) n m d d'
-      → SetGrown (λ y. y ∈ node_keys head k) n m d d'
-  type_keys {n} {d = d} e g = record { fits = g.fits; list = list_as (λ y. (forth y, back y)) g.list }
+  pub type_keys : {a b : OrderedSet} → kind_number head ≡ 0 → Grown (λ y. y ≡ subject_key head k) a b → Grown (λ y. y ∈ node_keys head k) a b
+  type_keys {a} e g = (record { fits = g.0.fits; list = list_as (λ y. (forth y, back y)) g.0.list }, g.1)
     where
-      forth : (y : ℕ) → (y ∈ take n d) ⊎ (y ≡ subject_key head k) → (y ∈ take n d) ⊎ (y ∈ node_keys head k)
+      forth : (y : ℕ) → (y ∈ members_of a) ⊎ (y ≡ subject_key head k) → (y ∈ members_of a) ⊎ (y ∈ node_keys head k)
       forth y (inl m) = inl m
       forth y (inr q) = inr (subject_in q)
 
-      back : (y : ℕ) → (y ∈ take n d) ⊎ (y ∈ node_keys head k) → (y ∈ take n d) ⊎ (y ≡ subject_key head k)
+      back : (y : ℕ) → (y ∈ members_of a) ⊎ (y ∈ node_keys head k) → (y ∈ members_of a) ⊎ (y ≡ subject_key head k)
       back y (inl m) = inl m
       back y (inr m) = inr (Memᴰ.eq_of_singleton (rw (keys_of_type e) at m))
 

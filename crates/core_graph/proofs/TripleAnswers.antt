@@ -11,13 +11,11 @@ use Rattle.core_graph.proofs.DistinctKeys.{core_proper, key_injective}
 use Rattle.core_graph.proofs.Sources.{sources}
 use Rattle.core_graph.proofs.TripleSources.{at_rank, rank_at, triple_sources}
 use Rattle.core_graph.specs.Bounds.{Bounded, HeadFits, HeadsFit}
-use Rattle.core_graph.specs.Collected.{Adding, Beyond, FromRules, SetGrown, triple_keys}
+use Rattle.core_graph.specs.Collected.{Beyond, FromRules, SetGrown, triple_keys}
 use Rattle.core_graph.specs.Heads.{HeadsHeld}
 use Rattle.core_graph.specs.CoreHeld.{NodeKey, TripleKey}
 use Rattle.spread.specs.Keys.{key_of, triple_key}
-use Rattle.core_graph.specs.Outcomes.{TriplesAnswer, TripleKeysListed}
-use Rattle.core_graph.specs.declared.counted.Counted.{Counted}
-use Rattle.core_graph.specs.declared.counted.Counted.TheVariants.{Count, TooLarge}
+use Rattle.core_graph.specs.Outcomes.{TripleKeysListed}
 use Rattle.meaning.proofs.Lists.Places.{inside, placed}
 use Rattle.meaning.proofs.Lists.SetLists.{list_as}
 use Rattle.meaning.specs.Core.{CoreEdge, CoreNode, Node, as_object, as_subject, head_fact, triple}
@@ -132,8 +130,3 @@ module _ {rules : List (List ℕ)} {count : ℕ} {heads counts : List ℕ} (fit 
     list = λ P h b l. triple_list P h b l g;
     within = λ P h b l. triples_within P h b l (take m d') (triple_list P h b l g) (omega (arith, length-take m d', g.fits, k));
   }
-
-  pub triples_answer : (r : Counted) (d d' : List ℕ) → Adding r (Triples nodes rules count heads counts) 0 d d' → length d ≡ max_core_triples
-      → length d' ≡ length d → TriplesAnswer r nodes rules count heads counts d d'
-  triples_answer (Count m) d d' g k e = triples_listed g (e ∙ k)
-  triples_answer TooLarge d d' o k e = λ P h b l. triples_beyond P h b l k o

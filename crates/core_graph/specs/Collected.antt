@@ -1,9 +1,8 @@
 -- What a pass over all heads collects: numbers into an ordered set, or types into masks. Assumes nothing.
-use Rattle.std.specs.Prelude.{◌≡◌, ℕ, ◌+◌, ◌-◌, ◌*◌, ◌/◌, ◌%◌, ◌^◌, ◌<◌, ◌≤◌, cond, ◌⊎◌, ◌↔◌, List, [], ◌∷◌, length, take, ◌==◌, slice_index, slice_index_or}
+use Rattle.std.specs.Prelude.{Result, Ok, Err, ◌≡◌, ℕ, ◌+◌, ◌-◌, ◌*◌, ◌/◌, ◌%◌, ◌^◌, ◌<◌, ◌≤◌, cond, ◌⊎◌, ◌↔◌, List, [], ◌∷◌, length, take, ◌==◌, slice_index, slice_index_or}
 use Rattle.core_graph.specs.Heads.{keys_of, kind_number, named_number, object_arguments, object_constructor, subject_arguments, subject_constructor}
 use Rattle.spread.specs.Keys.{triple_key}
-use Rattle.core_graph.specs.declared.counted.Counted.{Counted}
-use Rattle.core_graph.specs.declared.counted.Counted.TheVariants.{Count, TooLarge}
+use Rattle.sets.specs.declared.ordered.Full.{Full}
 use Rattle.meaning.specs.Limits.{first_literal, max_arguments, max_values, term_room}
 use Rattle.meaning.specs.Member.{◌∈◌}
 use Rattle.meaning.specs.Ordered.{InOrder, ListOf}
@@ -11,6 +10,7 @@ use Rattle.meaning.specs.Pack.{Target, type}
 use Rattle.meaning.specs.Tables.{set_of_mask}
 use Rattle.meaning.specs.TypeSet.{◌∈ₜ◌}
 use Rattle.sets.specs.Ordered.{rank_of}
+use Rattle.sets.specs.OrderedSet.{OrderedSet, Same, members_of}
 
 -- ---- what one match gives: the keys of its nodes, of its triple, and its type fact
 
@@ -85,10 +85,14 @@ pub record Beyond (k : ℕ) (Q : ℕ → Type 0) : Type 0 where
   pub members : (y : ℕ) → y ∈ some → Q y
   pub over : k < length some
 
--- what is answered: how many there are now, or that they are more than the slice holds
-abbrev pub Adding : Counted → (ℕ → Type 0) → ℕ → List ℕ → List ℕ → Type 0
-Adding (Count m) X n before after = SetGrown X n m before after
-Adding TooLarge X n before after = Beyond (length before) (λ y. (y ∈ take n before) ⊎ X y)
+-- the set a with them is the set b, in the same slice
+abbrev pub Grown : (ℕ → Type 0) → OrderedSet → OrderedSet → Type 0
+Grown X a b = SetGrown X a.count b.count a.keys b.keys × Same a b
+
+-- what is answered of the set: the numbers are added, or they are more than its slice holds
+abbrev pub Adding : {A : Type 0} → Result A Full → (ℕ → Type 0) → OrderedSet → OrderedSet → Type 0
+Adding (Ok _) X a b = Grown X a b
+Adding (Err _) X a b = Beyond (length a.keys) (λ y. (y ∈ members_of a) ⊎ X y)
 
 -- ---- types added to the masks of a slice
 

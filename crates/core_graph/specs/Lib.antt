@@ -3,3 +3,4 @@ pub mod Heads
 pub mod Bounds
 pub mod Collected
 pub mod Outcomes
+pub mod ForHeads

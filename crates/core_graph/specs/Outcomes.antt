@@ -1,14 +1,12 @@
 -- What the passes over a pack's heads answer, said of the pack. Assumes nothing.
-use Rattle.std.specs.Prelude.{ℕ, ◌<◌, ◌≤◌, List, take}
+use Rattle.std.specs.Prelude.{Result, Ok, Err, ℕ, ◌<◌, ◌≤◌, List, take}
 use Rattle.core_graph.specs.Bounds.{Bounded}
 use Rattle.core_graph.specs.Collected.{FromRules, SetGrown, node_keys, triple_keys}
 use Rattle.core_graph.specs.Heads.{HeadsHeld}
 use Rattle.core_graph.specs.CoreHeld.{CoreHeld, NodeKey, TripleKey, TypesAt}
 use Rattle.spread.specs.Rounds.{SettledIn}
-use Rattle.core_graph.specs.declared.Outcome.{Outcome}
-use Rattle.core_graph.specs.declared.Outcome.TheVariants.{Held, TooLarge as NotHeld}
-use Rattle.core_graph.specs.declared.counted.Counted.{Counted}
-use Rattle.core_graph.specs.declared.counted.Counted.TheVariants.{Count, TooLarge}
+use Rattle.core_graph.specs.declared.CoreSize.{CoreSize}
+use Rattle.sets.specs.declared.ordered.Full.{Full}
 use Rattle.meaning.specs.Limits.{max_core_nodes, max_core_triples, max_iris}
 use Rattle.meaning.specs.Member.{◌∈◌}
 use Rattle.meaning.specs.NoGraph.{CoreIri, CoreTriple, TooLarge as CoreTooLarge}
@@ -22,9 +20,9 @@ pub record NodeKeysListed (m : ℕ) (rules : List (List ℕ)) (count : ℕ) (hea
   pub list : (P : Pack) → HeadsHeld P rules count heads counts → Bounded P → ListOf ◌<◌ (NodeKey P) (take m after)
   pub within : (P : Pack) → HeadsHeld P rules count heads counts → Bounded P → ¬ Over max_iris (CoreIri P)
 
-abbrev pub NodesAnswer : Counted → List (List ℕ) → ℕ → List ℕ → List ℕ → List ℕ → List ℕ → Type 0
-NodesAnswer (Count m) rules count heads counts before after = NodeKeysListed m rules count heads counts before after
-NodesAnswer TooLarge rules count heads counts before after =
+abbrev pub NodesAnswer : Result ℕ Full → List (List ℕ) → ℕ → List ℕ → List ℕ → List ℕ → List ℕ → Type 0
+NodesAnswer (Ok m) rules count heads counts before after = NodeKeysListed m rules count heads counts before after
+NodesAnswer (Err _) rules count heads counts before after =
     (P : Pack) → HeadsHeld P rules count heads counts → Bounded P → Over max_iris (CoreIri P)
 
 -- The triple keys, by the places of the nodes: all of them in the first m places, or the core has too many triples.
@@ -33,9 +31,9 @@ pub record TripleKeysListed (m : ℕ) (nodes : List ℕ) (rules : List (List ℕ
   pub list : (P : Pack) → HeadsHeld P rules count heads counts → Bounded P → ListOf ◌<◌ (NodeKey P) nodes → ListOf ◌<◌ (TripleKey P nodes) (take m after)
   pub within : (P : Pack) → HeadsHeld P rules count heads counts → Bounded P → ListOf ◌<◌ (NodeKey P) nodes → ¬ Over max_core_triples (CoreTriple P)
 
-abbrev pub TriplesAnswer : Counted → List ℕ → List (List ℕ) → ℕ → List ℕ → List ℕ → List ℕ → List ℕ → Type 0
-TriplesAnswer (Count m) nodes rules count heads counts before after = TripleKeysListed m nodes rules count heads counts before after
-TriplesAnswer TooLarge nodes rules count heads counts before after =
+abbrev pub TriplesAnswer : Result ℕ Full → List ℕ → List (List ℕ) → ℕ → List ℕ → List ℕ → List ℕ → List ℕ → Type 0
+TriplesAnswer (Ok m) nodes rules count heads counts before after = TripleKeysListed m nodes rules count heads counts before after
+TriplesAnswer (Err _) nodes rules count heads counts before after =
     (P : Pack) → HeadsHeld P rules count heads counts → Bounded P → ListOf ◌<◌ (NodeKey P) nodes → Over max_core_triples (CoreTriple P)
 
 -- The types of the nodes, as masks by place, and in how many rounds they spread.
@@ -55,7 +53,7 @@ pub record CoreListed (n t rounds : ℕ) (table rules : List (List ℕ)) (count 
       → SettledIn P (take n nodes) (take t triples) rounds masks
   pub within : (P : Pack) → HeadsHeld P rules count heads counts → Bounded P → ¬ CoreTooLarge P
 
-abbrev pub CoreAnswer : Outcome → List (List ℕ) → List (List ℕ) → ℕ → List ℕ → List ℕ → List ℕ → List ℕ → List ℕ → Type 0
-CoreAnswer (Held n t rounds) table rules count heads counts nodes triples masks = CoreListed n t rounds table rules count heads counts nodes triples masks
-CoreAnswer NotHeld table rules count heads counts nodes triples masks =
+abbrev pub CoreAnswer : Result CoreSize Full → List (List ℕ) → List (List ℕ) → ℕ → List ℕ → List ℕ → List ℕ → List ℕ → List ℕ → Type 0
+CoreAnswer (Ok s) table rules count heads counts nodes triples masks = CoreListed s.nodes s.triples s.rounds table rules count heads counts nodes triples masks
+CoreAnswer (Err _) table rules count heads counts nodes triples masks =
     (P : Pack) → HeadsHeld P rules count heads counts → Bounded P → CoreTooLarge P

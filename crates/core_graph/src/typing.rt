@@ -4,13 +4,14 @@ ghost use Rattle.meaning.specs.Limits.{max_core_nodes, max_core_triples};
 ghost use Rattle.meaning.specs.Ordered.{InOrder};
 ghost use Rattle.sets.specs.Buffers.{zeros};
 ghost use Rattle.shapes.specs.Shapes.{CodesFit};
-ghost use Rattle.core_graph.specs.Bounds.{HeadFits, KeyFits, KeysFit, HeadsFit};
+ghost use Rattle.core_graph.specs.Bounds.{HeadFits, KeyFits, KeysFit};
 ghost use Rattle.core_graph.specs.Collected.{FromKeys, FromRules, KnownMatch, KnownKeys, KnownRules, TypesMarked, HeadType};
+ghost use Rattle.core_graph.specs.ForHeads.{ForHeads};
 ghost use Rattle.core_graph.specs.Outcomes.{TypesAnswer};
 ghost use Rattle.spread.specs.Spread.{AllTriplesFit};
 
-use crate::heads::{Counts, Head, HeadTable, KIND, NAMED};
-use meaning::{MAX_HEADS, ShapeTable};
+use crate::heads::{Head, KIND, NAMED, RuleHeads};
+use meaning::ShapeTable;
 
 // Marks the type of one match, if the head gives one. Looks for the subject at near first, and answers its place, or near
 // if there is no type.
@@ -27,52 +28,40 @@ fn mark_match(head: Head, k: u64, nodes: &[u64], near: usize, masks: &mut [u16])
     at
 }
 
-// Marks those of all matches of one rule.
+// Marks those of all matches of one rule. Not by add_rule of counted: what grows is no set of keys, and there is always room.
 fn mark_rule(head: Head, keys: &[u64], nodes: &[u64], masks: &mut [u16])
     requires { HeadFits head × KeysFit head keys.now × InOrder ◌<◌ nodes.now × KnownKeys nodes.now head keys.now × (length nodes.now ≤ length masks.old) }
     ensures { TypesMarked (FromKeys (HeadType nodes.now head) keys.now) masks.old masks.new }
 {
     let mut near = 0;
-    for i in 0..keys.len() {
-        near = mark_match(head, keys[i], nodes, near, masks);
+    for &k in keys {
+        near = mark_match(head, k, nodes, near, masks);
     }
 }
 
 // Marks those of all rules.
-fn mark_rules(
-    rules: HeadTable,
-    count: usize,
-    heads: &[u64],
-    counts: Counts,
-    nodes: &[u64],
-    masks: &mut [u16],
-)
-    requires { HeadsFit rules count heads.now counts × InOrder ◌<◌ nodes.now × KnownRules nodes.now rules count heads.now counts × (length nodes.now ≤ length masks.old) }
-    ensures { TypesMarked (FromRules (HeadType nodes.now) rules count heads.now counts) masks.old masks.new }
+fn mark_rules(heads: &RuleHeads, nodes: &[u64], masks: &mut [u16])
+    requires { InOrder ◌<◌ nodes.now × ForHeads heads.now (KnownRules nodes.now) × (length nodes.now ≤ length masks.old) }
+    ensures { TypesMarked (ForHeads heads.now (FromRules (HeadType nodes.now))) masks.old masks.new }
 {
-    for r in 0..count {
-        let start = r * MAX_HEADS;
-        let end = start + counts[r];
-        mark_rule(rules[r], &heads[start..end], nodes, masks);
+    for r in 0..heads.count {
+        mark_rule(heads.rules[r], heads.keys_of(r), nodes, masks);
     }
 }
 
 // The types of the nodes, in masks that are zero at the start; says in how many rounds they spread.
 pub fn typing(
     shapes: ShapeTable,
-    rules: HeadTable,
-    count: usize,
-    heads: &[u64],
-    counts: Counts,
+    heads: &RuleHeads,
     nodes: &[u64],
     triples: &[u64],
     masks: &mut [u16],
 ) -> usize
-    requires { CodesFit shapes × HeadsFit rules count heads.now counts × InOrder ◌<◌ nodes.now × (length nodes.now ≤ max_core_nodes)
-        × KnownRules nodes.now rules count heads.now counts × AllTriplesFit triples.now × (length triples.now ≤ max_core_triples)
+    requires { CodesFit shapes × InOrder ◌<◌ nodes.now × (length nodes.now ≤ max_core_nodes)
+        × ForHeads heads.now (KnownRules nodes.now) × AllTriplesFit triples.now × (length triples.now ≤ max_core_triples)
         × (length masks.old ≡ max_core_nodes) × (masks.old ≡ zeros (length masks.old)) }
-    ensures { TypesAnswer result shapes rules count heads.now counts nodes.now triples.now masks.new }
+    ensures { ForHeads heads.now (TypesAnswer result shapes) nodes.now triples.now masks.new }
 {
-    mark_rules(rules, count, heads, counts, nodes, masks);
+    mark_rules(heads, nodes, masks);
     spread::spread(&shapes, triples, masks)
 }

@@ -1,2 +1,4 @@
 pub mod Input
 pub mod Origin
+pub mod Props
+pub mod Held

@@ -1,7 +1,8 @@
 -- The loops that look for another right key, part by part of the lists. Assumes nothing.
+use Rattle.std.specs.List.{list_any, zip}
 use lib.Dec.{eqb}
-use lib.ListN.{drop_of_length-le, get_or, length, take}
-use lib.Seq.{length-slice, length-take-le, slice, slice_empty}
+use lib.ListN.{get_or, length}
+use lib.Seq.{length-slice, slice, slice_empty}
 use mathlib.Core.Bool.{Bool, true, false, not, ◌&&◌, ◌||◌, or_assoc, or-false}
 use mathlib.Core.List.{List, [], ◌∷◌, ◌++◌}
 use mathlib.Core.Path.{◌≡◌, refl, sym, ap, ◌∙◌}
@@ -32,6 +33,13 @@ left_differs l r (x ∷ xs) (y ∷ ys) e = go (eqb x l) e (left_differs l r xs y
     go true h f = (cc)
     go false h f = f h
 
+-- two keys at a time
+pub zipped : (l r : ℕ) (xs ys : List ℕ) → list_any (λ (p : ℕ × ℕ). eqb p.0 l && not (eqb p.1 r)) (zip xs ys) ≡ differs l r xs ys
+unfolding differs
+zipped l r [] ys = refl
+zipped l r (x ∷ xs) [] = refl
+zipped l r (x ∷ xs) (y ∷ ys) = ap (λ b. (eqb x l && not (eqb y r)) || b) (zipped l r xs ys)
+
 -- ---- the entries from a place on, up to n: those before i do not differ
 
 pub record Looking (ls rs : List ℕ) (l r from n i : ℕ) : Type 0 where
@@ -60,20 +68,6 @@ module _ {ls rs : List ℕ} {l r from n i : ℕ} (p : Looking ls rs l r from n i
 
     pub looking_on : b ≡ false → Looking ls rs l r from n m
     looking_on t = record { few = p.few; lefts_long = p.lefts_long; rights_long = p.rights_long; is = rw t at step }
-
-  pub looking_done : n ≤ i → false ≡ differs l r (slice from n ls) (slice from n rs)
-  unfolding differs
-  looking_done h =
-      let g : length (take n ls) ≤ i = omega (arith, length-take-le n ls (omega (arith, p.few, p.lefts_long)), h) in
-      ap (λ z. differs l r z (slice i n rs)) (sym (drop_of_length-le (take n ls) g)) ∙ p.is
-
-  -- entry i, as a part
-  pub looking_one : i < n → {b : Bool} → b ≡ (eqb (get_or ls i 0) l && not (eqb (get_or rs i 0) r)) → b ≡ differs l r (slice i (i + 1) ls) (slice i (i + 1) rs)
-  unfolding differs
-  looking_one h {b} e = rw (one ls p.lefts_long, one rs p.rights_long) (e ∙ sym (or-false (eqb (get_or ls i 0) l && not (eqb (get_or rs i 0) r))))
-    where
-      one : (xs : List ℕ) → length xs ≡ max_rows → slice i (i + 1) xs ≡ get_or xs i 0 ∷ []
-      one xs g = slice_front i (i + 1) xs 0 (omega arith) (omega (arith, p.few, g, h)) ∙ ap (λ z. get_or xs i 0 ∷ z) (slice_empty (i + 1) xs)
 
 -- ---- four left keys
 

@@ -1,18 +1,19 @@
 // Refusal 8 on loaded rows: rows break a dependency. A row's left columns, and its right ones, are compared as one number.
 #![tactic(auto)]
 
-ghost use Rattle.std.specs.Prelude.{not, ◌&&◌, ◌≡◌, ◌+◌, ◌≤◌, eqb, length, take};
+ghost use Rattle.std.specs.Prelude.{◌≡◌, ◌+◌, ◌≤◌, length, take};
 ghost use Rattle.std.proofs.Math.Seq.{slice};
 ghost use Rattle.meaning.specs.Limits.{max_columns, max_rows, rows_length};
 ghost use Rattle.meaning.specs.WellFormed.{broken};
-ghost use Rattle.names.specs.PackGiven.{ForResolved, IsResolved};
+ghost use Rattle.names.specs.PackGiven.{ForResolvedOf, HoldsResolved};
 ghost use Rattle.depends.specs.Answer.{dependency_of, SaysBreaks, SaysBroken};
 ghost use Rattle.depends.specs.Keys.{columns_at, columns_key, differs, has_left};
 
 use meaning::{
-    BODIES, DEPENDENCIES_AT, DEPENDENCIES_BODY, DEPENDENCY_WIDTH, MAX_COLUMNS, MAX_ROWS, ROW_WIDTH,
+    DEPENDENCIES_AT, DEPENDENCIES_BODY, DEPENDENCY_WIDTH, MAX_COLUMNS, MAX_ROWS, ROW_WIDTH,
     ROWS_BODY, VALUE_ROOM,
 };
+use records::setting::LoadedSetting;
 
 // Left columns that decide right columns of a relation.
 #[derive(Drop)]
@@ -29,15 +30,13 @@ fn key(rows: &[u16], mask: u16, first: usize) -> u64
 {
     let mut key: u64 = 0;
     let mut rest = mask;
-    let mut c = 0;
-    while c < MAX_COLUMNS {
+    for c in 0..MAX_COLUMNS {
         if rest == 0 {
             return key;
         }
         let at = first + c;
         let bit = rest % 2;
         rest /= 2;
-        c += 1;
         if bit != 0 {
             key = key * VALUE_ROOM + rows[at] as u64 % VALUE_ROOM;
         }
@@ -45,17 +44,7 @@ fn key(rows: &[u16], mask: u16, first: usize) -> u64
     key
 }
 
-// Whether the left keys of two rows are equal and the right ones are not.
-fn differ(x: u64, left: u64, y: u64, right: u64) -> bool
-    ensures { result ≡ (eqb x left && not (eqb y right)) }
-{
-    if x != left {
-        return false;
-    }
-    y != right
-}
-
-// Whether one of the four left keys from a place on is this one.
+// Whether one of the four left keys from a place on is this one: no branch stands between them, for speed.
 fn has_left(lefts: &[u64; MAX_ROWS], i: usize, left: u64) -> bool
     requires { (i + 4 ≤ max_rows) × (length lefts.now ≡ max_rows) }
     ensures { result ≡ has_left left (slice i (i + 4) lefts.now) }
@@ -75,16 +64,14 @@ fn differs_in(
     requires { (from ≤ to) × (to ≤ max_rows) × (length lefts.now ≡ max_rows) × (length rights.now ≡ max_rows) }
     ensures { result ≡ differs left right (slice from to lefts.now) (slice from to rights.now) }
 {
-    for i in from..to {
-        if differ(lefts[i], left, rights[i], right) {
-            return true;
-        }
-    }
-    false
+    lefts[from..to]
+        .iter()
+        .zip(&rights[from..to])
+        .any(|(x, y)| *x == left && *y != right)
 }
 
-// Whether one of the first n entries of the lists has this left key and another right key. The right keys are looked at
-// where one of four left keys is equal.
+// Whether one of the first n entries of the lists has this left key and another right key. For speed the left keys are
+// looked at four at a time, and the right keys where one of the four is equal.
 fn some_differs(
     lefts: &[u64; MAX_ROWS],
     rights: &[u64; MAX_ROWS],
@@ -120,10 +107,8 @@ fn some_break(
 {
     let count = rows.len() / ROW_WIDTH;
     let mut n = 0;
-    let mut i = 0;
-    while i < count {
+    for i in 0..count {
         let at = i * ROW_WIDTH;
-        i += 1;
         if rows[at] != d.relation {
             continue;
         }
@@ -147,8 +132,7 @@ fn some_broken(dependencies: &[u16], rows: &[u16]) -> bool
     let mut lefts = [0u64; MAX_ROWS];
     let mut rights = [0u64; MAX_ROWS];
     let count = dependencies.len() / DEPENDENCY_WIDTH;
-    let mut i = 0;
-    while i < count {
+    for i in 0..count {
         let at = i * DEPENDENCY_WIDTH;
         let d = Depends {
             relation: dependencies[at],
@@ -158,17 +142,16 @@ fn some_broken(dependencies: &[u16], rows: &[u16]) -> bool
         if some_break(d, rows, &mut lefts, &mut rights) {
             return true;
         }
-        i += 1;
     }
     false
 }
 
 // Refusal 8, after refusal 7: whether the rows break a dependency of the setting.
-pub fn is_broken(counts: [usize; BODIES], numbers: &[u16], rows: &[u16]) -> bool
-    requires { IsResolved counts numbers.now rows.now }
-    ensures { ForResolved counts numbers.now rows.now (λ P. result ≡ broken P) }
+pub fn is_broken(setting: &LoadedSetting, rows: &[u16]) -> bool
+    requires { HoldsResolved setting.now rows.now }
+    ensures { ForResolvedOf setting.now rows.now (λ P. result ≡ broken P) }
 {
-    let end = DEPENDENCIES_AT + counts[DEPENDENCIES_BODY] * DEPENDENCY_WIDTH;
-    let many = counts[ROWS_BODY] * ROW_WIDTH;
-    some_broken(&numbers[DEPENDENCIES_AT..end], &rows[..many])
+    let end = DEPENDENCIES_AT + setting.counts[DEPENDENCIES_BODY] * DEPENDENCY_WIDTH;
+    let many = setting.counts[ROWS_BODY] * ROW_WIDTH;
+    some_broken(&setting.numbers[DEPENDENCIES_AT..end], &rows[..many])
 }

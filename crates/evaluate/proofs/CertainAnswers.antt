@@ -8,8 +8,8 @@ use Rattle.states.specs.Lists.{Lists}
 use Rattle.states.specs.Living.{Yes}
 use Rattle.answers.proofs.Graphs.{listed_joined, no_unsatisfied, over_joined, yes_satisfied}
 use Rattle.reached.specs.Walked.{PairIn, PairsAre}
-use Rattle.reached.specs.declared.pairs.Pairs.{Pairs}
-use Rattle.reached.specs.declared.pairs.Pairs.TheVariants.{Listed, TooMany}
+use Rattle.reached.specs.declared.pairs.TooMany.{TooMany}
+use Rattle.std.specs.Prelude.{Err, Ok, Result}
 use Rattle.answers.specs.Graph.{HeldIn, JoinedPair, NumberedGraph, WantedResolved, view}
 use Rattle.reached.specs.Keys.{pair_keys}
 use Rattle.evaluate.specs.Answered.{PairsIn, Ready, YesIn}
@@ -85,8 +85,8 @@ module _ {pack query : Text} {tree : List ℕ} {parts : ℕ} {wanted nodes : Lis
     pairs_small : {xs : List ℕ} → ListOf ◌<◌ (PairIn L named) xs → (x : ℕ) → x ∈ xs → x < pair_keys
     pairs_small l x i = let p = (l.members x).0 i in let g = ready.graph.graph in omega (arith, p.from_named, p.to_named, p.number, first.within, g.listed.few_nodes)
 
-    pub pairs_answer : (r : Pairs) (found : List ℕ) → PairsAre r L named found → PairsIn pack query nodes count triples edges r found
-    pairs_answer (Listed k) found (few, l) = (few, pairs_small l, answer)
+    pub pairs_answer : (r : Result ℕ TooMany) (found : List ℕ) → PairsAre r L named found → PairsIn pack query nodes count triples edges r found
+    pairs_answer (Ok k) found (few, l) = (few, pairs_small l, answer)
       where
         answer : (P : Pack) (g : GraphIn pack P nodes count triples edges) (e : Expr) → IsQuery query e
             → PairList (plain P) P e (in_order g) (map pair_of (take k found)) × (¬ TooManyPairs (plain P) P e)
@@ -100,6 +100,6 @@ module _ {pack query : Text} {tree : List ℕ} {parts : ℕ} {wanted nodes : Lis
             j : ListOf ◌<◌ (JoinedPair (G g) e named) (take k found)
             j = subst (λ x. ListOf ◌<◌ (JoinedPair (G g) x named) (take k found)) (the_expression g e q)
                 (listed_joined (G g) query L ready.held threaded (in_lists g) (numbers g) l)
-    pairs_answer TooMany found o = λ P g e q.
+    pairs_answer (Err e) found o = λ P g e q.
         too_many P (well g).named (plain P) (distinct g) (some_graph pack g.is g.obeyed) (in_order g) g.listed.lists.ordered named (named_first g first) (few_named g) e
         (subst (λ x. Over max_pairs (JoinedPair (G g) x named)) (the_expression g e q) (over_joined (G g) query L ready.held threaded (in_lists g) (numbers g) o))

@@ -1,11 +1,8 @@
 -- What the functions of a query's evaluation ask, from what a call has ready. Assumes nothing.
-use Rattle.std.proofs.Common.{ℕ, ◌+◌, ◌≤◌, List, length, arith}
-use lib.ListN.{get_or-replicate}
+use Rattle.std.proofs.Common.{ℕ, ◌≤◌, List, length, arith}
 use Rattle.evaluate.specs.Answered.{Ready}
-use Rattle.index.specs.Objects.{ListReady}
-use Rattle.meaning.specs.Limits.{max_nodes, max_parts, max_triples}
+use Rattle.meaning.specs.Limits.{max_parts}
 use Rattle.meaning.specs.Pack.{Text}
-use Rattle.sets.specs.Buffers.{zeros}
 use Rattle.walk.specs.Threading.{Threadable}
 
 module _ {pack query : Text} {tree : List ℕ} {parts : ℕ} {wanted nodes : List ℕ} {count : ℕ} {triples : List ℕ} {edges : ℕ}
@@ -15,8 +12,3 @@ module _ {pack query : Text} {tree : List ℕ} {parts : ℕ} {wanted nodes : Lis
 
   pub threadable : {next : List ℕ} → max_parts ≤ length next → Threadable tree next parts
   threadable l = record { text = query; held = ready.held; parts = ready.room; room = let a = parts_few in omega arith }
-
-  pub list_ready : ListReady count edges (zeros (max_nodes + 2)) (zeros max_triples)
-  list_ready =
-      let g = ready.graph.graph.listed in
-      record { long = omega (arith, g.few_nodes); room = g.few_triples; none = λ o h. get_or-replicate (max_nodes + 2) o 0 0 (omega (arith, g.few_nodes)) }

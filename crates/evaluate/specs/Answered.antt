@@ -1,7 +1,6 @@
 -- What is answered of a query in the graph of a pack: of every finite graph that obeys the pack. Assumes nothing.
-use Rattle.std.specs.Prelude.{ℕ, ◌<◌, ◌≤◌, Bool, T, ◌↔◌, List, map, length, take}
-use Rattle.reached.specs.declared.pairs.Pairs.{Pairs}
-use Rattle.reached.specs.declared.pairs.Pairs.TheVariants.{Listed, TooMany}
+use Rattle.std.specs.Prelude.{ℕ, ◌<◌, ◌≤◌, Bool, T, ◌↔◌, List, map, length, take, Err, Ok, Result}
+use Rattle.reached.specs.declared.pairs.TooMany.{TooMany}
 use Rattle.reached.specs.Keys.{pair_keys}
 use Rattle.evaluate.specs.GraphIn.{GraphIn, SomeGraph}
 use Rattle.evaluate.specs.Named.{pair_of}
@@ -49,7 +48,7 @@ module _ (pack query : Text) (nodes : List ℕ) (count : ℕ) (triples : List �
   YesIn r = OfQuery (λ P g e. T r ↔ CertainYes (plain P) P e)
 
   -- "exactly the pairs of named nodes that the query joins in every such graph"; 12 exactly when they are too many
-  abbrev pub PairsIn : Pairs → List ℕ → Type 0
-  PairsIn (Listed k) found =
+  abbrev pub PairsIn : Result ℕ TooMany → List ℕ → Type 0
+  PairsIn (Ok k) found =
       (k ≤ max_pairs) × AllPairs (take k found) × OfQuery (λ P g e. PairList (plain P) P e g.listed.lists.in_order (map pair_of (take k found)) × (¬ TooManyPairs (plain P) P e))
-  PairsIn TooMany found = OfQuery (λ P g e. TooManyPairs (plain P) P e)
+  PairsIn (Err e) found = OfQuery (λ P g e. TooManyPairs (plain P) P e)

@@ -10,12 +10,10 @@ pub fn named(nodes: &[u16], count: usize) -> usize
     requires { (count ≤ max_nodes) × (count * node_width ≤ length nodes.now) }
     ensures { FirstInvented nodes.now count result }
 {
-    let mut n = 0;
-    while n < count {
+    for n in 0..count {
         if nodes[n * NODE_WIDTH] >= 2 {
             return n;
         }
-        n += 1;
     }
-    n
+    count
 }

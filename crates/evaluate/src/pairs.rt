@@ -8,13 +8,14 @@ ghost use Rattle.worklist.specs.Table.{Unmarked};
 
 use crate::named::named;
 use answers::joined_pairs;
-use meaning::{MAX_NODES, MAX_PARTS, MAX_TRIPLES};
-use reached::pairs::Pairs;
-use states::Sizes;
+use meaning::MAX_PARTS;
+use reached::pairs::TooMany;
+use states::{Lists, Sizes};
 use walk::thread;
+use worklist::Board;
 
-// The pairs as numbers (reached, keys), ascending at the front of `found`; or that they are too many. `wanted` has the number
-// that each part wants.
+// How many pairs there are, as numbers (reached, keys) ascending at the front of `found`; or that they are too many. `wanted` has
+// the number that each part wants.
 pub fn pairs(
     tree: &[u32],
     parts: usize,
@@ -29,7 +30,7 @@ pub fn pairs(
     stack: &mut [u16],
     seen: &mut [u64],
     found: &mut [u32],
-) -> Pairs
+) -> Result<usize, TooMany>
     requires { IsReady tree.now parts wanted.now nodes.now count triples.now edges
         × BySubject triples.now count edges index.now × Unmarked state_words alive.old waiting.old stack.old
         × Unseen seen.old × (max_pairs ≤ length found.old) }
@@ -38,27 +39,22 @@ pub fn pairs(
 {
     let mut next = [0u16; MAX_PARTS];
     thread(tree, parts, &mut next);
-    let mut starts = [0u16; MAX_NODES + 2];
-    let mut into = [0u16; MAX_TRIPLES];
-    let sizes = Sizes {
-        nodes: count,
-        edges,
-        parts,
-    };
-    joined_pairs(
-        sizes,
-        named(nodes, count),
+    let lists = Lists {
+        sizes: Sizes {
+            nodes: count,
+            edges,
+            parts,
+        },
         triples,
-        index,
         tree,
-        &next[..],
+        next: &next[..],
         wanted,
-        &mut starts,
-        &mut into,
-        alive,
+    };
+    let mut board = Board {
+        marked: alive,
         waiting,
         stack,
-        seen,
-        found,
-    )
+        top: 0,
+    };
+    joined_pairs(&lists, named(nodes, count), index, &mut board, seen, found)
 }

@@ -4,9 +4,10 @@ ghost use Rattle.meaning.specs.Limits.{state_words};
 ghost use Rattle.worklist.specs.Table.{Unmarked};
 
 use answers::some_joined;
-use meaning::{MAX_NODES, MAX_PARTS, MAX_TRIPLES};
-use states::Sizes;
+use meaning::MAX_PARTS;
+use states::{Lists, Sizes};
 use walk::thread;
+use worklist::Board;
 
 // The answer for a query in its tree of parts, with the number that each part wants, over the graph in its two lists.
 pub fn yes(
@@ -27,23 +28,22 @@ pub fn yes(
 {
     let mut next = [0u16; MAX_PARTS];
     thread(tree, parts, &mut next);
-    let mut starts = [0u16; MAX_NODES + 2];
-    let mut into = [0u16; MAX_TRIPLES];
-    let sizes = Sizes {
-        nodes: count,
-        edges,
-        parts,
-    };
-    some_joined(
-        sizes,
+    let lists = Lists {
+        sizes: Sizes {
+            nodes: count,
+            edges,
+            parts,
+        },
         triples,
         tree,
-        &next[..],
+        next: &next[..],
         wanted,
-        &mut starts,
-        &mut into,
-        alive,
+    };
+    let mut board = Board {
+        marked: alive,
         waiting,
         stack,
-    )
+        top: 0,
+    };
+    some_joined(&lists, &mut board)
 }

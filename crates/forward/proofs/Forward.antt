@@ -1,6 +1,7 @@
 -- What is marked on the way forward: by triples, leaves and parts, from the nodes of a block. Assumes nothing.
 use lib.Bits.{bit_and}
-use lib.ListN.{get_or}
+use lib.ListN.{drop, get_or, length, length-drop, length-take, take}
+use lib.Seq.{get_or-drop, get_or-take}
 use mathlib.Core.Bool.{Bool, false, true}
 use mathlib.Core.List.{List}
 use mathlib.Core.Logic.{inl, inr, ◌⊎◌}
@@ -42,6 +43,17 @@ module _ {triples : List ℕ} {kind want to : ℕ} {a : Board} where
       → AddsOnly seen_words (ObjectAt triples k kind want to) a b
   object_one e d = adds_same d (λ y p. record { taken = e; state = p }) (λ y s. s.state)
 
+-- the entries of a part, as code goes through them
+module _ (own : List ℕ) (lo hi : ℕ) where
+  pub part_end : hi ≤ length own → length (take (hi - lo) (drop lo own)) ≡ hi - lo
+  part_end l = omega (arith, length-take (hi - lo) (drop lo own), length-drop lo own)
+
+  pub part_inside : (i : ℕ) → i < length (take (hi - lo) (drop lo own)) → lo + i < hi
+  part_inside i l = omega (arith, length-take (hi - lo) (drop lo own))
+
+  pub part_entry : (i : ℕ) → i < length (take (hi - lo) (drop lo own)) → get_or (take (hi - lo) (drop lo own)) i 0 ≡ get_or own (lo + i) 0
+  part_entry i l = get_or-take (hi - lo) (drop lo own) i 0 (let z = part_inside i l in omega arith) ∙ get_or-drop lo own i 0
+
 -- The entries from lo up to j are visited; none of them is 0.
 pub record Visiting (triples own : List ℕ) (lo kind want to : ℕ) (a b : Board) (j : ℕ) : Type 0 where
   pub from : lo ≤ j
@@ -63,8 +75,8 @@ module _ {triples own : List ℕ} {lo kind want to : ℕ} where
   wider l y s = up_to s (let q = s.listed.below in omega arith)
 
 module _ {triples own : List ℕ} {lo kind want to : ℕ} {a : Board} where
-  pub visit_start : Table seen_words a → Visiting triples own lo kind want to a a lo
-  visit_start t = record {
+  pub visit_start : {j : ℕ} → j ≡ lo → Table seen_words a → Visiting triples own lo kind want to a a j
+  visit_start e t = record {
     from = omega arith;
     some = λ i p q. absurd (omega arith);
     adds = adds_none t (λ y s. let p = s.listed.above in let q = s.listed.below in omega arith);
@@ -75,13 +87,14 @@ module _ {triples own : List ℕ} {lo kind want to : ℕ} {a : Board} where
     pub visit_listed : {hi k : ℕ} → j < hi → get_or own j 0 ≡ k + 1 → ListedIn own lo hi k
     visit_listed l e = record { at = j; above = v.from; below = l; entry = e; before = v.some }
 
-    pub visit_again : {c : Board} {k : ℕ} → get_or own j 0 ≡ k + 1 → AddsOnly seen_words (ObjectAt triples k kind want to) b c → Visiting triples own lo kind want to a c (j + 1)
-    visit_again {c} {k} e d = record {
+    pub visit_again : {c : Board} {k next : ℕ} → next ≡ j + 1 → get_or own j 0 ≡ k + 1 → AddsOnly seen_words (ObjectAt triples k kind want to) b c
+        → Visiting triples own lo kind want to a c next
+    visit_again {c} {k} n e d = subst (Visiting triples own lo kind want to a c) (sym n) (record {
       from = let l = v.from in omega arith;
       some = λ i p q. some i p (ℕ_discrete i j) q;
       adds = adds_both v.adds d (wider (omega arith)) (λ y s. record { triple = k; listed = visit_listed (omega arith) e; object = s })
           (λ y s. split y s (dec_lt s.listed.at j));
-    }
+    })
       where
         some : (i : ℕ) → lo ≤ i → Dec (i ≡ j) → i < j + 1 → 0 < get_or own i 0
         some i p (yes h) q = let z = subst (λ x. get_or own x 0 ≡ k + 1) (sym h) e in omega arith

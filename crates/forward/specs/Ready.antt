@@ -1,6 +1,7 @@
 -- What a walk over named nodes is given. Assumes nothing.
 use Rattle.std.specs.Prelude.{List, ℕ, ◌≤◌}
 use Rattle.meaning.specs.Limits.{max_core_nodes}
+use Rattle.forward.specs.declared.Named.{Named}
 use Rattle.forward.specs.Own.{Inward, OwnBySubject}
 use Rattle.states.specs.Fits.{ListsFit}
 use Rattle.states.specs.Lists.{Lists}
@@ -14,3 +15,7 @@ pub record WalkReady (L : Lists) (named : ℕ) (own index alive : List ℕ) : Ty
   pub inward : Inward L.triples L.edges named
   pub listed : OwnBySubject L.triples L.edges named own index
   pub living : Living L alive
+
+-- The same of what the code is given.
+abbrev pub ReadyFor : Lists → Named → Type 0
+ReadyFor L named = WalkReady L named.count named.own.now named.index.now named.alive.now

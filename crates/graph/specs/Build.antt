@@ -1,12 +1,14 @@
 -- What a build answers and leaves in the two lists. Assumes nothing.
-use Rattle.std.specs.Prelude.{drop, length, List, ◌++◌, ◌≡◌, ℕ}
+use Rattle.std.specs.Prelude.{drop, length, Err, List, Ok, Result, ◌++◌, ◌≡◌, ℕ}
 use Rattle.calls.specs.Call.{Contents, ◌becomes◌}
 use Rattle.clash.specs.Clash.{ClashAt}
 use Rattle.graph.specs.Fronts.{GraphListed}
-use Rattle.core_lists.specs.Input.{Input}
+use Rattle.core_lists.specs.Held.{InputOf}
+use Rattle.core_lists.specs.declared.Core.{Core}
 use Rattle.node_list.specs.Records.{Arities}
-use Rattle.graph.specs.declared.Built.{Built}
-use Rattle.graph.specs.declared.Built.TheVariants.{Graph, Clash, Mixed}
+use Rattle.graph.specs.declared.NoGraph.{NoGraph}
+use Rattle.graph.specs.declared.NoGraph.TheVariants.{Clash, Mixed}
+use Rattle.graph.specs.declared.Size.{Size}
 use Rattle.meaning.specs.NoGraph.{MixedKinds, TwoObjects}
 use Rattle.meaning.specs.Pack.{Pack}
 
@@ -20,12 +22,12 @@ pub record GraphWritten (P : Pack) (n t : ℕ) (nodes triples : Contents) : Type
   pub not_10 : ¬ TwoObjects P
   pub not_11 : ¬ MixedKinds P
 
-module _ (table : List (List ℕ)) (arities nodes triples masks out out' edges edges' : List ℕ) where
+module _ (table : List (List ℕ)) (arities : List ℕ) (core : Core) (out out' edges edges' : List ℕ) where
   -- the counts of the graph; the place of a clash, or refusal 11, and the lists as they were
-  abbrev pub BuildShown : Built → Type 0
-  BuildShown (Graph n t) =
-      (P : Pack) → Input P table nodes triples masks → Arities P arities → GraphWritten P n t (out becomes out') (edges becomes edges')
-  BuildShown (Clash i) =
-      (out' ≡ out) × (edges' ≡ edges) × ((P : Pack) → Input P table nodes triples masks → ClashAt P nodes triples i)
-  BuildShown Mixed =
-      (out' ≡ out) × (edges' ≡ edges) × ((P : Pack) → Input P table nodes triples masks → (¬ TwoObjects P) × MixedKinds P)
+  abbrev pub BuildShown : Result Size NoGraph → Type 0
+  BuildShown (Ok size) =
+      (P : Pack) → InputOf P table core → Arities P arities → GraphWritten P size.nodes size.triples (out becomes out') (edges becomes edges')
+  BuildShown (Err (Clash i)) =
+      (out' ≡ out) × (edges' ≡ edges) × ((P : Pack) → InputOf P table core → ClashAt P core.nodes.now core.triples.now i)
+  BuildShown (Err Mixed) =
+      (out' ≡ out) × (edges' ≡ edges) × ((P : Pack) → InputOf P table core → (¬ TwoObjects P) × MixedKinds P)

@@ -47,8 +47,8 @@ module _ {triples : List ℕ} {edges n k : ℕ} where
           below j a (yes h) = let z = s.below j h in omega arith
           below j a (no h) = let z = x.subjects j (omega arith) a in omega arith
 
-      pub end_last : edges ≤ end → (k ≤ end) × SubjectsSplit triples edges (n + 1) end
-      end_last l = ended (λ j a b. absurd (omega arith))
+      pub end_last : edges ≤ end → (k ≤ edges) × SubjectsSplit triples edges (n + 1) edges
+      end_last l = let e : end ≡ edges = omega (arith, x.inside, l) in rw e at (ended (λ j a b. absurd (omega arith)))
 
       pub end_stop : SubjectsRise triples edges → end < edges → (subject_at triples end ≡ n → ⊥) → (k ≤ end) × SubjectsSplit triples edges (n + 1) end
       end_stop up l d = ended above

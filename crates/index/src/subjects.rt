@@ -11,14 +11,12 @@ fn subject_end(triples: &[u16], edges: usize, n: usize, k: usize) -> usize
     requires { (edges * 3 ≤ length triples.now) × SubjectsRise triples.now edges × SubjectsSplit triples.now edges n k }
     ensures { (k ≤ result) × SubjectsSplit triples.now edges (n + 1) result }
 {
-    let mut end = k;
-    while end < edges {
+    for end in k..edges {
         if triples[end * TRIPLE_WIDTH] as usize != n {
             return end;
         }
-        end += 1;
     }
-    end
+    edges
 }
 
 // The first of the triples from k up to `end`, 0 where there is none.

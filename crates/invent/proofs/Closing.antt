@@ -3,7 +3,7 @@
 use lib.ListN.{get_or, length, length-replicate, replicate}
 use mathlib.Core.List.{List}
 use mathlib.Core.Logic.{◌↔◌, ⊎_elim}
-use mathlib.Core.Path.{◌≡◌, refl, ap, subst, ◌∙◌}
+use mathlib.Core.Path.{◌≡◌, refl, sym, ap, subst, ◌∙◌}
 use native.Mathlib.Omega.{arith}
 use Prim.Native.Nat.{ℕ, ◌/◌, ◌<◌, ◌≤◌}
 use Rattle.invent.specs.Invent.{AllWait, Follows, Leads, Marks, Next, Upto, follows, marked, mask_of, set_at}
@@ -15,7 +15,7 @@ use Rattle.meaning.specs.Tables.{set_of_mask}
 use Rattle.meaning.proofs.Lists.Places.{zeros_at}
 use Rattle.worklist.proofs.Growth.{all_looked, nothing_marked, turn_looked, turn_marked, zeros_unmarked}
 use Rattle.worklist.proofs.Marks.{zero_word}
-use Rattle.worklist.specs.Table.{Adds, AddsOnly, Board, Looked, Marked, Table, Takes, board}
+use Rattle.worklist.specs.Table.{Adds, AddsOnly, Board, Looked, Marked, Table, Takes}
 
 -- What is marked follows from the start, and what follows from the sets that have been looked at is marked.
 pub record Closing (P : Pack) (start : List ℕ) (b : Board) : Type 0 where
@@ -28,10 +28,9 @@ closing_start w = record { sound = λ j e. marked e; keeps = λ j e. e; passes =
 
 -- ---- nothing is marked at first
 
-pub none_marked : {flags waiting stack : List ℕ} → flags ≡ replicate set_words 0 → waiting ≡ replicate set_words 0 → stack ≡ replicate set_words 0
-    → Table set_words (board flags waiting stack 0)
-none_marked {flags} {waiting} {stack} e f g =
-    nothing_marked (zeros_unmarked set_words set_words e f (omega arith) (omega arith) (omega arith) (long flags e) (long waiting f) (long stack g))
+pub none_marked : {b : Board} → b.marked ≡ replicate set_words 0 → b.waiting ≡ replicate set_words 0 → b.stack ≡ replicate set_words 0 → b.top ≡ 0 → Table set_words b
+none_marked {b} e f g z =
+    nothing_marked (zeros_unmarked set_words set_words e f (omega arith) (omega arith) (omega arith) (long b.marked e) (long b.waiting f) (long b.stack g)) z
   where
     long : (xs : List ℕ) → xs ≡ replicate set_words 0 → set_words ≤ length xs
     long xs q = let l = ap length q ∙ length-replicate {A = ℕ} set_words 0 in omega arith
@@ -51,19 +50,20 @@ pub following : {These : Pack → Type 0} {a b : Board} {i m : ℕ} → i < memb
     → Marks These (λ P. Upto (Leads P (invented (set_at i))) max_predicates) a b
 following {These} {a} {b} {i} h e = subst (λ X. Marks These (λ P. Upto (Leads P (invented X)) max_predicates) a b) (ap set_of_mask e ∙ mask_set i h)
 
-module _ {P : Pack} {start marks waiting stack waiting' : List ℕ} {top top' i : ℕ} {b : Board} (t : Table set_words (board marks waiting stack top))
-    (k : Takes set_words (λ x. x ≡ i) waiting stack waiting' top') where
-  pub closing_again : Closing P start (board marks waiting stack top) → AddsOnly set_words (Upto (Leads P (invented (set_at i))) max_predicates) (board marks waiting' stack top') b
-      → Closing P start b
-  closing_again c d = record {
-    sound = λ j e. ⊎_elim (c.sound j) (from j) (d.new j e);
-    keeps = λ j e. d.more j (c.keeps j e);
-    passes = λ n p j h hp l g. ⊎_elim (λ e. d.all j (record { at = p; below = hp; holds = subst (λ x. Leads P (invented (set_at x)) p j) e g }))
-        (λ o. d.more j (c.passes n p j h hp o g)) (turn_looked t k d n h l);
+module _ {P : Pack} {start : List ℕ} {i : ℕ} {a c b : Board} (t : Table set_words a) (k : Takes set_words (λ x. x ≡ i) a c) where
+  pub closing_again : Closing P start a → AddsOnly set_words (Upto (Leads P (invented (set_at i))) max_predicates) c b → Closing P start b
+  closing_again g d = record {
+    sound = λ j e. ⊎_elim (λ m. g.sound j (subst (λ xs. Marked xs j) k.marked m)) (from j) (d.new j e);
+    keeps = λ j e. kept j (g.keeps j e);
+    passes = λ n p j h hp l w. ⊎_elim (λ e. d.all j (record { at = p; below = hp; holds = subst (λ x. Leads P (invented (set_at x)) p j) e w }))
+        (λ o. kept j (g.passes n p j h hp o w)) (turn_looked t k d n h l);
   }
     where
       from : (j : ℕ) → Upto (Leads P (invented (set_at i))) max_predicates j → Follows P start j
-      from j u = follows (c.sound i (turn_marked t k i refl)) (k.inside i refl) u.below u.holds
+      from j u = follows (g.sound i (turn_marked t k i refl)) (k.inside i refl) u.below u.holds
+
+      kept : (j : ℕ) → Marked a.marked j → Marked b.marked j
+      kept j m = d.more j (subst (λ xs. Marked xs j) (sym k.marked) m)
 
 pub closing_done : {P : Pack} {start : List ℕ} {b : Board} → Table set_words b → b.top ≡ 0 → Closing P start b → (j : ℕ) → Marked b.marked j ↔ Follows P start j
 closing_done {P} {start} {b} t z c j = (c.sound j, all)

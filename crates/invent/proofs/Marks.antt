@@ -1,6 +1,6 @@
 -- Sets that are marked step by step. Assumes nothing.
 use lib.Dec.{T}
-use mathlib.Core.Bool.{true, false}
+use mathlib.Core.Bool.{true}
 use mathlib.Core.List.{List}
 use mathlib.Core.Logic.Iff
 use mathlib.Core.Logic.{◌↔◌, ◌⊎◌, inl, inr}
@@ -63,9 +63,6 @@ targets_one : (P : Pack) (b : BuiltNode) (p : ℕ) (X Y : TypeSet) → PTargets 
 targets_one P b p X Y t u = same_members X Y (λ S. Iff.trans (t S) (Iff.symm (u S)))
 
 module _ {demand mask p : ℕ} where
-  pub not_required : {a : Board} → Table set_words a → required_in demand ≡ false → Marks (OfDemand mask p demand) (λ P. Leads P (invented (set_of_mask mask)) p) a a
-  not_required t e = marks_none t (λ P h j l. subst T e (h.needs.1 ((requires_shape P mask p).1 l.needs)))
-
   module _ (P : Pack) (h : OfDemand mask p demand P) where
     m_lt : targets_in demand < 2 ^ 16
     m_lt = omega (arith, targets_lt demand)

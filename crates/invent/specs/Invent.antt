@@ -1,8 +1,9 @@
 -- Type sets as numbers, and marking in a table those that arise. Assumes nothing.
 use Rattle.std.specs.Prelude.{leb, get_or, length, List, ◌↔◌, ℕ, ◌+◌, ◌*◌, ◌/◌, ◌%◌, ◌<◌}
 use Rattle.spread.specs.Keys.{origin_at}
-use Rattle.core_lists.specs.Input.{Input}
+use Rattle.core_lists.specs.Held.{InputOf}
 use Rattle.core_lists.specs.Origin.{HasOrigin}
+use Rattle.core_lists.specs.declared.Core.{Core}
 use Rattle.meaning.specs.Built.{BuiltNode, IsBuilt, PTargets, Requires, invented}
 use Rattle.meaning.specs.Limits.{literal_weight, max_predicates, member_sets, set_words, type_sets}
 use Rattle.meaning.specs.Pack.{Pack}
@@ -81,6 +82,5 @@ CoreLacks nodes triples masks P = Upto (λ s. NodeLacks triples s (get_or masks 
 pub record InventedSets (P : Pack) (flags : List ℕ) : Type 0 where
   pub sets : (j : ℕ) → Marked flags j ↔ ((j < member_sets) × IsBuilt P (invented (set_at j)))
 
-abbrev pub InventShown : List (List ℕ) → List ℕ → List ℕ → List ℕ → List ℕ → Type 0
-InventShown table nodes triples masks after =
-    (P : Pack) → Input P table nodes triples masks → InventedSets P after
+abbrev pub InventShown : List (List ℕ) → Core → List ℕ → Type 0
+InventShown table core after = (P : Pack) → InputOf P table core → InventedSets P after

@@ -9,9 +9,10 @@ use native.Mathlib.Omega.{arith}
 use Prim.Native.Nat.{ℕ, ◌+◌, ◌-◌, ◌<◌, ◌≤◌}
 use Rattle.checks.specs.Checked.{SettingLoaded}
 use Rattle.iris.proofs.Loaded.{arity_of, constructor_at, constructors_many, length_text, lent, prefix_length, prefix_start}
-use Rattle.iris.specs.Read.{arguments_of, iri_read, numbered}
-use Rattle.iris.specs.declared.arguments.Arguments.{Arguments}
-use Rattle.iris.specs.declared.iri.IriRead.{IriRead}
+use Rattle.iris.specs.Read.{arguments_of, iri_read}
+use Rattle.std.specs.Prelude.{None, Some}
+use Rattle.std.specs.Prelude as Prelude
+use Rattle.meaning.specs.Listing.{padded}
 use Rattle.meaning.specs.Pack.{Constructor, Pack, Text}
 use Rattle.meaning.specs.Tests.{begins}
 use Rattle.pack.specs.Checked.{OfPack, accepted, well_formed}
@@ -29,17 +30,23 @@ pub trying_start : (s text : Text) → Trying s text 0
 unfolding read_back_by
 trying_start s text = record { is = λ P w. refl }
 
-numbered_is : (c : ℕ) (o : Option (List ℕ)) → numbered c (arguments_of o) ≡ iri_read (under c o)
-unfolding numbered arguments_of iri_read
-numbered_is c none = refl
-numbered_is c (some vs) = refl
+-- arguments under their constructor's number
+under_some : (c : ℕ) (o : Option (List ℕ)) {a : List ℕ} → Some a ≡ arguments_of o → Some (record { constructor = c; values = a }) ≡ iri_read (under c o)
+unfolding arguments_of iri_read
+under_some c none e = cc
+under_some c (some vs) {a} e = let q : a ≡ padded vs = cc in ap (λ (b : List ℕ). Some (record { constructor = c; values = b })) q
+
+under_none : (c : ℕ) (o : Option (List ℕ)) → None ≡ arguments_of o → None ≡ iri_read (under c o)
+unfolding arguments_of iri_read
+under_none c none e = refl
+under_none c (some vs) e = cc
 
 abbrev constructors_of : Pack → List Constructor
 constructors_of P = P.setting.constructors
 
 module _ {s text counts numbers : List ℕ} {c : ℕ} (l : SettingLoaded s counts numbers) (t : Trying s text c) where
-  pub no_constructor : get_or counts 6 0 ≤ c → OfPack s (λ P. iri_read none ≡ iri_read (read_back P text))
-  unfolding read_from_by
+  pub no_constructor : get_or counts 6 0 ≤ c → OfPack s (λ P. None ≡ iri_read (read_back P text))
+  unfolding read_from_by iri_read
   no_constructor h P w =
       let k : length (constructors_of P) ≤ c = omega (arith, constructors_many l P w) in
       ap iri_read (rw (drop_of_length-le (constructors_of P) k) at (t.is P w))
@@ -63,12 +70,17 @@ module _ {s text counts numbers : List ℕ} {c : ℕ} (l : SettingLoaded s count
           rw add-one (rw (drop_entry (constructors_of P) c k.it k.listed, sym (prefix_begins P w) ∙ q) at (t.is P w));
     }
 
-    pub this_constructor : b ≡ true → {a : Arguments} {r : IriRead}
-        → OfPack s (λ P. a ≡ arguments_of (arguments_by segment P.setting.values (arity_of numbers c) (drop (prefix_length numbers c) text)))
-        → r ≡ numbered c a → OfPack s (λ P. r ≡ iri_read (read_back P text))
-    unfolding read_from_by
-    this_constructor q p n P w =
-        let k = constructor_at l h P w in
-        let o = arguments_by segment P.setting.values (arity_of numbers c) (drop (prefix_length numbers c) text) in
-        n ∙ ap (numbered c) (p P w) ∙ numbered_is c o
-        ∙ ap iri_read (rw (k.arity_is, ← length_text k.stands) (rw (drop_entry (constructors_of P) c k.it k.listed, sym (prefix_begins P w) ∙ q) at (t.is P w)))
+    -- what was read of the rest of the text
+    module _ (q : b ≡ true) {rest : Text} (i : rest ≡ drop (prefix_length numbers c) text) {r : Prelude.Option (List ℕ)}
+        (p : OfPack s (λ P. r ≡ arguments_of (arguments_by segment P.setting.values (arity_of numbers c) rest))) where
+      it_decides : (P : Pack) → well_formed s ≡ accepted P → under c (arguments_by segment P.setting.values (arity_of numbers c) rest) ≡ read_back P text
+      unfolding read_from_by
+      it_decides P w =
+          let k = constructor_at l h P w in
+          rw (i, k.arity_is, ← length_text k.stands) (rw (drop_entry (constructors_of P) c k.it k.listed, sym (prefix_begins P w) ∙ q) at (t.is P w))
+
+      pub this_constructor : {a : List ℕ} → r ≡ Some a → OfPack s (λ P. Some (record { constructor = c; values = a }) ≡ iri_read (read_back P text))
+      this_constructor e P w = under_some c _ (sym e ∙ p P w) ∙ ap iri_read (it_decides P w)
+
+      pub this_refuses : r ≡ None → OfPack s (λ P. None ≡ iri_read (read_back P text))
+      this_refuses e P w = under_none c _ (sym e ∙ p P w) ∙ ap iri_read (it_decides P w)

@@ -1,8 +1,7 @@
 -- Laws of finding a value by its segment, and of the parts of a text. Assumes nothing.
-use borrow.Author.Tests.{eq-eqb, ne_eqb}
+use borrow.Author.Tests.{ltb-false}
 use lib.ListN.{drop, drop_of_length-le, get_or, length, take}
-use lib.Seq.{drop-cons}
-use mathlib.Core.Bool.{Bool, true, false}
+use mathlib.Core.Bool.{Bool, cond, true, false, not}
 use mathlib.Core.List.{List}
 use mathlib.Core.Option.{Option, none, some, map}
 use mathlib.Core.Path.{◌≡◌, refl, sym, ap, ◌∙◌}
@@ -11,15 +10,23 @@ use native.Mathlib.Omega.{arith}
 use Prim.Native.Nat.{ℕ, suc, ◌+◌, ◌-◌, ◌<◌, ◌≤◌}
 use Rattle.checks.specs.Checked.{SettingLoaded}
 use Rattle.iris.proofs.Loaded.{lent, value_at, value_length, value_start, values_many}
-use Rattle.iris.specs.Read.{first_part, found_of, part_end}
-use Rattle.iris.specs.declared.arguments.Found.TheVariants.{At, Nothing}
+use Rattle.iris.specs.Read.{first_part, found_of}
+use Rattle.std.specs.Prelude.{None, Some}
 use Rattle.meaning.specs.Pack.{Pack, Text}
 use Rattle.meaning.specs.Tests.{same_text}
 use Rattle.pack.specs.Checked.{OfPack, accepted, well_formed}
 use Rattle.spelling.specs.Iri.{slash}
 use Rattle.spelling.specs.ReadBack.{find_by}
 use Rattle.spelling.specs.Segment.{segment}
+use Rattle.meaning.proofs.Cases.{case_on}
 use Rattle.meaning.proofs.Lists.Places.{drop_entry}
+use Rattle.std.proofs.lemmas.List.Recursion.{is_position_or_len}
+use Rattle.std.specs.List.{position_or_len}
+use Rattle.std.specs.Option.{unwrap_or}
+use Rattle.std.specs.Prelude as Prelude
+use lib.Dec.{ltb}
+use Rattle.std.proofs.lemmas.List.Sums.{prefix_len-le-length}
+use lib.Dec.{eqb}
 
 -- ---- the first v values are others
 
@@ -41,7 +48,7 @@ pub finding_start : (s part : Text) → Finding s part 0
 finding_start s part = record { is = λ P w. map_zero (find_by segment P.setting.values part) }
 
 module _ {s part counts numbers : List ℕ} {v : ℕ} (l : SettingLoaded s counts numbers) (f : Finding s part v) where
-  pub found_none : get_or counts 0 0 ≤ v → OfPack s (λ P. Nothing ≡ found_of (find_by segment P.setting.values part))
+  pub found_none : get_or counts 0 0 ≤ v → OfPack s (λ P. None ≡ found_of (find_by segment P.setting.values part))
   unfolding find_by found_of
   found_none h P w =
       let k : length (values_of P) ≤ v = omega (arith, values_many l P w) in
@@ -63,7 +70,7 @@ module _ {s part counts numbers : List ℕ} {v : ℕ} (l : SettingLoaded s count
           ∙ rw add-one (rw (drop_entry (values_of P) v x.it x.listed, sym (same P w) ∙ q) at (f.is P w));
     }
 
-    pub found_here : r ≡ true → OfPack s (λ P. At v ≡ found_of (find_by segment P.setting.values part))
+    pub found_here : r ≡ true → OfPack s (λ P. Some v ≡ found_of (find_by segment P.setting.values part))
     unfolding find_by found_of
     found_here q P w =
         let x = value_at l h P w in
@@ -71,25 +78,14 @@ module _ {s part counts numbers : List ℕ} {v : ℕ} (l : SettingLoaded s count
         let g : some (v + 0) ≡ find_by segment (values_of P) part = rw (drop_entry (values_of P) v x.it x.listed, sym (same P w) ∙ q) at (f.is P w) in
         rw (← g, z)
 
--- ---- the end of a part
+-- ---- how many bytes stand before the first "/"
 
-pub record Seeking (text : Text) (at end : ℕ) : Type 0 where
-  pub is : part_end text end ≡ part_end text at
+pub first_slash : (s : Text) → length (first_part s) ≡ position_or_len (λ b. eqb b slash) s
+unfolding first_part
+first_slash = is_position_or_len (λ s. length (first_part s)) (λ b. eqb b slash) refl (λ b s. case_on (eqb b slash) (λ e. rw (e, first_part)) (λ e. rw (e, first_part) (let z : suc (length (first_part s)) ≡ 1 + length (first_part s) = omega arith in z)))
 
-pub seeking_start : (text : Text) (at : ℕ) → Seeking text at at
-seeking_start text at = record { is = refl }
-
-module _ {text : Text} {at end : ℕ} (s : Seeking text at end) where
-  pub seeking_again : end < length text → (get_or text end 0 ≡ slash → ⊥) → Seeking text at (end + 1)
-  unfolding part_end first_part
-  seeking_again h n =
-      let k : end + suc (length (first_part (drop (suc end) text))) ≡ part_end text at = rw (drop-cons text end 0 h, ne_eqb (get_or text end 0) slash n) at s.is in
-      record { is = rw add-one (omega arith) }
-
-  pub seeking_here : end < length text → get_or text end 0 ≡ slash → end ≡ part_end text at
-  unfolding part_end first_part
-  seeking_here h e = let k = rw (drop-cons text end 0 h, eq-eqb (get_or text end 0) slash e) at s.is in omega arith
-
-  pub seeking_end : length text ≤ end → end ≡ part_end text at
-  unfolding part_end first_part
-  seeking_end h = let k = rw (drop_of_length-le text h) at s.is in omega arith
+-- `position`, with the length where none passes
+pub position_or : (test : ℕ → Bool) (s : Text) (r : Prelude.Option ℕ) → r ≡ cond (ltb (position_or_len test s) (length s)) (Some (position_or_len test s)) None
+    → unwrap_or r (length s) ≡ position_or_len test s
+position_or test s r e =
+    case_on (ltb (position_or_len test s) (length s)) (λ t. rw (e, t)) (λ t. rw (e, t) (omega (arith, ltb-false (position_or_len test s) (length s) t, prefix_len-le-length (λ x. not (test x)) s)))

@@ -3,7 +3,6 @@ use Rattle.meaning.proofs.Lists.Parts.{same_part}
 use lib.ListN.{drop, length, take}
 use lib.Seq.{drop-drop, take-length}
 use mathlib.Core.List.{List, [], ◌∷◌, ◌++◌}
-use mathlib.Core.Option.{none-ne-some}
 use mathlib.Core.Path.{◌≡◌, sym, ap, subst, ◌∙◌}
 use native.Mathlib.Omega.{arith}
 use Prim.Native.Nat.{ℕ, ◌+◌, ◌*◌, ◌≤◌}
@@ -16,9 +15,6 @@ use Rattle.meaning.proofs.Lists.Blocks.{record_end}
 -- ---- one record more
 
 module _ {A : Type 0} (N : A → List ℕ → Type 0) (w : ℕ) where
-  pub held_none : (at : ℕ) (out : List ℕ) → RecordsHeld N w [] at out
-  held_none at out = record { each = λ i x e. absurd (none-ne-some x e) }
-
   pub held_more : {done : List A} {a : A} {numbers out out' : List ℕ} → RecordsHeld N w done 0 out → N a numbers → length numbers ≡ w → length done * w + w ≤ length out
       → Put numbers (length done * w) out out' → RecordsHeld N w (done ++ (a ∷ [])) 0 out'
   held_more {done} {a} {numbers} {out} {out'} h n m room p = record {

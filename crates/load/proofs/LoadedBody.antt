@@ -8,6 +8,7 @@ use mathlib.Core.Path.{◌≡◌, refl, ap, ◌∙◌}
 use native.Mathlib.Nat.{mul-le-mul_right}
 use native.Mathlib.Omega.{arith}
 use Prim.Native.Nat.{ℕ, ◌+◌, ◌*◌, ◌-◌, ◌≤◌}
+use Rattle.std.specs.Prelude.{Option, Some, None}
 use Rattle.load.specs.Bodies.{body_kind, limit_of, place_of}
 use Rattle.load.specs.Loaded.{BodyLoaded, BodyShown, PartIn, PartShown, BodyRoom}
 use Rattle.pack.specs.Contents.{body_of}
@@ -16,8 +17,6 @@ use Rattle.pack.specs.Readers.{Reader}
 use Rattle.pack.specs.Shown.{BodyAt}
 use Rattle.pack.specs.Unpack.{at_most, body, read_all}
 use Rattle.pack.specs.declared.cursor.Cursor.{Cursor}
-use Rattle.load.specs.declared.Count.{Count}
-use Rattle.load.specs.declared.Count.TheVariants.{Records, Bad as NoCount}
 use Rattle.pack.specs.declared.kinds.Kind.{Kind}
 use Rattle.records.specs.PackHeld.{width}
 use Rattle.records.specs.Numbers.{NumbersOf}
@@ -46,7 +45,7 @@ module _ (i : ℕ) {k : Kind} {limit at : ℕ} (e : k ≡ body_kind i) (f : limi
     here : take (length part) (drop at after) ≡ part
     here = ap (take (length part)) (drop_at (take at out) (part ++ rest) at front) ∙ take_at part rest (length part) refl
 
-    loaded : {n : ℕ} → BodyLoaded k s c limit n part → PartIn i k limit at s n after
+    loaded : {n : ℕ} → BodyLoaded k c limit n part → PartIn i k limit at s n after
     loaded {n} l =
         let few : length l.records ≤ limit = omega (arith, l.many, l.few) in
         let all : length l.records * width k ≤ length part = omega (arith, long, mul-le-mul_right {m = length l.records} {n = limit} (width k) few) in
@@ -55,9 +54,9 @@ module _ (i : ℕ) {k : Kind} {limit at : ℕ} (e : k ≡ body_kind i) (f : limi
           read = few_read (reader_of k) limit (body_of s i) l.records (rw b.is at l.read) few;
           many = l.many;
           few = l.few;
-          held = held_at (NumbersOf k s) (width k) at l.held all here;
+          held = held_at (NumbersOf k s) (width k) at (rw b.bytes at l.held) all here;
         }
 
-    pub part_shown : (r : Count) → BodyShown k s c limit part r → PartShown i s out after r
-    part_shown (Records n) l = record { part = rw (← e, ← f, ← g) (loaded l); kept = rw (← g) (take_at (take at out) (part ++ rest) at front) }
-    part_shown NoCount h = rw (e, f, b.is) at h
+    pub part_shown : (r : Option ℕ) → BodyShown k c limit part r → PartShown i s out after r
+    part_shown (Some n) l = record { part = rw (← e, ← f, ← g) (loaded l); kept = rw (← g) (take_at (take at out) (part ++ rest) at front) }
+    part_shown None h = rw (e, f, b.is) at h

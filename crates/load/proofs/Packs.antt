@@ -7,11 +7,9 @@ use mathlib.Core.Path.{◌≡◌, refl, sym, ap, subst, ◌∙◌}
 use native.Mathlib.Decide.{dec_lt}
 use native.Mathlib.Nat.{mul-le-mul_right, suc-mul}
 use native.Mathlib.Omega.{arith}
-use Prim.Native.Nat.{ℕ, suc, ◌+◌, ◌*◌, ◌≤◌, ◌<◌, zero-le}
+use Prim.Native.Nat.{ℕ, suc, ◌+◌, ◌*◌, ◌≤◌, ◌<◌}
 use Rattle.load.specs.Bodies.{body_kind, limit_of, place_of}
-use Rattle.load.specs.Loaded.{NoPart, PackLoaded, PartIn, PartLoaded, PartShown}
-use Rattle.load.specs.declared.Count.{Count}
-use Rattle.load.specs.declared.Count.TheVariants.{Records}
+use Rattle.load.specs.Loaded.{NoPart, PackLoaded, PartIn, PartLoaded}
 use Rattle.meaning.specs.Limits.{bodies, constructors_at, dependencies_at, max_constructors, max_dependencies, max_predicates, max_relations, max_rows, max_rules, rows_body}
 use Rattle.meaning.specs.Limits.{max_shapes, max_types, max_values, predicates_at, relations_at, row_width, rules_at, shapes_at, types_at, values_at, rows_body}
 use Rattle.meaning.specs.Pack.{Pack, Row, Setting}
@@ -24,9 +22,6 @@ use Rattle.records.specs.Numbers.{NumbersOf}
 use Rattle.load.proofs.Places.{ends_before}
 use Rattle.load.proofs.HeldRecords.{held_kept}
 use Rattle.meaning.proofs.Lists.Below.{each_at}
-
-pub as_part : {i : ℕ} {s : List ℕ} {n : ℕ} {out out' : List ℕ} {r : Count} → r ≡ Records n → PartShown i s out out' r → PartLoaded i s n out out'
-as_part {i} {s} {n} {out} {out'} e h = subst (PartShown i s out out') e h
 
 -- ---- a body that is not whole
 
@@ -93,9 +88,6 @@ pub record Before (i : ℕ) (s counts numbers₀ numbers : List ℕ) : Type 0 wh
   pub nine : length counts ≡ bodies
   pub long : length numbers ≡ length numbers₀
   pub each : (j : ℕ) → j < i → Part j s (get_or counts j 0) numbers
-
-pub before_start : (s counts numbers : List ℕ) → length counts ≡ bodies → Before 0 s counts numbers numbers
-before_start s counts numbers e = record { within = zero-le; nine = e; long = refl; each = λ j h. absurd (let z : ⊥ = omega arith in z) }
 
 pub before_on : {i n : ℕ} {s counts numbers₀ numbers numbers' : List ℕ} → Before i s counts numbers₀ numbers → i < rows_body → length numbers' ≡ length numbers
     → PartLoaded i s n numbers numbers' → Before (i + 1) s (set counts i n) numbers₀ numbers'

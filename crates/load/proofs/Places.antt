@@ -1,31 +1,15 @@
--- The bodies of a pack by their numbers: what holds of each, where each ends. Assumes nothing.
-use lib.ListN.{get_or-eq_default, length}
+-- The bodies of a pack by their numbers: where each ends. Assumes nothing.
+use lib.ListN.{length}
 use mathlib.Core.List.{List}
-use mathlib.Core.Path.{◌≡◌, refl, sym}
+use mathlib.Core.Path.{◌≡◌, refl}
 use native.Mathlib.Decide.{dec_lt}
 use native.Mathlib.Omega.{arith}
 use Prim.Native.Nat.{ℕ, zero, suc, ◌+◌, ◌*◌, ◌-◌, ◌≤◌, ◌<◌}
-use Rattle.load.specs.Bodies.{body_kind, kinds, limit_of, limits, place_of, places}
+use Rattle.load.specs.Bodies.{body_kind, limit_of, place_of}
 use Rattle.load.specs.Loaded.{BodyRoom}
-use Rattle.meaning.specs.Limits.{max_rows, rows_length, setting_length, rows_body}
-use Rattle.pack.specs.declared.kinds.Kind.TheVariants as K
+use Rattle.meaning.specs.Limits.{rows_length, setting_length, rows_body}
 use Rattle.records.specs.PackHeld.{width}
-use Rattle.meaning.proofs.Lists.Below.{NoneOf, each_at, past}
-
--- ---- the rows come last
-
-module _ (i : ℕ) (t : NoneOf rows_body i) where
-  pub last_kind : K.Row ≡ body_kind i
-  unfolding body_kind
-  last_kind = sym (get_or-eq_default kinds K.Row (past rows_body i t))
-
-  pub last_limit : max_rows ≡ limit_of i
-  unfolding limit_of
-  last_limit = sym (get_or-eq_default limits max_rows (past rows_body i t))
-
-  pub last_place : 0 ≡ place_of i
-  unfolding place_of
-  last_place = sym (get_or-eq_default places 0 (past rows_body i t))
+use Rattle.meaning.proofs.Lists.Below.{each_at}
 
 -- ---- where a body ends
 

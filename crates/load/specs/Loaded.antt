@@ -1,5 +1,5 @@
 -- What loading a body, and loading a pack, say. Assumes nothing.
-use Rattle.std.specs.Prelude.{length, take, Bool, true, false, List, ◌≡◌, ℕ, ◌+◌, ◌*◌, ◌≤◌}
+use Rattle.std.specs.Prelude.{length, take, List, ◌≡◌, ℕ, ◌+◌, ◌*◌, ◌≤◌, Option, Some, None}
 use Rattle.std.proofs.Math.Option.{none, some}
 use Rattle.meaning.specs.Pack.{Pack}
 use Rattle.pack.specs.Contents.{body_of}
@@ -10,20 +10,18 @@ use Rattle.pack.specs.declared.cursor.Cursor.{Cursor}
 use Rattle.pack.specs.declared.kinds.Kind.{Kind}
 use Rattle.records.specs.PackHeld.{BodyHeld, PackHeld, width}
 use Rattle.load.specs.Bodies.{body_kind, limit_of, place_of}
-use Rattle.load.specs.declared.Count.{Count}
-use Rattle.load.specs.declared.Count.TheVariants.{Records, Bad as NoCount}
 
 -- The body from c on is n records, no more than the limit, and the numbers hold them from their front on.
-pub record BodyLoaded (k : Kind) (s : List ℕ) (c : Cursor) (limit n : ℕ) (out : List ℕ) : Type 0 where
+pub record BodyLoaded (k : Kind) (c : Cursor) (limit n : ℕ) (out : List ℕ) : Type 0 where
   pub records : List (RecordOf k)
-  pub read : read_all (reader_of k) (left s c) ≡ some records
+  pub read : read_all (reader_of k) (left c) ≡ some records
   pub many : n ≡ length records
   pub few : n ≤ limit
-  pub held : BodyHeld k s records 0 out
+  pub held : BodyHeld k c.bytes.now records 0 out
 
-abbrev pub BodyShown : Kind → List ℕ → Cursor → ℕ → List ℕ → Count → Type 0
-BodyShown k s c limit out (Records n) = BodyLoaded k s c limit n out
-BodyShown k s c limit out NoCount = body (reader_of k) limit (left s c) ≡ none
+abbrev pub BodyShown : Kind → Cursor → ℕ → List ℕ → Option ℕ → Type 0
+BodyShown k c limit out (Some n) = BodyLoaded k c limit n out
+BodyShown k c limit out None = body (reader_of k) limit (left c) ≡ none
 
 -- There is room for body i at its place.
 abbrev pub BodyRoom : ℕ → List ℕ → Type 0
@@ -46,9 +44,9 @@ pub record PartLoaded (i : ℕ) (s : List ℕ) (n : ℕ) (out out' : List ℕ) :
 abbrev pub NoPart : ℕ → List ℕ → Type 0
 NoPart i s = body (reader_of (body_kind i)) (limit_of i) (body_of s i) ≡ none
 
-abbrev pub PartShown : ℕ → List ℕ → List ℕ → List ℕ → Count → Type 0
-PartShown i s out out' (Records n) = PartLoaded i s n out out'
-PartShown i s out out' NoCount = NoPart i s
+abbrev pub PartShown : ℕ → List ℕ → List ℕ → List ℕ → Option ℕ → Type 0
+PartShown i s out out' (Some n) = PartLoaded i s n out out'
+PartShown i s out out' None = NoPart i s
 
 -- The bytes are a pack, and the numbers hold it.
 pub record PackLoaded (s counts numbers rows : List ℕ) : Type 0 where
@@ -56,6 +54,6 @@ pub record PackLoaded (s counts numbers rows : List ℕ) : Type 0 where
   pub is : unpack s ≡ some pack
   pub held : PackHeld s pack counts numbers rows
 
-abbrev pub PackShown : Bool → List ℕ → List ℕ → List ℕ → List ℕ → Type 0
-PackShown true s counts numbers rows = PackLoaded s counts numbers rows
-PackShown false s counts numbers rows = unpack s ≡ none
+abbrev pub PackShown : List ℕ → Option (List ℕ) → List ℕ → List ℕ → Type 0
+PackShown s (Some counts) numbers rows = PackLoaded s counts numbers rows
+PackShown s None numbers rows = unpack s ≡ none

@@ -4,10 +4,11 @@ ghost use Rattle.load.specs.Bodies.{body_kind, limit_of, place_of};
 ghost use Rattle.records.specs.PackHeld.{width};
 
 use meaning::{
-    CONSTRUCTOR_WIDTH, CONSTRUCTORS_AT, DEPENDENCIES_AT, DEPENDENCY_WIDTH, MAX_CONSTRUCTORS,
-    MAX_DEPENDENCIES, MAX_PREDICATES, MAX_RELATIONS, MAX_ROWS, MAX_RULES, MAX_SHAPES, MAX_TYPES,
-    MAX_VALUES, PREDICATES_AT, RELATION_WIDTH, RELATIONS_AT, ROW_WIDTH, RULE_WIDTH, RULES_AT,
-    SHAPE_WIDTH, SHAPES_AT, TEXT_WIDTH, TYPES_AT, VALUES_AT,
+    CONSTRUCTOR_WIDTH, CONSTRUCTORS_AT, CONSTRUCTORS_BODY, DEPENDENCIES_AT, DEPENDENCIES_BODY,
+    DEPENDENCY_WIDTH, MAX_CONSTRUCTORS, MAX_DEPENDENCIES, MAX_PREDICATES, MAX_RELATIONS, MAX_ROWS,
+    MAX_RULES, MAX_SHAPES, MAX_TYPES, MAX_VALUES, PREDICATES_AT, PREDICATES_BODY, RELATION_WIDTH,
+    RELATIONS_AT, RELATIONS_BODY, ROW_WIDTH, RULE_WIDTH, RULES_AT, RULES_BODY, SHAPE_WIDTH,
+    SHAPES_AT, SHAPES_BODY, TEXT_WIDTH, TYPES_AT, TYPES_BODY, VALUES_AT, VALUES_BODY,
 };
 use pack::kinds::Kind;
 
@@ -27,56 +28,20 @@ pub fn width(kind: Kind) -> usize
     }
 }
 
-// Which kind of record body i has.
-#[tactic(auto, unfolding(crate::specs::Bodies::body_kind))]
-pub fn kind_of(i: usize) -> Kind
-    ensures { result ≡ body_kind i }
+// Of body i: the kind of its records, how many there may be, and where they stand.
+#[tactic(auto, unfolding(crate::specs::Bodies::body_kind, crate::specs::Bodies::limit_of, crate::specs::Bodies::place_of))]
+pub fn layout(i: usize) -> (Kind, usize, usize)
+    ensures { (result.0 ≡ body_kind i) × (result.1 ≡ limit_of i) × (result.2 ≡ place_of i) }
 {
     match i {
-        0 => Kind::Value,
-        1 => Kind::Relation,
-        2 => Kind::Dependency,
-        3 => Kind::Name,
-        4 => Kind::Name,
-        5 => Kind::Shape,
-        6 => Kind::Constructor,
-        7 => Kind::Rule,
-        _ => Kind::Row,
-    }
-}
-
-// How many records it may have.
-#[tactic(auto, unfolding(crate::specs::Bodies::limit_of))]
-pub fn limit_of(i: usize) -> usize
-    ensures { result ≡ limit_of i }
-{
-    match i {
-        0 => MAX_VALUES,
-        1 => MAX_RELATIONS,
-        2 => MAX_DEPENDENCIES,
-        3 => MAX_TYPES,
-        4 => MAX_PREDICATES,
-        5 => MAX_SHAPES,
-        6 => MAX_CONSTRUCTORS,
-        7 => MAX_RULES,
-        _ => MAX_ROWS,
-    }
-}
-
-// Where it stands.
-#[tactic(auto, unfolding(crate::specs::Bodies::place_of))]
-pub fn place_of(i: usize) -> usize
-    ensures { result ≡ place_of i }
-{
-    match i {
-        0 => VALUES_AT,
-        1 => RELATIONS_AT,
-        2 => DEPENDENCIES_AT,
-        3 => TYPES_AT,
-        4 => PREDICATES_AT,
-        5 => SHAPES_AT,
-        6 => CONSTRUCTORS_AT,
-        7 => RULES_AT,
-        _ => 0,
+        VALUES_BODY => (Kind::Value, MAX_VALUES, VALUES_AT),
+        RELATIONS_BODY => (Kind::Relation, MAX_RELATIONS, RELATIONS_AT),
+        DEPENDENCIES_BODY => (Kind::Dependency, MAX_DEPENDENCIES, DEPENDENCIES_AT),
+        TYPES_BODY => (Kind::Name, MAX_TYPES, TYPES_AT),
+        PREDICATES_BODY => (Kind::Name, MAX_PREDICATES, PREDICATES_AT),
+        SHAPES_BODY => (Kind::Shape, MAX_SHAPES, SHAPES_AT),
+        CONSTRUCTORS_BODY => (Kind::Constructor, MAX_CONSTRUCTORS, CONSTRUCTORS_AT),
+        RULES_BODY => (Kind::Rule, MAX_RULES, RULES_AT),
+        _ => (Kind::Row, MAX_ROWS, 0),
     }
 }

@@ -115,12 +115,12 @@ module _ {vs env : List ℕ} {low high : ℕ} {c : ℕ} (b : Bounds vs env c low
             same : to ≡ i
             same = omega (arith, m, n)
 
-  pub span_before : (to : ℕ) → from ≤ to → to < length keys → high < get_or keys to 0 → SpanOf (record { from = from; to = to }) vs env keys
+  pub span_before : (to : ℕ) → from ≤ to → to < length keys → high < get_or keys to 0 → SpanOf (record { start = from; end = to }) vs env keys
   span_before to h k g = record { within = omega (arith, k); holds = λ σ s x i l e. (from_le σ s x i l e, before_above σ s x i l e to k g) }
 
   module _ (last : ℕ) (t : last ≡ rank_of high keys) where
-    pub span_within : last < length keys → SpanOf (record { from = from; to = last + 1 }) vs env keys
+    pub span_within : last < length keys → SpanOf (record { start = from; end = last + 1 }) vs env keys
     span_within h = record { within = omega arith; holds = λ σ s x i l e. (from_le σ s x i l e, omega (arith, le_last σ s x i l e last t)) }
 
-    pub span_end : length keys ≤ last → SpanOf (record { from = from; to = last }) vs env keys
+    pub span_end : length keys ≤ last → SpanOf (record { start = from; end = last }) vs env keys
     span_end h = record { within = rw t (rank_le high keys); holds = λ σ s x i l e. (from_le σ s x i l e, omega (arith, l, h)) }

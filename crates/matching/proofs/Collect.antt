@@ -11,29 +11,31 @@ use Prim.Native.Nat.{ℕ, ◌+◌, ◌*◌, ◌/◌, ◌≤◌, ◌<◌, zero-le
 use Rattle.meaning.specs.Member.{◌∈◌}
 use Rattle.meaning.specs.Ordered.{InOrder, ListOf, empty}
 use Rattle.sets.proofs.Insertion.{added_list, present_list}
-use Rattle.sets.specs.Ordered.{WasAdded, WasPresent, WasFull}
+use Rattle.sets.proofs.Slices.{same_start}
+use Rattle.sets.specs.OrderedSet.{Inserted, OrderedSet, members_of}
+use Rattle.sets.specs.declared.ordered.Full.{Full}
+use Rattle.std.specs.Prelude.{Bool, true, false, Ok, Err}
 use Rattle.meaning.specs.Core.{Assignment}
 use Rattle.meaning.specs.Limits.{row_width, unused}
-use Rattle.matching.specs.Plan.{stacked, masked, Among, CellsAre, FirstColumns, KeyFrom, Candidate}
+use Rattle.matching.specs.Plan.{stacked, masked, Among, CellsAre, FirstColumns, KeyFrom, Candidate, Stored}
 use Rattle.matching.proofs.Cells.{cell_of, Cells, cells_same, cells_done, columns_are}
 use Rattle.meaning.proofs.Lists.SetLists.{list_as, own_list}
 use Rattle.meaning.proofs.Lists.Members.{map_same}
 
 -- ---- one key
 
-module _ (key n : ℕ) (out out' : List ℕ) (a : InOrder ◌<◌ (take n out)) where
-  pub store_added : WasAdded n key out out' → (n + 1 ≤ n + 1) × ListOf ◌<◌ (λ k. (k ≡ key) ⊎ (k ∈ take n out)) (take (n + 1) out')
-  store_added w = (omega arith, added_list w (own_list a))
+module _ {key : ℕ} {a : OrderedSet} (o : InOrder ◌<◌ (members_of a)) where
+  pub stored : {b : OrderedSet} (added : Bool) → Inserted (Ok added) key a b → Stored key a b
+  stored true i = (omega (arith, i.count), rw i.count (added_list i.answer (own_list o)), i.same)
+  stored false i = (omega (arith, i.count), rw i.count (present_list i.answer (own_list o)), i.same)
 
-  pub store_present : WasPresent n key out out' → (n ≤ n + 1) × ListOf ◌<◌ (λ k. (k ≡ key) ⊎ (k ∈ take n out)) (take n out')
-  store_present w = (omega arith, present_list w (own_list a))
+  -- it is in the set
+  pub stored_before : key ∈ members_of a → Stored key a a
+  stored_before m = (omega arith, record { ascending = o; members = λ k. (inr, ⊎_elim (λ e. rw e m) (λ x. x)) }, same_start)
 
-  pub store_full : n < length out → WasFull n key out out' → (n ≤ n + 1) × ListOf ◌<◌ (λ k. (k ≡ key) ⊎ (k ∈ take n out)) (take n out')
-  store_full h w = absurd (omega (arith, h, w.full))
-
--- a key that is in the set
-pub store_known : (key n : ℕ) (out : List ℕ) → InOrder ◌<◌ (take n out) → key ∈ take n out → (n ≤ n + 1) × ListOf ◌<◌ (λ k. (k ≡ key) ⊎ (k ∈ take n out)) (take n out)
-store_known key n out a m = (omega arith, record { ascending = a; members = λ k. (inr, ⊎_elim (λ e. rw e m) (λ x. x)) })
+-- there is room
+pub not_full : {key : ℕ} {a b : OrderedSet} {e : Full} → a.count < length a.keys → Inserted (Err e) key a b → ⊥
+not_full h i = omega (arith, h, i.answer.full)
 
 -- ---- the rows
 

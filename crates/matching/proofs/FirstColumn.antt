@@ -1,15 +1,17 @@
 -- Laws of the first columns of an atom's variables. Assumes nothing.
 use borrow.Author.Tests.{eq-eqb, ne_eqb}
-use lib.Dec.{eqb}
-use lib.ListN.{length, get_or, set, drop, length-set, drop_of_length-le}
-use lib.Seq.{drop-cons, get_or-set_same, get_or-set_other}
-use mathlib.Core.Bool.{cond}
+use lib.ListN.{length, get_or, set, length-set}
+use lib.Seq.{get_or-set_same, get_or-set_other}
 use mathlib.Core.List.{List, [], ◌∷◌}
-use mathlib.Core.Path.{◌≡◌, sym, ap, ◌∙◌}
+use mathlib.Core.Path.{◌≡◌, refl, sym, ◌∙◌}
 use native.Mathlib.Decide.{ℕ_discrete}
 use native.Mathlib.Numerals.{add-one}
 use native.Mathlib.Omega.{arith}
-use Prim.Native.Nat.{ℕ, suc, ◌+◌, ◌≤◌, ◌<◌, zero-le, suc-le-suc}
+use Prim.Native.Nat.{ℕ, ◌+◌, ◌≤◌, ◌<◌, zero-le, suc-le-suc}
+use Rattle.std.proofs.lemmas.Iterator.{index_from_first}
+use Rattle.std.specs.List.{AllWithin, HoldsAt}
+use Rattle.std.specs.Option.{unwrap_or}
+use Rattle.std.specs.Prelude.{Option, MatchOption}
 use Rattle.meaning.specs.Member.{◌∈◌, here, there}
 use Rattle.matching.specs.Plan.{column_of, FirstColumns}
 use Rattle.meaning.specs.Limits.{key_width}
@@ -31,31 +33,21 @@ has (w ∷ own) v m = go m (λ n. has own v n) (ℕ_discrete w v)
 pub column_has : {own : List ℕ} {v : ℕ} → v ∈ own → (column_of own v < length own) × (get_or own (column_of own v) 0 ≡ v)
 column_has m = has _ _ m
 
--- ---- one variable
+-- what a search for a variable gives
+pub column_found : (v : ℕ) (own : List ℕ) (r : Option ℕ)
+    → MatchOption r (AllWithin (λ w. w ≡ v → ⊥) own 0 (length own)) (λ i. (i < length own) × HoldsAt (λ w. w ≡ v) own i × AllWithin (λ w. w ≡ v → ⊥) own 0 i)
+    → column_of own v ≡ unwrap_or r (length own)
+unfolding column_of
+column_found v own r = index_from_first (λ l. column_of l v) (λ w. w ≡ v) (λ w. w ≡ v → ⊥) none hit miss own r
+  where
+    none : column_of [] v ≡ 0
+    none = refl
 
--- no column before c has it
-pub record Seeking (own : List ℕ) (v c : ℕ) : Type 0 where
-  pub within : c ≤ length own
-  pub left : c + column_of (drop c own) v ≡ column_of own v
+    hit : (x : ℕ) (xs : List ℕ) → x ≡ v → column_of (x ∷ xs) v ≡ 0
+    hit x xs e = rw (eq-eqb x v e) refl
 
-pub seek_start : (own : List ℕ) (v : ℕ) → Seeking own v 0
-seek_start own v = record { within = zero-le; left = omega arith }
-
-module _ {own : List ℕ} {v c : ℕ} (i : Seeking own v c) where
-  module _ (h : c < length own) where
-    next : column_of (drop c own) v ≡ cond (eqb (get_or own c 0) v) 0 (suc (column_of (drop (suc c) own) v))
-    unfolding column_of
-    next = rw (drop-cons own c 0 h)
-
-    pub seek_found : get_or own c 0 ≡ v → c ≡ column_of own v
-    seek_found e = let x = rw (eq-eqb _ _ e) at next in omega (arith, x, i.left)
-
-    pub seek_again : (get_or own c 0 ≡ v → ⊥) → Seeking own v (c + 1)
-    seek_again n = let x = rw (ne_eqb _ _ n) at next in record { within = omega arith; left = rw add-one (omega (arith, x, i.left)) }
-
-  pub seek_done : length own ≤ c → length own ≡ column_of own v
-  unfolding column_of
-  seek_done h = let x = ap (λ (l : List ℕ). column_of l v) (drop_of_length-le own h) in omega (arith, x, i.left, i.within)
+    miss : (x : ℕ) (xs : List ℕ) → (x ≡ v → ⊥) → column_of (x ∷ xs) v ≡ column_of xs v + 1
+    miss x xs n = rw (ne_eqb x v n) (sym (add-one _))
 
 -- ---- each of the variables
 

@@ -9,8 +9,9 @@ use Rattle.meaning.specs.Member.{◌∈◌, here, there}
 use Rattle.meaning.specs.Ordered.{InOrder, before}
 use Rattle.sets.proofs.Insertion.{added_list, present_list}
 use Rattle.sets.specs.Ordered.{WasAdded, WasPresent, WasFull}
-use Rattle.matching.specs.declared.Heads.{Heads}
-use Rattle.matching.specs.declared.Heads.TheVariants.{Listed, Over}
+use Rattle.sets.specs.declared.ordered.Full.{Full}
+use Rattle.sets.specs.OrderedSet.{Inserted, OrderedSet, members_of}
+use Rattle.std.specs.Prelude.{Bool, false, true, Result, Ok, Err}
 use Rattle.matching.specs.Plan.{GrownTo, GrownOver, KeysGrown}
 use Rattle.meaning.proofs.Lists.SetLists.{list_as, own_list}
 use Rattle.meaning.proofs.Lists.Counting.{over_sub}
@@ -73,6 +74,11 @@ module _ (x n : ℕ) (keys keys' : List ℕ) (a : InOrder ◌<◌ (take n keys))
 
 -- ---- by cases on the answer
 
-pub grown_by : (r : Heads) (keys : List ℕ) (n : ℕ) (keys' : List ℕ) {P Q : ℕ → Type 0} → ((k : ℕ) → P k ↔ Q k) → KeysGrown r keys n P keys' → KeysGrown r keys n Q keys'
-grown_by (Listed m) keys n keys' f g = grown_iff f g
-grown_by Over keys n keys' f g = over_iff (λ k. (f k).0) g
+pub grown_by : {A : Type 0} (r : Result A Full) (a b : OrderedSet) {P Q : ℕ → Type 0} → ((k : ℕ) → P k ↔ Q k) → KeysGrown r P a b → KeysGrown r Q a b
+grown_by (Ok _) a b f g = (grown_iff f g.0, g.1)
+grown_by (Err _) a b f g = over_iff (λ k. (f k).0) g
+
+pub grown_one : {x : ℕ} {a b : OrderedSet} → a.count ≤ length a.keys → InOrder ◌<◌ (members_of a) → (r : Result Bool Full) → Inserted r x a b → KeysGrown r (λ k. k ≡ x) a b
+grown_one l o (Ok true) i = (rw i.count (one_added _ _ _ _ o i.answer), i.same)
+grown_one l o (Ok false) i = (rw i.count (one_present _ _ _ _ o l i.answer), i.same)
+grown_one l o (Err _) i = one_over _ _ _ _ o i.answer

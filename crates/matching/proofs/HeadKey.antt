@@ -9,8 +9,10 @@ use Prim.Native.Nat.{ℕ, ◌+◌, ◌*◌, ◌^◌, ◌≤◌, ◌<◌, zero-le
 use Rattle.meaning.specs.Limits.{key_room, max_values, unused}
 use Rattle.meaning.specs.Member.{◌∈◌}
 use Rattle.meaning.specs.Tables.{packed}
-use Rattle.matching.specs.Plan.{Bound, AllBound, Bindings, binding_of, KeyVariables, BoundKey}
-use Rattle.matching.specs.declared.keys.Head.TheVariants.{Key, Open}
+use Rattle.matching.specs.Plan.{Bound, AllBound, Bindings, binding_of, KeyVariables, BoundKey, Settled}
+use Rattle.std.specs.Prelude.{Option, Some, None}
+use Rattle.std.specs.Option.{is_some}
+use Rattle.sets.specs.Ordered.{Search}
 use Rattle.matching.proofs.Bytes.{pow_next, below_room}
 use Rattle.meaning.proofs.Lists.Places.{∈_at, ∈_index}
 use Rattle.meaning.proofs.Lists.Below.{below_next}
@@ -41,15 +43,19 @@ module _ {vars env : List ℕ} {i key : ℕ} (m : Making vars env i key) (h : i 
     is = rw add-one (rw (drop-cons vars i 0 h) at m.is);
   }
 
-  pub making_open : get_or env (get_or vars i 0) 0 ≡ unused → BoundKey Open vars env
+  pub making_open : get_or env (get_or vars i 0) 0 ≡ unused → BoundKey None vars env
   making_open e = (get_or vars i 0, ∈_at vars i h, e)
 
-pub making_done : {vars env : List ℕ} {i key : ℕ} → Making vars env i key → length vars ≤ i → BoundKey (Key key) vars env
+pub making_done : {vars env : List ℕ} {i key : ℕ} → Making vars env i key → length vars ≤ i → BoundKey (Some key) vars env
 making_done {vars} {env} {i} {key} m h = (bound, rw drop_of_length-le at m.is)
   where
     bound : (v : ℕ) → v ∈ vars → Bound env v
     bound v k = let p = ∈_index k in subst (Bound env) p.2 (m.bound p.0 (omega (arith, p.1)))
 
-pub settled_at : (vars env set : List ℕ) (key i : ℕ) → BoundKey (Key key) vars env → (i < length set) × (get_or set i 0 ≡ key)
+settled_at : (vars env set : List ℕ) (key i : ℕ) → BoundKey (Some key) vars env → (i < length set) × (get_or set i 0 ≡ key)
     → AllBound vars env × (packed (map (binding_of env) vars) ∈ set)
 settled_at vars env set key i k f = (k.0, subst (λ x. x ∈ set) (f.1 ∙ k.1) (∈_at set i f.0))
+
+pub settled_by : (vars env set : List ℕ) (key : ℕ) → BoundKey (Some key) vars env → (o : Option ℕ) → Search o set key → Settled (is_some o) vars env set
+settled_by vars env set key k (Some i) f = settled_at vars env set key i k f
+settled_by vars env set key k None f = tt

@@ -1,13 +1,17 @@
 -- Laws of collecting each atom's candidates in its own part of a slice. Assumes nothing.
+use borrow.Author.Tests.{eqb-true}
+use lib.Dec.{eqb}
 use lib.ListN.{length, get_or, set, take, drop, length-take, length-drop, length-set}
-use lib.Seq.{get_or-set_same, get_or-set_other}
+use lib.Seq.{get_or-take, get_or-set_same, get_or-set_other}
+use mathlib.Core.Bool.{Bool, true, false}
 use mathlib.Core.List.{List, ◌++◌}
-use mathlib.Core.Path.{◌≡◌, refl, ◌∙◌}
+use mathlib.Core.Path.{◌≡◌, refl, sym, ◌∙◌}
 use native.Mathlib.Decide.{ℕ_discrete}
 use native.Mathlib.Omega.{arith}
 use Prim.Native.Nat.{ℕ, ◌+◌, ◌*◌, ◌-◌, ◌≤◌, ◌<◌, zero-le}
+use Rattle.std.specs.List.{IsAnyAnswer}
 use Rattle.meaning.specs.Ordered.{ListOf}
-use Rattle.matching.specs.Plan.{variables_at, candidates_at, Candidate, Prepared}
+use Rattle.matching.specs.Plan.{variables_at, candidates_at, Candidate, Prepared, Unmatched}
 use Rattle.meaning.specs.Limits.{atom_width, candidates_length, max_atoms, max_rows}
 use Rattle.meaning.proofs.Lists.Overwriting.{kept_front, part_replaced, put_there}
 
@@ -88,3 +92,10 @@ pub prepare_done : {rows atoms orders start : List ℕ} {count : ℕ} {out₀ : 
     → Preparing rows atoms orders start count out₀ j out counts → count ≤ j
     → Prepared rows atoms orders start count out counts
 prepare_done p h = record { counted = λ i l. p.counted i (omega (arith, l, h)); list = λ i l. p.list i (omega (arith, l, h)) }
+
+-- ---- an atom without candidates
+
+pub unmatched_by : (b : Bool) (counts : List ℕ) (count : ℕ) → IsAnyAnswer (λ y t. eqb y 0 ≡ t) (take count counts) b → Unmatched b counts count
+unmatched_by true counts count a =
+    (a.0, omega (arith, a.1, length-take count counts), sym (get_or-take count counts a.0 0 (omega (arith, a.1, length-take count counts))) ∙ eqb-true _ 0 (a.2 0))
+unmatched_by false counts count a = tt

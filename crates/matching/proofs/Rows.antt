@@ -34,7 +34,7 @@ use Rattle.matching.specs.Plan.{
   GrownTo,
   GrownOver,
 }
-use Rattle.matching.specs.declared.spans.Span.{Span}
+use Rattle.std.specs.declared.ops.Range.{Range}
 use Rattle.matching.proofs.Columns.{Small}
 use Rattle.matching.proofs.Grown.{grown_same, grown_iff, over_iff, grown_more, over_more}
 use Rattle.meaning.specs.Limits.{atom_width, max_atoms, max_columns, max_rows, max_values}
@@ -52,7 +52,7 @@ module _ {atoms : List ℕ} {count : ℕ} {vars cands counts : List ℕ} (p : Pl
   pub row_small : (r : ℕ) → r < get_or counts at 0 → get_or cands (at * max_rows + r) 0 < max_values ^ length (variables_at atoms at)
   row_small r h = p.small at l _ (row_in r h)
 
-  pub span_counted : {s : Span} {env : List ℕ} → SpanOf s (variables_at atoms at) env (candidates_at cands counts at) → {r : ℕ} → r < s.to → r < get_or counts at 0
+  pub span_counted : {s : Range ℕ} {env : List ℕ} → SpanOf s (variables_at atoms at) env (candidates_at cands counts at) → {r : ℕ} → r < s.end → r < get_or counts at 0
   span_counted s h = omega (arith, s.within, h, rows_length)
 
 -- ---- what the atom's part and the rows' part of the lists keep
@@ -121,16 +121,16 @@ module _ (atoms : List ℕ) (count : ℕ) (vars cands counts : List ℕ) (at : �
 
 module _ {atoms : List ℕ} {count : ℕ} {vars cands counts : List ℕ} (p : Plan atoms count vars cands counts) {at : ℕ} (l : at < count) {env : List ℕ} where
   -- a candidate that fits is in the span
-  inside : {s : Span} → SpanOf s (variables_at atoms at) env (candidates_at cands counts at) → {r k : ℕ} → (t : Tried atoms count vars cands counts at env r k)
-      → (s.from ≤ t.index) × (t.index < s.to)
+  inside : {s : Range ℕ} → SpanOf s (variables_at atoms at) env (candidates_at cands counts at) → {r k : ℕ} → (t : Tried atoms count vars cands counts at env r k)
+      → (s.start ≤ t.index) × (t.index < s.end)
   inside s t = s.holds t.solution.values t.solution.small t.solution.extends t.index (omega (arith, rows_length p l, t.counted)) (row_at p l t.index t.counted ∙ t.is)
 
-  pub trying_start : (keys : List ℕ) (n : ℕ) → n ≤ length keys → InOrder ◌<◌ (take n keys) → {s : Span} → SpanOf s (variables_at atoms at) env (candidates_at cands counts at)
-      → Trying atoms count vars cands counts at env keys n s.from n keys
+  pub trying_start : (keys : List ℕ) (n : ℕ) → n ≤ length keys → InOrder ◌<◌ (take n keys) → {s : Range ℕ} → SpanOf s (variables_at atoms at) env (candidates_at cands counts at)
+      → Trying atoms count vars cands counts at env keys n s.start n keys
   trying_start keys n h a s = record { long = refl; grown = grown_same keys n h a (λ k t. absurd (omega (arith, (inside s t).0, t.before))) }
 
   module _ {keys₀ : List ℕ} {n r m : ℕ} {keys : List ℕ} (i : Trying atoms count vars cands counts at env keys₀ n r m keys) where
-    pub trying_done : {s : Span} → SpanOf s (variables_at atoms at) env (candidates_at cands counts at) → s.to ≤ r
+    pub trying_done : {s : Range ℕ} → SpanOf s (variables_at atoms at) env (candidates_at cands counts at) → s.end ≤ r
         → GrownTo m keys₀ n (Solution atoms count vars cands counts at env) keys
     trying_done s h = grown_iff (λ k. (λ t. t.solution, back k)) i.grown
       where
@@ -237,13 +237,14 @@ module _ (atoms cands counts : List ℕ) (at : ℕ) where
 
 -- ---- the loop over the rows of a span
 
-pub record Turn (atoms : List ℕ) (count : ℕ) (vars cands counts : List ℕ) (at : ℕ) (env keys₀ : List ℕ) (n from to r m : ℕ) (keys : List ℕ) : Type 0 where
+pub record Turn (atoms : List ℕ) (count : ℕ) (vars cands counts : List ℕ) (at : ℕ) (env keys₀ : List ℕ) (n from to : ℕ) (s : Range ℕ) (m : ℕ) (keys : List ℕ) : Type 0 where
   pub plan : Plan atoms count vars cands counts
   pub left : at < count
   pub bindings : Bindings env
   pub reaches : Reaches atoms count vars cands counts at env
-  pub span : SpanOf (record { from = from; to = to }) (variables_at atoms at) env (candidates_at cands counts at)
-  pub trying : Trying atoms count vars cands counts at env keys₀ n r m keys
+  pub span : SpanOf (record { start = from; end = to }) (variables_at atoms at) env (candidates_at cands counts at)
+  pub ends : s.end ≡ to
+  pub trying : Trying atoms count vars cands counts at env keys₀ n s.start m keys
 
 -- an atom is left
 module _ {atoms : List ℕ} {count : ℕ} {vars cands counts : List ℕ} (p : Plan atoms count vars cands counts) {at : ℕ} (h : at ≤ count)
@@ -256,54 +257,71 @@ module _ {atoms : List ℕ} {count : ℕ} {vars cands counts : List ℕ} (p : Pl
   rows_given = rw (own_is atoms cands counts at, rows_are atoms cands counts at) (p.variables at atom_left, b, p.ascending at atom_left)
 
   pub turn_start : Reaches atoms count vars cands counts at env → (keys : List ℕ) (n : ℕ) → n ≤ length keys → InOrder ◌<◌ (take n keys)
-      → (s : Span) → SpanOf s (own_part atoms at) env (rows_part cands counts at) → Turn atoms count vars cands counts at env keys n s.from s.to s.from n keys
+      → (s : Range ℕ) → SpanOf s (own_part atoms at) env (rows_part cands counts at) → Turn atoms count vars cands counts at env keys n s.start s.end s n keys
   turn_start f keys n k o s q =
       let w : SpanOf s (variables_at atoms at) env (candidates_at cands counts at) = rw (own_is atoms cands counts at, rows_are atoms cands counts at) at q in
-      record { plan = p; left = atom_left; bindings = b; reaches = f; span = w; trying = trying_start p atom_left keys n k o w }
+      record { plan = p; left = atom_left; bindings = b; reaches = f; span = w; ends = refl; trying = trying_start p atom_left keys n k o w }
 
-module _ {atoms : List ℕ} {count : ℕ} {vars cands counts : List ℕ} {at : ℕ} {env keys₀ : List ℕ} {n from to r m : ℕ} {keys : List ℕ}
-    (t : Turn atoms count vars cands counts at env keys₀ n from to r m keys) where
-  turn : {r' m' : ℕ} {keys' : List ℕ} → Trying atoms count vars cands counts at env keys₀ n r' m' keys'
-      → Turn atoms count vars cands counts at env keys₀ n from to r' m' keys'
-  turn w = record { plan = t.plan; left = t.left; bindings = t.bindings; reaches = t.reaches; span = t.span; trying = w }
+-- one turn: the range gives its start, and moves past it
+abbrev pub Next : Range ℕ → ℕ → Range ℕ → Type 0
+Next s x s' = (s'.end ≡ s.end) × ((0 < s.end - s.start) × (x ≡ s.start) × (s'.start ≡ s.start + 1))
+
+module _ {atoms : List ℕ} {count : ℕ} {vars cands counts : List ℕ} {at : ℕ} {env keys₀ : List ℕ} {n from to m : ℕ} {s : Range ℕ} {keys : List ℕ}
+    (t : Turn atoms count vars cands counts at env keys₀ n from to s m keys) where
+  turn : {s' : Range ℕ} {m' : ℕ} {keys' : List ℕ} → s'.end ≡ s.end → Trying atoms count vars cands counts at env keys₀ n s'.start m' keys'
+      → Turn atoms count vars cands counts at env keys₀ n from to s' m' keys'
+  turn e w = record { plan = t.plan; left = t.left; bindings = t.bindings; reaches = t.reaches; span = t.span; ends = e ∙ t.ends; trying = w }
 
   pub turn_room : (m ≤ length keys) × InOrder ◌<◌ (take m keys)
   turn_room = (omega (arith, t.trying.long, t.trying.grown.room), t.trying.grown.list.ascending)
 
-  pub turn_done : to ≤ r → GrownTo m keys₀ n (Solution atoms count vars cands counts at env) keys
-  turn_done h = trying_done t.plan t.left t.trying t.span h
+  pub turn_done : s.end - s.start ≡ 0 → GrownTo m keys₀ n (Solution atoms count vars cands counts at env) keys
+  turn_done h = trying_done t.plan t.left t.trying t.span (omega (arith, h, t.ends))
 
-  module _ (h : r < to) where
+  module _ {r : ℕ} {s' : Range ℕ} (g : Next s r s') where
     turn_counted : r < get_or counts at 0
-    turn_counted = span_counted t.plan t.left t.span h
+    turn_counted = span_counted t.plan t.left t.span (omega (arith, g.1, t.ends))
 
     pub turn_bounds : Bounds atoms cands counts at × (r < get_or counts at 0)
     turn_bounds = (bounds t.plan (omega (arith, t.left)) (λ e. omega (arith, t.left, e)), turn_counted)
 
-    turn_small : get_or cands (at * max_rows + r) 0 < max_values ^ length (variables_at atoms at)
-    turn_small = row_small t.plan t.left r turn_counted
+    -- the row has its place among the atom's
+    pub turn_row : r < length (rows_part cands counts at)
+    turn_row = rw (rows_are atoms cands counts at) (omega (arith, rows_length t.plan t.left, turn_counted))
+
+    abbrev row : ℕ
+    row = get_or (rows_part cands counts at) r 0
+
+    row_is : row ≡ get_or cands (at * max_rows + s.start) 0
+    row_is = rw (rows_are atoms cands counts at) (row_at t.plan t.left r turn_counted) ∙ ap (λ i. get_or cands (at * max_rows + i) 0) g.1.1
+
+    turn_small : row < max_values ^ length (variables_at atoms at)
+    turn_small = rw row_is (row_small t.plan t.left s.start (rw g.1.1 at turn_counted))
 
     -- what `bind_row` is given
-    pub turn_given : KeyVariables (own_part atoms at) × (get_or cands (at * max_rows + r) 0 < max_values ^ length (own_part atoms at)) × Bindings env
+    pub turn_given : KeyVariables (own_part atoms at) × (row < max_values ^ length (own_part atoms at)) × Bindings env
     turn_given = rw (own_is atoms cands counts at) (t.plan.variables at t.left, turn_small, t.bindings)
 
-    module _ (b : Bool) (next : List ℕ) (w : RowBound b (own_part atoms at) (get_or cands (at * max_rows + r) 0) env next) where
-      says : RowBound b (variables_at atoms at) (get_or cands (at * max_rows + r) 0) env next
-      says = rw (own_is atoms cands counts at) at w
+    module _ (b : Bool) (next : List ℕ) (w : RowBound b (own_part atoms at) row env next) where
+      says : RowBound b (variables_at atoms at) (get_or cands (at * max_rows + s.start) 0) env next
+      says = rw (own_is atoms cands counts at, row_is) at w
 
-      pub turn_bound : b ≡ true → RowBindings (variables_at atoms at) (get_or cands (at * max_rows + r) 0) env next
+      pub turn_bound : b ≡ true → RowBindings (variables_at atoms at) (get_or cands (at * max_rows + s.start) 0) env next
       turn_bound e = rw e at says
 
-      pub turn_skip : b ≡ false → Turn atoms count vars cands counts at env keys₀ n from to (r + 1) m keys
-      turn_skip e = turn (trying_skip t.plan t.left t.trying (rw e at says))
+      pub turn_skip : b ≡ false → Turn atoms count vars cands counts at env keys₀ n from to s' m keys
+      turn_skip e = turn g.0 (rw g.1.2 (trying_skip t.plan t.left t.trying (rw e at says)))
 
-    module _ {next : List ℕ} (w : RowBindings (variables_at atoms at) (get_or cands (at * max_rows + r) 0) env next) where
+    module _ {next : List ℕ} (w : RowBindings (variables_at atoms at) (get_or cands (at * max_rows + s.start) 0) env next) where
+      counted : s.start < get_or counts at 0
+      counted = rw g.1.1 at turn_counted
+
       pub turn_reaches : Reaches atoms count vars cands counts (at + 1) next
-      turn_reaches = reaches_next t.plan t.left t.trying turn_counted w t.reaches
+      turn_reaches = reaches_next t.plan t.left t.trying counted w t.reaches
 
       pub turn_more : {m' : ℕ} {keys' : List ℕ} → GrownTo m' keys m (Solution atoms count vars cands counts (at + 1) next) keys' → length keys' ≡ length keys
-          → Turn atoms count vars cands counts at env keys₀ n from to (r + 1) m' keys'
-      turn_more g e = turn (trying_more t.plan t.left t.trying turn_counted w g e)
+          → Turn atoms count vars cands counts at env keys₀ n from to s' m' keys'
+      turn_more h e = turn g.0 (rw g.1.2 (trying_more t.plan t.left t.trying counted w h e))
 
       pub turn_over : GrownOver keys m (Solution atoms count vars cands counts (at + 1) next) → GrownOver keys₀ n (Solution atoms count vars cands counts at env)
-      turn_over g = trying_over t.plan t.left t.trying turn_counted w g
+      turn_over h = trying_over t.plan t.left t.trying counted w h

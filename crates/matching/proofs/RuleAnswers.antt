@@ -13,9 +13,9 @@ use Rattle.meaning.specs.Member.{◌∈◌, here, there}
 use Rattle.meaning.specs.Ordered.{empty}
 use Rattle.meaning.specs.Pack.{Row, Atom}
 use Rattle.meaning.proofs.Cases.{case_on}
-use Rattle.matching.specs.declared.Heads.{Heads}
-use Rattle.matching.specs.declared.Heads.TheVariants.{Listed, Over}
-use Rattle.matching.specs.Plan.{masked, variables_at, candidates_at, KeyVariables, AtomsBelow, AtomsBytes, SameVariables, Bindings, Candidate, Prepared, Plan, Solution, Reaches, KeysGrown}
+use Rattle.sets.specs.declared.ordered.Full.{Full}
+use Rattle.std.specs.Prelude.{Ok, Err}
+use Rattle.matching.specs.Plan.{masked, variables_at, candidates_at, KeyVariables, AtomsBelow, AtomsBytes, SameVariables, Bindings, Candidate, Prepared, Plan, Solution, Reaches, GrownOver, GrownTo}
 use Rattle.matching.specs.Rule.{RuleHeld, ListedOrOver}
 use Rattle.matching.proofs.Bytes.{stacked_small}
 use Rattle.matching.proofs.HeldNumbers.{atom_relation, atom_count, atom_variables, row_relation, row_cell, map_long}
@@ -25,14 +25,17 @@ use Rattle.meaning.proofs.Lists.Places.{∈_at, ∈_index}
 use Rattle.meaning.proofs.Lists.Counting.{over_sub}
 
 -- the keys of a set that was empty
-pub grown_answers : (r : Heads) (keys keys' : List ℕ) {P Q : ℕ → Type 0} → ((k : ℕ) → P k ↔ Q k) → length keys' ≡ length keys
-    → KeysGrown r keys 0 P keys' → ListedOrOver r keys' Q
-grown_answers (Listed m) keys keys' f e g = (omega (arith, g.room, e), list_as (λ k. (⊎_elim (λ m. elim m [ ]) (f k).0, λ q. inr ((f k).1 q))) g.list)
-grown_answers Over keys keys' f e g = rw e (over_sub (λ k. ⊎_elim (λ m. elim m [ ]) (f k).0) g.over)
+pub grown_answers : {m : ℕ} {keys keys' : List ℕ} {P Q : ℕ → Type 0} → ((k : ℕ) → P k ↔ Q k) → length keys' ≡ length keys
+    → GrownTo m keys 0 P keys' → ListedOrOver (Ok m) keys' Q
+grown_answers f e g = (omega (arith, g.room, e), list_as (λ k. (⊎_elim (λ m. elim m [ ]) (f k).0, λ q. inr ((f k).1 q))) g.list)
+
+pub over_answers : {keys : List ℕ} (keys' : List ℕ) {e : Full} {P Q : ℕ → Type 0} → ((k : ℕ) → P k ↔ Q k) → length keys' ≡ length keys
+    → GrownOver keys 0 P → ListedOrOver (Err e) keys' Q
+over_answers keys' f e g = rw e (over_sub (λ k. ⊎_elim (λ m. elim m [ ]) (f k).0) g.over)
 
 -- an atom that has no candidate leaves no head
 pub unmatched_answers : {orders : List ℕ} {count : ℕ} {vars cands counts start : List ℕ} {Q : ℕ → Type 0} → ((k : ℕ) → Solution orders count vars cands counts 0 start k ↔ Q k)
-    → (j : ℕ) × (j < count) × (get_or counts j 0 ≡ 0) → (keys : List ℕ) → ListedOrOver (Listed 0) keys Q
+    → (j : ℕ) × (j < count) × (get_or counts j 0 ≡ 0) → (keys : List ℕ) → ListedOrOver (Ok 0) keys Q
 unmatched_answers {orders} {count} {vars} {cands} {counts} {start} f u keys = (zero-le, record { ascending = empty; members = λ k. (λ m. elim m [ ], λ q. absurd (none k ((f k).1 q))) })
   where
     none : (k : ℕ) → Solution orders count vars cands counts 0 start k → ⊥

@@ -1,16 +1,15 @@
 -- A rule as the search holds it: for each atom the keys of its candidate rows; bindings of variables; and what is found
 -- from them. Assumes nothing.
-use Rattle.std.specs.Prelude.{eqb, length, get_or, set, take, drop, Bool, true, false, cond, List, [], ◌∷◌, ◌++◌, map, ◌≢◌, ◌⊎◌, ◌↔◌, ◌≡◌, ℕ, zero, suc, ◌+◌, ◌*◌, ◌%◌, ◌^◌, ◌≤◌, ◌<◌}
+use Rattle.std.specs.Prelude.{Option, Some, None, Result, Ok, Err, eqb, length, get_or, set, take, drop, Bool, true, false, cond}
+use Rattle.std.specs.Prelude.{List, [], ◌∷◌, ◌++◌, map, ◌≢◌, ◌⊎◌, ◌↔◌, ◌≡◌, ℕ, zero, suc, ◌+◌, ◌*◌, ◌%◌, ◌^◌, ◌≤◌, ◌<◌}
 use Rattle.meaning.specs.Core.{Assignment}
 use Rattle.meaning.specs.Limits.{atoms_length, atom_width, candidates_length, key_width, max_atoms, max_columns, max_rows, max_values, max_variables, row_width, unused}
 use Rattle.meaning.specs.Member.{◌∈◌}
 use Rattle.meaning.specs.Ordered.{InOrder, ListOf, Over as OverSet}
 use Rattle.meaning.specs.Tables.{packed}
-use Rattle.matching.specs.declared.Heads.{Heads}
-use Rattle.matching.specs.declared.Heads.TheVariants.{Listed, Over}
-use Rattle.matching.specs.declared.spans.Span.{Span}
-use Rattle.matching.specs.declared.keys.Head.{Head}
-use Rattle.matching.specs.declared.keys.Head.TheVariants.{Key, Open}
+use Rattle.std.specs.declared.ops.Range.{Range}
+use Rattle.sets.specs.OrderedSet.{OrderedSet, Same, members_of}
+use Rattle.sets.specs.declared.ordered.Full.{Full}
 
 -- value numbers as one number, the first of the lowest weight
 unfoldable pub stacked : List ℕ → ℕ
@@ -181,7 +180,7 @@ module _ (atoms : List ℕ) (atomCount : ℕ) (vars cands counts : List ℕ) whe
   pub record Reaches (at : ℕ) (env : List ℕ) : Type 0 where
     pub bound : (v : ℕ) → v ∈ vars → Bound env v ⊎ ((j : ℕ) × (at ≤ j) × (j < atomCount) × (v ∈ variables_at atoms j))
 
--- ---- what is answered once the keys in Q are added to the set in the first n keys
+-- ---- what is answered once the keys in Q are added to a set, the first n keys of a slice
 
 -- the set with them is in the first m of the keys that are left
 pub record GrownTo (m : ℕ) (keys : List ℕ) (n : ℕ) (Q : ℕ → Type 0) (keys' : List ℕ) : Type 0 where
@@ -192,16 +191,20 @@ pub record GrownTo (m : ℕ) (keys : List ℕ) (n : ℕ) (Q : ℕ → Type 0) (k
 pub record GrownOver (keys : List ℕ) (n : ℕ) (Q : ℕ → Type 0) : Type 0 where
   pub over : OverSet (length keys) (λ k. (k ∈ take n keys) ⊎ Q k)
 
-abbrev pub KeysGrown : Heads → List ℕ → ℕ → (ℕ → Type 0) → List ℕ → Type 0
-KeysGrown (Listed m) keys n Q keys' = GrownTo m keys n Q keys'
-KeysGrown Over keys n Q keys' = GrownOver keys n Q
+abbrev pub KeysGrown : {A : Type 0} → Result A Full → (ℕ → Type 0) → OrderedSet → OrderedSet → Type 0
+KeysGrown (Ok _) Q a b = GrownTo b.count a.keys a.count Q b.keys × Same a b
+KeysGrown (Err _) Q a b = GrownOver a.keys a.count Q
+
+-- one key is added, for which there is room
+abbrev pub Stored : ℕ → OrderedSet → OrderedSet → Type 0
+Stored key a b = (b.count ≤ a.count + 1) × ListOf ◌<◌ (λ k. (k ≡ key) ⊎ (k ∈ members_of a)) (members_of b) × Same a b
 
 -- ---- a head's key under bindings
 
 -- all head variables are bound, and the key is that of their values; or one is not
-abbrev pub BoundKey : Head → List ℕ → List ℕ → Type 0
-BoundKey (Key k) vars env = AllBound vars env × (k ≡ packed (map (binding_of env) vars))
-BoundKey Open vars env = (v : ℕ) × (v ∈ vars) × (get_or env v 0 ≡ unused)
+abbrev pub BoundKey : Option ℕ → List ℕ → List ℕ → Type 0
+BoundKey (Some k) vars env = AllBound vars env × (k ≡ packed (map (binding_of env) vars))
+BoundKey None vars env = (v : ℕ) × (v ∈ vars) × (get_or env v 0 ≡ unused)
 
 -- the key is known, and in the set; else nothing is said
 abbrev pub Settled : Bool → List ℕ → List ℕ → List ℕ → Type 0
@@ -225,6 +228,6 @@ RowBound false vs key env env' = (σ : Assignment) → ((v : ℕ) → σ v < max
 
 -- ---- the candidates that bindings leave
 
-pub record SpanOf (s : Span) (vs env keys : List ℕ) : Type 0 where
-  pub within : s.to ≤ length keys
-  pub holds : (σ : Assignment) → ((v : ℕ) → σ v < max_values) → Extends env σ → (i : ℕ) → i < length keys → get_or keys i 0 ≡ stacked (map σ vs) → (s.from ≤ i) × (i < s.to)
+pub record SpanOf (s : Range ℕ) (vs env keys : List ℕ) : Type 0 where
+  pub within : s.end ≤ length keys
+  pub holds : (σ : Assignment) → ((v : ℕ) → σ v < max_values) → Extends env σ → (i : ℕ) → i < length keys → get_or keys i 0 ≡ stacked (map σ vs) → (s.start ≤ i) × (i < s.end)

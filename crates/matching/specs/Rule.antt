@@ -1,5 +1,5 @@
 -- One rule over the rows: how code holds it, and the set of its heads' keys. Assumes nothing.
-use Rattle.std.specs.Prelude.{length, take, ◌≡◌, ℕ, ◌*◌, ◌≤◌, ◌<◌}
+use Rattle.std.specs.Prelude.{Result, Ok, Err, length, take, ◌≡◌, ℕ, ◌*◌, ◌≤◌, ◌<◌}
 use mathlib.Core.List.{List, flat_map, map}
 use Rattle.meaning.specs.Core.{Assignment, Matches}
 use Rattle.meaning.specs.Limits.{atom_width, max_atoms, max_columns, max_head_variables, max_rows, max_values, max_variables}
@@ -7,8 +7,7 @@ use Rattle.meaning.specs.Member.{◌∈◌}
 use Rattle.meaning.specs.Ordered.{ListOf, Over as OverSet}
 use Rattle.meaning.specs.Pack.{Row, Atom}
 use Rattle.meaning.specs.Tables.{RowsHeld, atom_numbers, packed}
-use Rattle.matching.specs.declared.Heads.{Heads}
-use Rattle.matching.specs.declared.Heads.TheVariants.{Listed, Over}
+use Rattle.sets.specs.declared.ordered.Full.{Full}
 
 -- ---- atoms (`atom_numbers`)
 
@@ -47,11 +46,11 @@ pub record RuleGiven (row_numbers atom_numbers : List ℕ) (atomCount : ℕ) (va
   pub held : RuleHeld rows atoms vars row_numbers atom_numbers atomCount varNumbers varCount
 
 -- What is answered of a set of keys: its list stands at the front of the slice, or more keys than the slice holds are in it.
-abbrev pub ListedOrOver : Heads → List ℕ → (ℕ → Type 0) → Type 0
-ListedOrOver (Listed n) keys Q = (n ≤ length keys) × ListOf ◌<◌ Q (take n keys)
-ListedOrOver Over keys Q = OverSet (length keys) Q
+abbrev pub ListedOrOver : Result ℕ Full → List ℕ → (ℕ → Type 0) → Type 0
+ListedOrOver (Ok n) keys Q = (n ≤ length keys) × ListOf ◌<◌ Q (take n keys)
+ListedOrOver (Err _) keys Q = OverSet (length keys) Q
 
 -- The answer about a rule, whatever rows, atoms and head variables the numbers hold.
-abbrev pub RuleHeads : Heads → List ℕ → List ℕ → ℕ → List ℕ → ℕ → List ℕ → Type 0
+abbrev pub RuleHeads : Result ℕ Full → List ℕ → List ℕ → ℕ → List ℕ → ℕ → List ℕ → Type 0
 RuleHeads r row_numbers atom_numbers atomCount varNumbers varCount keys =
     (rows : List Row) (atoms : List Atom) (vars : List ℕ) → RuleHeld rows atoms vars row_numbers atom_numbers atomCount varNumbers varCount → ListedOrOver r keys (HeadKey rows atoms vars)

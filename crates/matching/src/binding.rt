@@ -12,13 +12,11 @@ pub fn bind_row(own: &[u8], key: u64, env: &mut [u16; MAX_VARIABLES]) -> bool
     ensures { RowBound result own.now key env.old env.new }
 {
     let mut rest = key;
-    for c in 0..own.len() {
-        let v = own[c] as usize;
+    for &c in own {
+        let v = c as usize;
         let x = (rest % VALUE_ROOM) as u16;
-        if env[v] != UNUSED {
-            if env[v] != x {
-                return false;
-            }
+        if env[v] != UNUSED && env[v] != x {
+            return false;
         }
         env[v] = x;
         rest = rest / VALUE_ROOM;

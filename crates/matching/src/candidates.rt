@@ -1,9 +1,11 @@
 // An atom's candidate rows, each by the key of its columns that matter; rows that agree on these are one, and rows that
 // give a variable two values are none.
-ghost use Rattle.std.specs.Prelude.{length, take, ◌≡◌, ◌≤◌, ◌<◌, ◌+◌, ◌*◌, ◌⊎◌};
+ghost use Rattle.std.specs.Prelude.{length, take, ◌≡◌, ◌≤◌, ◌<◌, ◌*◌};
 ghost use Rattle.meaning.specs.Member.{◌∈◌};
-ghost use Rattle.meaning.specs.Ordered.{InOrder, ListOf};
+ghost use Rattle.meaning.specs.Ordered.{ListOf};
+ghost use Rattle.sets.specs.OrderedSet.{set_of, members_of};
 ghost use Rattle.matching.specs.Plan.{
+  Stored,
   Among,
   KeyVariables,
   Bindings,
@@ -24,19 +26,13 @@ ghost use Rattle.meaning.specs.Limits.{candidates_length, key_width, max_atoms, 
 use meaning::{
     ATOM_WIDTH, KEY_WIDTH, MAX_ATOMS, MAX_ROWS, MAX_VARIABLES, ROW_WIDTH, UNUSED, VALUE_ROOM,
 };
-use sets::ordered;
-use sets::ordered::Inserted;
+use sets::ordered::OrderedSet;
 
 // The first column that has the variable; the count of the columns where none has.
 fn column_of(own: &[u8], v: u8) -> usize
     ensures { result ≡ column_of own.now v }
 {
-    for c in 0..own.len() {
-        if own[c] == v {
-            return c;
-        }
-    }
-    own.len()
+    own.iter().position(|&w| w == v).unwrap_or(own.len())
 }
 
 // The first column of each of the variables.
@@ -45,9 +41,8 @@ fn columns(own: &[u8], vars: &[u8]) -> [usize; KEY_WIDTH]
     ensures { FirstColumns own.now vars.now result }
 {
     let mut cols = [0usize; KEY_WIDTH];
-    for i in 0..vars.len() {
-        let c = column_of(own, vars[i]);
-        cols[i] = c;
+    for (i, &v) in vars.iter().enumerate() {
+        cols[i] = column_of(own, v);
     }
     cols
 }
@@ -78,29 +73,28 @@ fn row_key(
     key
 }
 
-// Adds a key to the set in the first n of the slice, which has room.
-pub fn store(out: &mut [u64], n: usize, key: u64) -> usize
-    requires { (n < length out.old) × InOrder ◌<◌ (take n out.old) }
-    ensures { (result ≤ n + 1) × ListOf ◌<◌ (λ k. (k ≡ key) ⊎ (k ∈ take n out.old)) (take result out.new) }
+// Adds a key to the set, which has room.
+pub fn store(set: &mut OrderedSet, key: u64)
+    requires { set.old.count < length set.old.keys.now }
+    ensures { Stored key (set_of set.old) (set_of set.new) }
 {
-    match ordered::insert(out, n, key) {
-        Inserted::Added => n + 1,
-        Inserted::Present => n,
-        Inserted::Full => n,
+    match set.insert(key) {
+        Ok(_) => (),
+        Err(_) => unreachable!(),
     }
 }
 
 // The same, where the key is most often the last that was added.
-fn store_next(out: &mut [u64], n: usize, last: u64, key: u64) -> usize
-    requires { (n < length out.old) × InOrder ◌<◌ (take n out.old) × (0 < n → last ∈ take n out.old) }
-    ensures { (result ≤ n + 1) × ListOf ◌<◌ (λ k. (k ≡ key) ⊎ (k ∈ take n out.old)) (take result out.new) }
+fn store_next(set: &mut OrderedSet, last: u64, key: u64)
+    requires { (set.old.count < length set.old.keys.now) × (0 < set.old.count → last ∈ members_of (set_of set.old)) }
+    ensures { Stored key (set_of set.old) (set_of set.new) }
 {
-    if n > 0 {
+    if set.count > 0 {
         if key == last {
-            return n;
+            return;
         }
     }
-    store(out, n, key)
+    store(set, key);
 }
 
 // The set of the keys of a relation's rows.
@@ -118,7 +112,7 @@ fn candidates(
 {
     let firsts = columns(own, own);
     let cols = columns(own, order);
-    let mut n = 0;
+    let mut set = OrderedSet::empty(out);
     let mut last: u64 = 0;
     'rows: for r in 0..rows.len() / ROW_WIDTH {
         if rows[r * ROW_WIDTH] != relation {
@@ -131,10 +125,10 @@ fn candidates(
             }
         }
         let key = row_key(rows, at, order, &cols, &start);
-        n = store_next(out, n, last, key);
+        store_next(&mut set, last, key);
         last = key;
     }
-    n
+    set.count
 }
 
 // Those of each atom, in its own part of the slice.
@@ -175,10 +169,5 @@ pub fn unmatched(counts: [u16; MAX_ATOMS], count: usize) -> bool
     requires { count ≤ max_atoms }
     ensures { Unmatched result counts count }
 {
-    for j in 0..count {
-        if counts[j] == 0 {
-            return true;
-        }
-    }
-    false
+    counts[..count].contains(&0)
 }

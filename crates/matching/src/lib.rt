@@ -18,15 +18,10 @@ use crate::marks::fresh;
 use crate::orders::all_orders;
 use crate::search::add_heads;
 use meaning::{ATOMS_LENGTH, MAX_HEAD_VARIABLES};
+use sets::ordered::{Full, OrderedSet};
 
-// The keys of a rule's heads are listed, so many; or they are more than the slice holds.
-#[derive(Drop)]
-pub enum Heads {
-    Listed(usize),
-    Over,
-}
-
-// The keys of one rule's heads over all matches of its atoms, ascending at the front of keys.
+// The keys of one rule's heads over all matches of its atoms, ascending at the front of keys; says how many there are, or that
+// they are more than keys holds.
 pub fn rule_heads(
     rows: &[u16],
     atoms: [u8; ATOMS_LENGTH],
@@ -35,7 +30,7 @@ pub fn rule_heads(
     var_count: usize,
     keys: &mut [u64],
     work: &mut [u64],
-) -> Heads
+) -> Result<usize, Full>
     requires { RuleGiven rows.now atoms atom_count vars var_count × (candidates_length ≤ length work.old) }
     ensures { RuleHeads result rows.now atoms atom_count vars var_count keys.new }
 {
@@ -43,8 +38,9 @@ pub fn rule_heads(
     let start = fresh(&orders[..], atom_count, &vars[..var_count]);
     let counts = all_candidates(rows, &atoms[..], &orders[..], atom_count, start, work);
     if unmatched(counts, atom_count) {
-        return Heads::Listed(0);
+        return Ok(0);
     }
+    let mut set = OrderedSet::empty(keys);
     add_heads(
         &orders[..],
         atom_count,
@@ -53,7 +49,7 @@ pub fn rule_heads(
         counts,
         0,
         start,
-        keys,
-        0,
-    )
+        &mut set,
+    )?;
+    Ok(set.count)
 }

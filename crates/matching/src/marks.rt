@@ -23,10 +23,8 @@ pub fn mark(seen: [u16; MAX_VARIABLES], own: &[u8]) -> [u16; MAX_VARIABLES]
     ensures { result ≡ foldl marked seen own.now }
 {
     let mut marks = seen;
-    for i in 0..own.len() {
-        let v = own[i] as usize;
-        let x = noted(marks[v]);
-        marks[v] = x;
+    for &v in own {
+        marks[v as usize] = noted(marks[v as usize]);
     }
     marks
 }

@@ -9,6 +9,7 @@ ghost use Rattle.meaning.specs.Limits.{key_width, max_atoms, max_columns};
 use crate::candidates::store;
 use crate::marks::mark;
 use meaning::{ATOM_WIDTH, ATOMS_LENGTH, MAX_VARIABLES};
+use sets::ordered::OrderedSet;
 
 const VARIABLE_ROOM: u64 = MAX_VARIABLES as u64;
 
@@ -27,13 +28,11 @@ fn ranks(own: &[u8], seen: [u16; MAX_VARIABLES], out: &mut [u64]) -> usize
     requires { KeyVariables own.now × (key_width ≤ length out.old) }
     ensures { (result ≤ length own.now) × ListOf ◌<◌ (Ranked own.now seen) (take result out.new) }
 {
-    let mut n = 0;
-    for c in 0..own.len() {
-        let v = own[c];
-        let key = rank(seen[v as usize], v);
-        n = store(out, n, key);
+    let mut set = OrderedSet::empty(out);
+    for &v in own {
+        store(&mut set, rank(seen[v as usize], v));
     }
-    n
+    set.count
 }
 
 // Writes the variables of these ranks for atom j.
@@ -43,8 +42,8 @@ fn written(orders: [u8; ATOMS_LENGTH], j: usize, set: &[u64]) -> [u8; ATOMS_LENG
 {
     let mut next = orders;
     next[j * ATOM_WIDTH + 1] = set.len() as u8;
-    for i in 0..set.len() {
-        next[j * ATOM_WIDTH + 2 + i] = (set[i] % VARIABLE_ROOM) as u8;
+    for (i, &key) in set.iter().enumerate() {
+        next[j * ATOM_WIDTH + 2 + i] = (key % VARIABLE_ROOM) as u8;
     }
     next
 }

@@ -5,18 +5,12 @@ ghost use Rattle.matching.specs.Plan.{Bindings, KeyVariables, SpanOf};
 
 use meaning::{MAX_VARIABLES, UNUSED, VALUE_ROOM};
 use sets::ordered;
+use std::ops::Range;
 
 const LAST_VALUE: u64 = VALUE_ROOM - 1;
 
-// From one index to before another.
-#[derive(Drop)]
-pub struct Span {
-    pub from: usize,
-    pub to: usize,
-}
-
 // The rows between the lowest and the highest key that the atom's row can have under the bindings: most often none or one.
-pub fn rows_left(own: &[u8], env: [u16; MAX_VARIABLES], keys: &[u64]) -> Span
+pub fn rows_left(own: &[u8], env: [u16; MAX_VARIABLES], keys: &[u64]) -> Range<usize>
     requires { KeyVariables own.now × Bindings env × InOrder ◌<◌ keys.now }
     ensures { SpanOf result own.now env keys.now }
 {
@@ -37,17 +31,17 @@ pub fn rows_left(own: &[u8], env: [u16; MAX_VARIABLES], keys: &[u64]) -> Span
     let from = ordered::rank(keys, low);
     if from < keys.len() {
         if keys[from] > high {
-            return Span { from, to: from };
+            return from..from;
         }
     }
     if from + 1 < keys.len() {
         if keys[from + 1] > high {
-            return Span { from, to: from + 1 };
+            return from..from + 1;
         }
     }
     let last = ordered::rank(keys, high);
     if last < keys.len() {
-        return Span { from, to: last + 1 };
+        return from..last + 1;
     }
-    Span { from, to: last }
+    from..last
 }

@@ -4,5 +4,6 @@ pub mod Limits
 pub mod Lists
 pub mod Model
 pub mod Multiplicities
+pub mod RefusalNumbers
 pub mod Sample
 pub mod Theory

@@ -6,6 +6,7 @@ pub mod Counting
 pub mod Filling
 pub mod First
 pub mod Gained
+pub mod Library
 pub mod Listing
 pub mod Lowest
 pub mod Masks
@@ -17,6 +18,7 @@ pub mod Padding
 pub mod Pairs
 pub mod Parts
 pub mod Places
+pub mod Ranges
 pub mod Reach
 pub mod Recording
 pub mod SetLists

@@ -12,6 +12,7 @@ pub mod Ordered
 pub mod Overwritten
 pub mod Pack
 pub mod Query
+pub mod Refusals
 pub mod Spreading
 pub mod Tables
 pub mod Tests

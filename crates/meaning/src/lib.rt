@@ -4,6 +4,8 @@
 
 ghost use Rattle.meaning.specs.Pack.{AnswersTest, requires, limits};
 
+pub mod refusal; // the refusals by name
+
 pub const MAX_PACK_BYTES: usize = 65536;
 
 pub const BODIES: usize = 9;

@@ -2,7 +2,8 @@
 use borrow.Author.Tests.{eq-eqb, le-leb, le-ltb, lt-ltb, ne_eqb}
 use lib.Count.{count_trailing_zeros}
 use lib.Dec.{T, eqb, leb}
-use lib.ListN.{get_or, get_elem?}
+use lib.ListN.{drop, get_or, get_elem?, length, length-drop, take}
+use lib.Seq.{get_or-drop, get_or-take, length-take-le}
 use mathlib.Core.Bool.{Bool, true, false, not}
 use mathlib.Core.List.{List}
 use mathlib.Core.Logic.{◌↔◌}
@@ -10,7 +11,7 @@ use mathlib.Core.Option.{some}
 use mathlib.Core.Path.{◌≡◌, refl, sym, ap, subst, ◌∙◌}
 use native.Mathlib.Decide.{dec_lt, ℕ_discrete}
 use native.Mathlib.Omega.{arith}
-use Prim.Native.Nat.{ℕ, suc, ◌+◌, ◌*◌, ◌/◌, ◌%◌, ◌^◌, ◌<◌, ◌≤◌}
+use Prim.Native.Nat.{ℕ, suc, ◌+◌, ◌-◌, ◌*◌, ◌/◌, ◌%◌, ◌^◌, ◌<◌, ◌≤◌}
 use Rattle.spread.specs.Keys.{key_of}
 use Rattle.core_lists.specs.Input.{Input, KeysSmall}
 use Rattle.invent.specs.Invent.{InventedSets, set_at}
@@ -28,6 +29,8 @@ use Rattle.meaning.specs.NoGraph.{MixedKinds, iri_literal, literal_typed, mixed_
 use Rattle.meaning.specs.Pack.{Literal, Pack, type}
 use Rattle.meaning.specs.Tables.{set_of_mask}
 use Rattle.meaning.specs.TypeSet.{TypeSet, bit, ◌∈ₜ◌}
+use Rattle.std.specs.Bool.{MatchBool}
+use Rattle.std.specs.List.{AllWithin, HoldsAt}
 use Rattle.meaning.proofs.Lists.Below.{NoneBelow}
 use Rattle.meaning.proofs.Lists.Lowest.{lowest}
 use Rattle.meaning.proofs.Lists.Masks.{bit_small}
@@ -68,12 +71,32 @@ module _ (flags : List ℕ) where
   pub none_first : get_or flags (set_words / 2) 0 ≤ 1 → NoneBelow (MixedFlag flags) ((set_words / 2 + 1) * 64)
   none_first h = record { none = λ j l m. let a = m.above in let b = bit_bound (j % 64) (get_or flags (set_words / 2) 0) (mark_bit flags j (set_words / 2) (omega arith) ∙ m.set) in omega arith }
 
-  pub none_later : (w : ℕ) → NoneBelow (MixedFlag flags) (w * 64) → get_or flags w 0 ≡ 0 → NoneBelow (MixedFlag flags) ((w + 1) * 64)
-  none_later w n z = record { none = λ j l m. go j l m (dec_lt j (w * 64)) }
-    where
-      go : (j : ℕ) → j < (w + 1) * 64 → MixedFlag flags j → Dec (j < w * 64) → ⊥
-      go j l m (yes h) = n.none j h m
-      go j l m (no h) = let d : j / 64 ≡ w = omega arith in let y = zero_word flags j (ap (λ v. get_or flags v 0) d ∙ z) in let s = m.set in omega arith
+  -- the words after it: some is not 0, or all are
+  module _ (long : set_words ≤ length flags) (h : get_or flags (set_words / 2) 0 ≤ 1) (fits : (w : ℕ) → get_or flags w 0 < 2 ^ 64) where
+    abbrev words : List ℕ
+    words = take (set_words / 2 - 1) (drop (set_words / 2 + 1) flags)
+
+    many : length words ≡ set_words / 2 - 1
+    many = length-take-le (set_words / 2 - 1) (drop (set_words / 2 + 1) flags) (omega (arith, length-drop (set_words / 2 + 1) flags))
+
+    word_at : (k : ℕ) → k < length words → get_or words k 0 ≡ get_or flags (set_words / 2 + 1 + k) 0
+    word_at k l = get_or-take (set_words / 2 - 1) (drop (set_words / 2 + 1) flags) k 0 (omega (arith, many)) ∙ get_or-drop (set_words / 2 + 1) flags k 0
+
+    pub later_words : (r : Bool) → MatchBool r ((k : ℕ) × (k < length words) × HoldsAt (λ x. 0 < x) words k) (AllWithin (λ x. x ≡ 0) words 0 (length words))
+        → T r ↔ MixedFlags flags
+    later_words true (k, below, is) = let e = word_at k below in let p = is 0 in
+        later_mixed (set_words / 2 + 1 + k) (omega arith) (omega (arith, many)) (omega arith) (fits (set_words / 2 + 1 + k))
+    later_words false all = (λ t. absurd t, λ s. go s.at s.below s.holds (dec_lt s.at ((set_words / 2 + 1) * 64)))
+      where
+        go : (j : ℕ) → j < member_sets → MixedFlag flags j → Dec (j < (set_words / 2 + 1) * 64) → ⊥
+        go j l m (yes a) = (none_first h).none j a m
+        go j l m (no a) =
+            let k = j / 64 - (set_words / 2 + 1) in
+            let w : set_words / 2 + 1 + k ≡ j / 64 = omega arith in
+            let b : k < length words = omega (arith, many) in
+            let z = zero_word flags j (sym (word_at k b ∙ ap (λ v. get_or flags v 0) w) ∙ all k 0 (omega arith) b) in
+            let s = m.set in
+            omega arith
 
 -- ---- the core
 

@@ -5,10 +5,8 @@ ghost use Rattle.std.specs.Prelude.{T, length, ◌↔◌, ◌≡◌, ◌≤◌};
 ghost use Rattle.mixed.specs.Mixed.{mixed_node, MixedCore, MixedFlags, MixedShown};
 ghost use Rattle.meaning.specs.Limits.{set_words};
 
+use invent::TYPE_WORDS;
 use meaning::{FIRST_LITERAL, LITERAL_WEIGHT, SET_WORDS};
-
-// The first word of sets that have Literal; its first bit is {Literal}, which has no type.
-const LITERALS: usize = SET_WORDS / 2;
 
 // Whether a core node is of mixed kind.
 fn mixed_node(key: u64, mask: u16) -> bool
@@ -25,28 +23,21 @@ fn mixed_core(nodes: &[u64], masks: &[u16]) -> bool
     requires { length nodes.now ≤ length masks.now }
     ensures { T result ↔ MixedCore nodes.now masks.now }
 {
-    for i in 0..nodes.len() {
-        if mixed_node(nodes[i], masks[i]) {
-            return true;
-        }
-    }
-    false
+    nodes
+        .iter()
+        .zip(masks)
+        .any(|(&key, &mask)| mixed_node(key, mask))
 }
 
-// Whether some invented set has Literal and a type.
+// Whether some invented set has Literal and a type: the first of the sets that have Literal is {Literal}, which has no type.
 fn mixed_sets(flags: &[u64]) -> bool
     requires { set_words ≤ length flags.now }
     ensures { T result ↔ MixedFlags flags.now }
 {
-    if flags[LITERALS] > 1 {
-        return true;
-    }
-    for w in LITERALS + 1..SET_WORDS {
-        if flags[w] != 0 {
-            return true;
-        }
-    }
-    false
+    flags[TYPE_WORDS] > 1
+        || flags[TYPE_WORDS + 1..SET_WORDS]
+            .iter()
+            .any(|&word| word != 0)
 }
 
 // Whether the pack is refused by 11.
@@ -54,8 +45,5 @@ pub fn mixed(nodes: &[u64], masks: &[u16], flags: &[u64]) -> bool
     requires { (length nodes.now ≤ length masks.now) × (set_words ≤ length flags.now) }
     ensures { MixedShown nodes.now masks.now flags.now result }
 {
-    if mixed_core(nodes, masks) {
-        return true;
-    }
-    mixed_sets(flags)
+    mixed_core(nodes, masks) || mixed_sets(flags)
 }

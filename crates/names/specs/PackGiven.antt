@@ -30,6 +30,7 @@ use Rattle.meaning.specs.Pack.{Atom, Constructor, Dependency, Pack, Row, Rule, S
 use Rattle.meaning.specs.Tables.{RowsHeld, head_arguments, row_numbers}
 use Rattle.meaning.specs.WellFormed.{dangling}
 use Rattle.pack.specs.declared.kinds.Kind.TheVariants as K
+use Rattle.records.specs.declared.setting.LoadedSetting.{LoadedSetting}
 
 -- ---- bounds
 
@@ -127,3 +128,23 @@ ForDependency numbers at Q = (x : Dependency) → DependencyAt x numbers at → 
 
 abbrev pub ForShape : List ℕ → ℕ → (ShapeRecord → Type 0) → Type 0
 ForShape numbers at Q = (x : ShapeRecord) → ShapeAt x numbers at → Q x
+
+-- ---- the same of a setting as it is loaded
+
+abbrev pub HoldsSetting : LoadedSetting → Type 0
+HoldsSetting l = IsSetting l.counts l.numbers.now
+
+abbrev pub HoldsPack : LoadedSetting → List ℕ → Type 0
+HoldsPack l rows = IsPack l.counts l.numbers.now rows
+
+abbrev pub HoldsResolved : LoadedSetting → List ℕ → Type 0
+HoldsResolved l rows = IsResolved l.counts l.numbers.now rows
+
+abbrev pub ForSettingOf : LoadedSetting → (Pack → Type 0) → Type 0
+ForSettingOf l Q = ForSetting l.counts l.numbers.now Q
+
+abbrev pub ForPackOf : LoadedSetting → List ℕ → (Pack → Type 0) → Type 0
+ForPackOf l rows Q = ForPack l.counts l.numbers.now rows Q
+
+abbrev pub ForResolvedOf : LoadedSetting → List ℕ → (Pack → Type 0) → Type 0
+ForResolvedOf l rows Q = ForResolved l.counts l.numbers.now rows Q

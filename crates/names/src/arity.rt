@@ -1,30 +1,31 @@
 // Whether a relation or a constructor is there and has so many columns or arguments.
 ghost use Rattle.std.specs.Prelude.{◌≡◌};
 ghost use Rattle.meaning.specs.WellFormed.{constructor_arities, has_arity};
-ghost use Rattle.names.specs.PackGiven.{ForSetting, IsSetting};
+ghost use Rattle.names.specs.PackGiven.{ForSettingOf, HoldsSetting};
 
 use meaning::{
-    BODIES, CONSTRUCTOR_WIDTH, CONSTRUCTORS_AT, CONSTRUCTORS_BODY, RELATIONS_AT, RELATIONS_BODY,
+    CONSTRUCTOR_WIDTH, CONSTRUCTORS_AT, CONSTRUCTORS_BODY, RELATIONS_AT, RELATIONS_BODY,
 };
+use records::setting::LoadedSetting;
 
-pub fn has_columns(counts: [usize; BODIES], numbers: &[u16], relation: u16, count: u16) -> bool
-    requires { IsSetting counts numbers.now }
-    ensures { ForSetting counts numbers.now (λ P. result ≡ has_arity P.setting.arities relation count) }
+pub fn has_columns(setting: &LoadedSetting, relation: u16, count: u16) -> bool
+    requires { HoldsSetting setting.now }
+    ensures { ForSettingOf setting.now (λ P. result ≡ has_arity P.setting.arities relation count) }
 {
     let i = relation as usize;
-    if counts[RELATIONS_BODY] <= i {
+    if setting.counts[RELATIONS_BODY] <= i {
         return false;
     }
-    count == numbers[RELATIONS_AT + i]
+    count == setting.numbers[RELATIONS_AT + i]
 }
 
-pub fn has_arguments(counts: [usize; BODIES], numbers: &[u16], constructor: u16, count: u16) -> bool
-    requires { IsSetting counts numbers.now }
-    ensures { ForSetting counts numbers.now (λ P. result ≡ has_arity (constructor_arities P) constructor count) }
+pub fn has_arguments(setting: &LoadedSetting, constructor: u16, count: u16) -> bool
+    requires { HoldsSetting setting.now }
+    ensures { ForSettingOf setting.now (λ P. result ≡ has_arity (constructor_arities P) constructor count) }
 {
     let i = constructor as usize;
-    if counts[CONSTRUCTORS_BODY] <= i {
+    if setting.counts[CONSTRUCTORS_BODY] <= i {
         return false;
     }
-    count == numbers[CONSTRUCTORS_AT + i * CONSTRUCTOR_WIDTH]
+    count == setting.numbers[CONSTRUCTORS_AT + i * CONSTRUCTOR_WIDTH]
 }

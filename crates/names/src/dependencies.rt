@@ -3,11 +3,10 @@ ghost use Rattle.std.specs.Prelude.{◌≡◌, ◌+◌, ◌≤◌, ◌^◌, ltb,
 ghost use Rattle.meaning.specs.Limits.{dependency_width, max_columns};
 ghost use Rattle.meaning.specs.Tests.{every};
 ghost use Rattle.meaning.specs.WellFormed.{good_dependency};
-ghost use Rattle.names.specs.PackGiven.{ForDependency, ForSetting, IsSetting};
+ghost use Rattle.names.specs.PackGiven.{ForDependency, ForSettingOf, HoldsSetting};
 
-use meaning::{
-    BODIES, DEPENDENCIES_AT, DEPENDENCIES_BODY, DEPENDENCY_WIDTH, RELATIONS_AT, RELATIONS_BODY,
-};
+use meaning::{DEPENDENCIES_AT, DEPENDENCIES_BODY, DEPENDENCY_WIDTH, RELATIONS_AT, RELATIONS_BODY};
+use records::setting::LoadedSetting;
 
 // Whether a set of columns lies in the first k.
 fn in_columns(mask: u16, k: u16) -> bool
@@ -18,31 +17,27 @@ fn in_columns(mask: u16, k: u16) -> bool
 }
 
 // Whether the dependency at a place is good.
-fn good_dependency(counts: [usize; BODIES], numbers: &[u16], at: usize) -> bool
-    requires { IsSetting counts numbers.now × (at + dependency_width ≤ length numbers.now) }
-    ensures { ForSetting counts numbers.now (λ P. ForDependency numbers.now at (λ x. result ≡ good_dependency P x)) }
+fn good_dependency(setting: &LoadedSetting, at: usize) -> bool
+    requires { HoldsSetting setting.now × (at + dependency_width ≤ length setting.now.numbers.now) }
+    ensures { ForSettingOf setting.now (λ P. ForDependency setting.now.numbers.now at (λ x. result ≡ good_dependency P x)) }
 {
-    let relation = numbers[at] as usize;
-    if counts[RELATIONS_BODY] <= relation {
+    let relation = setting.numbers[at] as usize;
+    if setting.counts[RELATIONS_BODY] <= relation {
         return false;
     }
-    let arity = numbers[RELATIONS_AT + relation];
-    if !in_columns(numbers[at + 1], arity) {
+    let arity = setting.numbers[RELATIONS_AT + relation];
+    if !in_columns(setting.numbers[at + 1], arity) {
         return false;
     }
-    in_columns(numbers[at + 2], arity)
+    in_columns(setting.numbers[at + 2], arity)
 }
 
-pub fn good_dependencies(counts: [usize; BODIES], numbers: &[u16]) -> bool
-    requires { IsSetting counts numbers.now }
-    ensures { ForSetting counts numbers.now (λ P. result ≡ every (good_dependency P) P.setting.dependencies) }
+pub fn good_dependencies(setting: &LoadedSetting) -> bool
+    requires { HoldsSetting setting.now }
+    ensures { ForSettingOf setting.now (λ P. result ≡ every (good_dependency P) P.setting.dependencies) }
 {
-    let n = counts[DEPENDENCIES_BODY];
-    for i in 0..n {
-        let at = DEPENDENCIES_AT + i * DEPENDENCY_WIDTH;
-        if !good_dependency(counts, numbers, at) {
-            return false;
-        }
-    }
-    true
+    (0..setting.counts[DEPENDENCIES_BODY]).all(|i| good_dependency(
+        setting,
+        DEPENDENCIES_AT + i * DEPENDENCY_WIDTH,
+    ))
 }

@@ -4,7 +4,7 @@
 
 ghost use Rattle.std.specs.Prelude.{◌≡◌};
 ghost use Rattle.meaning.specs.WellFormed.{dangling};
-ghost use Rattle.names.specs.PackGiven.{ForPack, IsPack};
+ghost use Rattle.names.specs.PackGiven.{ForPackOf, HoldsPack};
 
 pub mod arity;
 pub mod dependencies;
@@ -16,21 +16,15 @@ use crate::dependencies::good_dependencies;
 use crate::rows::good_rows;
 use crate::rules::good_rules;
 use crate::shapes::good_shapes;
-use meaning::BODIES;
+use records::setting::LoadedSetting;
 
 // Whether refusal 7 is true of the pack that the numbers hold.
-pub fn is_dangling(counts: [usize; BODIES], numbers: &[u16], rows: &[u16]) -> bool
-    requires { IsPack counts numbers.now rows.now }
-    ensures { ForPack counts numbers.now rows.now (λ P. result ≡ dangling P) }
+pub fn is_dangling(setting: &LoadedSetting, rows: &[u16]) -> bool
+    requires { HoldsPack setting.now rows.now }
+    ensures { ForPackOf setting.now rows.now (λ P. result ≡ dangling P) }
 {
-    if !good_dependencies(counts, numbers) {
-        return true;
-    }
-    if !good_shapes(counts, numbers) {
-        return true;
-    }
-    if !good_rules(counts, numbers) {
-        return true;
-    }
-    !good_rows(counts, numbers, rows)
+    !(good_dependencies(setting)
+        && good_shapes(setting)
+        && good_rules(setting)
+        && good_rows(setting, rows))
 }

@@ -4,63 +4,33 @@ ghost use Rattle.std.proofs.Math.Seq.{slice};
 ghost use Rattle.meaning.specs.Limits.{row_width, unused};
 ghost use Rattle.meaning.specs.Tests.{every};
 ghost use Rattle.meaning.specs.WellFormed.{good_row};
-ghost use Rattle.names.specs.PackGiven.{ForPack, ForRow, ForSetting, IsPack, IsSetting};
+ghost use Rattle.names.specs.PackGiven.{ForPackOf, ForRow, ForSettingOf, HoldsPack, HoldsSetting};
 
-use meaning::{BODIES, RELATIONS_AT, RELATIONS_BODY, ROW_WIDTH, ROWS_BODY, UNUSED, VALUES_BODY};
-
-// Whether the numbers from a place up to another are below a bound.
-fn all_below(rows: &[u16], from: usize, end: usize, bound: usize) -> bool
-    requires { (from ≤ end) × (end ≤ length rows.now) }
-    ensures { result ≡ every (λ v. ltb v bound) (slice from end rows.now) }
-{
-    for i in from..end {
-        if bound <= rows[i] as usize {
-            return false;
-        }
-    }
-    true
-}
-
-// Whether they are unused.
-fn all_unused(rows: &[u16], from: usize, end: usize) -> bool
-    requires { (from ≤ end) × (end ≤ length rows.now) }
-    ensures { result ≡ every (λ v. eqb v unused) (slice from end rows.now) }
-{
-    for i in from..end {
-        if rows[i] != UNUSED {
-            return false;
-        }
-    }
-    true
-}
+use meaning::{RELATIONS_AT, RELATIONS_BODY, ROW_WIDTH, ROWS_BODY, UNUSED, VALUES_BODY};
+use records::setting::LoadedSetting;
 
 // Whether the row at a place is good.
-fn good_row(counts: [usize; BODIES], numbers: &[u16], rows: &[u16], at: usize) -> bool
-    requires { IsSetting counts numbers.now × (at + row_width ≤ length rows.now) }
-    ensures { ForSetting counts numbers.now (λ P. ForRow rows.now at (λ x. result ≡ good_row P x)) }
+fn good_row(setting: &LoadedSetting, rows: &[u16], at: usize) -> bool
+    requires { HoldsSetting setting.now × (at + row_width ≤ length rows.now) }
+    ensures { ForSettingOf setting.now (λ P. ForRow rows.now at (λ x. result ≡ good_row P x)) }
 {
     let relation = rows[at] as usize;
-    if counts[RELATIONS_BODY] <= relation {
+    if setting.counts[RELATIONS_BODY] <= relation {
         return false;
     }
-    let arity = numbers[RELATIONS_AT + relation] as usize;
+    let arity = setting.numbers[RELATIONS_AT + relation] as usize;
     let start = at + 1;
     let middle = start + arity;
-    if !all_below(rows, start, middle, counts[VALUES_BODY]) {
+    let values = setting.counts[VALUES_BODY];
+    if !rows[start..middle].iter().all(|v| (*v as usize) < values) {
         return false;
     }
-    all_unused(rows, middle, at + ROW_WIDTH)
+    rows[middle..at + ROW_WIDTH].iter().all(|v| *v == UNUSED)
 }
 
-pub fn good_rows(counts: [usize; BODIES], numbers: &[u16], rows: &[u16]) -> bool
-    requires { IsPack counts numbers.now rows.now }
-    ensures { ForPack counts numbers.now rows.now (λ P. result ≡ every (good_row P) P.rows) }
+pub fn good_rows(setting: &LoadedSetting, rows: &[u16]) -> bool
+    requires { HoldsPack setting.now rows.now }
+    ensures { ForPackOf setting.now rows.now (λ P. result ≡ every (good_row P) P.rows) }
 {
-    let n = counts[ROWS_BODY];
-    for i in 0..n {
-        if !good_row(counts, numbers, rows, i * ROW_WIDTH) {
-            return false;
-        }
-    }
-    true
+    (0..setting.counts[ROWS_BODY]).all(|i| good_row(setting, rows, i * ROW_WIDTH))
 }

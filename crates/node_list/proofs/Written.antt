@@ -1,14 +1,7 @@
--- The numbers of a node: stored one after another, those of a core node. Assumes nothing.
-use Rattle.std.proofs.Common.{◌≡◌, ℕ, ◌+◌, ◌-◌, ◌/◌, ◌%◌, ◌^◌, ◌<◌, ◌≤◌, Bool, true, false, ltb, List, [], ◌∷◌, length, get_or, set, sym, refl, le-ltb, lt-ltb}
-use lib.Seq.{sets-eq}
-use native.Mathlib.Numerals.{towards_suc}
-use Rattle.node_list.specs.Records.{argument_at, core_numbers, iri_numbers, literal_numbers, overwritten}
-use Rattle.meaning.specs.Limits.{first_literal, literal_weight, max_values, node_width, term_room, unused}
-
-pub seven : (at v₀ v₁ v₂ v₃ v₄ v₅ v₆ : ℕ) (out : List ℕ) → at + node_width ≤ length out
-    → set (set (set (set (set (set (set out at v₀) (at + 1) v₁) (at + 2) v₂) (at + 3) v₃) (at + 4) v₄) (at + 5) v₅) (at + 6) v₆
-    ≡ overwritten at (v₀ ∷ v₁ ∷ v₂ ∷ v₃ ∷ v₄ ∷ v₅ ∷ v₆ ∷ []) out
-seven at v₀ v₁ v₂ v₃ v₄ v₅ v₆ out h = simp towards_suc (simp towards_suc at (sets-eq (v₀ ∷ v₁ ∷ v₂ ∷ v₃ ∷ v₄ ∷ v₅ ∷ v₆ ∷ []) out at h))
+-- The numbers of a core node. Assumes nothing.
+use Rattle.std.proofs.Common.{◌≡◌, ℕ, ◌-◌, ◌/◌, ◌%◌, ◌^◌, ◌<◌, ◌≤◌, Bool, true, false, ltb, List, [], ◌∷◌, get_or, sym, refl, le-ltb, lt-ltb}
+use Rattle.node_list.specs.Records.{argument_at, core_numbers, iri_numbers, literal_numbers}
+use Rattle.meaning.specs.Limits.{first_literal, literal_weight, max_values, term_room, unused}
 
 pub argument_there : (b : Bool) (v : ℕ) → b ≡ true → v % max_values ≡ argument_at b v
 unfolding argument_at

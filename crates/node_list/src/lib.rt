@@ -8,9 +8,9 @@ ghost use Rattle.node_list.specs.NodeList.{NodesShown};
 ghost use Rattle.node_list.specs.Records.{argument_at, core_numbers, core_records, NodeSets, NodeWord, overwritten, set_numbers, SetPlaces, SetsFit, WordListed};
 ghost use Rattle.meaning.specs.Limits.{first_literal, max_core_nodes, max_nodes, max_values, node_list_length, node_width, set_words, type_sets};
 
+use invent::TYPE_WORDS;
 use meaning::{
-    Arities, FIRST_LITERAL, LITERAL_WEIGHT, NODE_WIDTH, SET_WORDS, TERM_ROOM, UNUSED, VALUE_ROOM,
-    WORD_BITS,
+    Arities, FIRST_LITERAL, LITERAL_WEIGHT, NODE_WIDTH, TERM_ROOM, UNUSED, VALUE_ROOM, WORD_BITS,
 };
 
 // How many lists of two and of three values there are.
@@ -18,28 +18,15 @@ const TWO_VALUES: u64 = VALUE_ROOM * VALUE_ROOM;
 
 const THREE_VALUES: u64 = TWO_VALUES * VALUE_ROOM;
 
-// Writes kind, number, type set and four arguments from a place on.
-fn write_node(
-    out: &mut [u16],
-    at: usize,
-    kind: u16,
-    number: u16,
-    types: u16,
-    a: u16,
-    b: u16,
-    c: u16,
-    d: u16,
-)
-    requires { (at < node_list_length) × (at + node_width ≤ length out.old) }
-    ensures { out.new ≡ overwritten at (kind ∷ number ∷ types ∷ a ∷ b ∷ c ∷ d ∷ []) out.old }
+// A node's record: kind, number, type set and four arguments.
+type Record = [u16; NODE_WIDTH];
+
+// Writes a record from a place on.
+pub fn write_record(out: &mut [u16], at: usize, numbers: &[u16])
+    requires { at + length numbers.now ≤ length out.old }
+    ensures { out.new ≡ overwritten at numbers.now out.old }
 {
-    out[at] = kind;
-    out[at + 1] = number;
-    out[at + 2] = types;
-    out[at + 3] = a;
-    out[at + 4] = b;
-    out[at + 5] = c;
-    out[at + 6] = d;
+    out[at..at + numbers.len()].copy_from_slice(numbers);
 }
 
 // An argument of a key, if the constructor has it.
@@ -52,25 +39,15 @@ fn argument(value: u64, present: bool) -> u16
     UNUSED
 }
 
-// Writes a core node's record from a place on.
-pub fn write_core_node(arities: Arities, key: u64, mask: u16, at: usize, out: &mut [u16])
-    requires { (key < first_literal + max_values) × (at < node_list_length) × (at + node_width ≤ length out.old) }
-    ensures { out.new ≡ overwritten at (core_numbers arities key mask) out.old }
+// A core node's record.
+pub fn core_node(arities: Arities, key: u64, mask: u16) -> Record
+    requires { key < first_literal + max_values }
+    ensures { result ≡ core_numbers arities key mask }
 {
     let types = mask % LITERAL_WEIGHT;
     if key >= FIRST_LITERAL {
-        write_node(
-            out,
-            at,
-            1,
-            (key - FIRST_LITERAL) as u16,
-            types,
-            UNUSED,
-            UNUSED,
-            UNUSED,
-            UNUSED,
-        );
-        return;
+        let value = (key - FIRST_LITERAL) as u16;
+        return [1, value, types, UNUSED, UNUSED, UNUSED, UNUSED];
     }
     let c = key / TERM_ROOM;
     let arity = arities[c as usize];
@@ -78,7 +55,7 @@ pub fn write_core_node(arities: Arities, key: u64, mask: u16, at: usize, out: &m
     let second = argument(key / TWO_VALUES, 1 < arity);
     let third = argument(key / VALUE_ROOM, 2 < arity);
     let fourth = argument(key, 3 < arity);
-    write_node(out, at, 0, c as u16, types, first, second, third, fourth);
+    [0, c as u16, types, first, second, third, fourth]
 }
 
 // Writes the records of the core nodes.
@@ -86,13 +63,10 @@ fn list_core(arities: Arities, nodes: &[u64], masks: &[u16], out: &mut [u16])
     requires { KeysSmall nodes.now × (length nodes.now ≤ max_core_nodes) × (length nodes.now ≤ length masks.now) × (node_list_length ≤ length out.old) }
     ensures { out.new ≡ overwritten 0 (flatten (core_records arities nodes.now masks.now)) out.old }
 {
-    for i in 0..nodes.len() {
-        write_core_node(arities, nodes[i], masks[i], i * NODE_WIDTH, out);
+    for (i, &key) in nodes.iter().enumerate() {
+        write_record(out, i * NODE_WIDTH, &core_node(arities, key, masks[i]));
     }
 }
-
-// The words of sets of types; {Literal} is the first set of the word after them.
-const TYPE_WORDS: usize = SET_WORDS / 2;
 
 // A word of the sets in node order: that of {Literal} has the place of the empty set, which has no node.
 fn node_word(flags: &[u64], w: usize) -> u64
@@ -106,7 +80,8 @@ fn node_word(flags: &[u64], w: usize) -> u64
     bits - bits % 2 + flags[TYPE_WORDS] % 2
 }
 
-// Writes the numbers of the word w that the bits say after the first `at`; returns how many there are then.
+// Writes the numbers of the word w that the bits say after the first `at`; returns how many there are then. The bits are taken
+// lowest first by trailing_zeros, a form that document 01 names.
 fn list_word(w: usize, bits: u64, at: usize, sets: &mut [u16]) -> usize
     requires { (w < set_words) × (at + count_ones bits ≤ type_sets) × (type_sets ≤ length sets.old) }
     ensures { WordListed w bits at sets.old sets.new result }
@@ -133,17 +108,12 @@ pub fn node_sets(flags: &[u64], sets: &mut [u16]) -> usize
     count
 }
 
-// Writes the record of an invented node.
-fn write_set(types: u16, node: usize, out: &mut [u16])
-    requires { (node < max_nodes) × (node * node_width + node_width ≤ length out.old) }
-    ensures { out.new ≡ overwritten (node * node_width) (set_numbers types) out.old }
+// An invented node's record.
+fn set_node(types: u16) -> Record
+    ensures { result ≡ set_numbers types }
 {
-    let at = node * NODE_WIDTH;
-    if types == 0 {
-        write_node(out, at, 2, 0, types, UNUSED, UNUSED, UNUSED, UNUSED);
-        return;
-    }
-    write_node(out, at, 3, 0, types, UNUSED, UNUSED, UNUSED, UNUSED);
+    let kind = if types == 0 { 2 } else { 3 };
+    [kind, 0, types, UNUSED, UNUSED, UNUSED, UNUSED]
 }
 
 // Writes the records of the invented nodes from a node number on, and the number of each.
@@ -152,10 +122,10 @@ fn list_sets(sets: &[u16], first: usize, places: &mut [u16], out: &mut [u16])
     ensures { (out.new ≡ overwritten (first * node_width) (flatten (map set_numbers sets.now)) out.old)
         × SetPlaces sets.now first places.new }
 {
-    for i in 0..sets.len() {
-        let types = sets[i];
-        write_set(types, first + i, out);
-        places[types as usize] = (first + i) as u16;
+    for (i, &types) in sets.iter().enumerate() {
+        let node = first + i;
+        write_record(out, node * NODE_WIDTH, &set_node(types));
+        places[types as usize] = node as u16;
     }
 }
 

@@ -13,7 +13,7 @@ use Rattle.meaning.specs.Tests.{within}
 use Rattle.pack.specs.Kinds.{reader_of}
 use Rattle.pack.specs.Readers.{Read, Reader, give, only, ◌>>=◌, byte, byte_in, bytes, sized}
 use Rattle.pack.specs.Records.{value, relation, dependency, name, shape, constructor, tuple, atom, atoms, term, head_of, rule, row, variable}
-use Rattle.pack.specs.Shown.{left, CursorIn, Got, Not}
+use Rattle.pack.specs.Shown.{left, Got, Not}
 use Rattle.pack.specs.Unpack.{also, records, read_all}
 use Rattle.pack.specs.declared.cursor.Cursor.{Cursor}
 use Rattle.pack.specs.declared.kinds.Kind.{Kind}
@@ -145,22 +145,22 @@ module _ {A : Type 0} (reader : Reader A) (shrinks : Shrinks reader) where
       rw (h, records) (ap (also r.got) (enough (suc (length s)) (suc (length r.rest)) r.rest (omega (arith, shrinks (b ∷ s) r h)) (omega arith)))
 
   -- the same at a cursor
-  module _ {s : List ℕ} {c : Cursor} (p : CursorIn s c) where
-    pub all_end : c.end ≤ c.at → read_all reader (left s c) ≡ some []
-    all_end h = let e : c.at ≡ c.end = omega (arith, p.before) in rw (e, slice_empty) read_all_nil
+  pub all_end : (c : Cursor) → c.end ≤ c.at → read_all reader (left c) ≡ some []
+  all_end c h = let e : c.at ≡ c.end = omega (arith, c.before) in rw (e, slice_empty) read_all_nil
 
-    pub all_stop : c.at < c.end → Not reader s c → read_all reader (left s c) ≡ none
-    all_stop h n = read_all_stop (left s c) (rw (length-slice c.at c.end s p.inside) (omega arith)) n.reads
+  module _ {c : Cursor} where
+    pub all_stop : c.at < c.end → Not reader c → read_all reader (left c) ≡ none
+    all_stop h n = read_all_stop (left c) (rw (length-slice c.at c.end c.bytes.now c.inside) (omega arith)) n.reads
 
-    pub all_on : {a : A} {d : Cursor} → Got reader s c a d → read_all reader (left s c) ≡ also a (read_all reader (left s d))
-    all_on g = read_all_on (left s c) _ g.reads
+    pub all_on : {a : A} {d : Cursor} → Got reader c a d → read_all reader (left c) ≡ also a (read_all reader (left d))
+    all_on g = read_all_on (left c) _ g.reads
 
     -- the cursor moves on
-    pub onward : {a : A} {d : Cursor} → Got reader s c a d → c.at < d.at
+    pub onward : {a : A} {d : Cursor} → Got reader c a d → c.at < d.at
     onward {a} {d} g =
-        let k = shrinks (left s c) _ g.reads in
-        let m : length (left s d) < length (left s c) = k in
-        omega (arith, m, length-slice c.at c.end s p.inside, length-slice d.at d.end s g.placed.inside, g.same, g.placed.before)
+        let k = shrinks (left c) _ g.reads in
+        let m : length (left d) < length (left c) = k in
+        omega (arith, m, length-slice c.at c.end c.bytes.now c.inside, length-slice d.at d.end d.bytes.now d.inside, g.same, d.before)
 
-    pub less : {a : A} {d : Cursor} → Got reader s c a d → d.end - d.at < c.end - c.at
-    less g = omega (arith, onward g, g.same, g.placed.before)
+    pub less : {a : A} {d : Cursor} → Got reader c a d → d.end - d.at < c.end - c.at
+    less {a} {d} g = omega (arith, onward g, g.same, d.before)

@@ -7,38 +7,35 @@ use native.Mathlib.Omega.{arith}
 use Prim.Native.Nat.{ℕ}
 use Rattle.meaning.specs.Pack.{Pack}
 use Rattle.meaning.specs.WellFormed.{duplicates, prefix_clash, dangling}
-use Rattle.pack.specs.Checked.{Checked, accepted, refused, first_true, on_pack, check_within, well_formed, number_of}
+use Rattle.pack.specs.Checked.{Checked, accepted, refused, first_true, on_pack, check_within, well_formed}
 use Rattle.pack.specs.Contents.{bad_size}
 use Rattle.pack.specs.Unpack.{unpack}
 
-pub refused_3 : (s : List ℕ) → bad_size s ≡ true → 3 ≡ number_of (well_formed s)
+pub refused_3 : (s : List ℕ) → bad_size s ≡ true → well_formed s ≡ refused 3
 unfolding well_formed check_within
 refused_3 s e = rw (e, check_within)
 
 module _ (s : List ℕ) (size : bad_size s ≡ false) where
-  pub refused_4 : unpack s ≡ none → 4 ≡ number_of (well_formed s)
+  pub refused_4 : unpack s ≡ none → well_formed s ≡ refused 4
   unfolding well_formed check_within on_pack
   refused_4 e = rw (size, check_within, e)
 
   module _ (P : Pack) (read : unpack s ≡ some P) where
-    pub refused_5 : duplicates P ≡ true → 5 ≡ number_of (well_formed s)
+    pub refused_5 : duplicates P ≡ true → well_formed s ≡ refused 5
     unfolding well_formed check_within on_pack first_true
     refused_5 e = rw (size, check_within, read, e, first_true)
 
-    pub refused_6 : duplicates P ≡ false → prefix_clash P ≡ true → 6 ≡ number_of (well_formed s)
+    pub refused_6 : duplicates P ≡ false → prefix_clash P ≡ true → well_formed s ≡ refused 6
     unfolding well_formed check_within on_pack first_true
     refused_6 a e = rw (size, check_within, read, a, first_true, e)
 
-    pub refused_7 : duplicates P ≡ false → prefix_clash P ≡ false → dangling P ≡ true → 7 ≡ number_of (well_formed s)
+    pub refused_7 : duplicates P ≡ false → prefix_clash P ≡ false → dangling P ≡ true → well_formed s ≡ refused 7
     unfolding well_formed check_within on_pack first_true
     refused_7 a b e = rw (size, check_within, read, a, first_true, b, e)
 
     pub accepted_is : duplicates P ≡ false → prefix_clash P ≡ false → dangling P ≡ false → well_formed s ≡ accepted P
     unfolding well_formed check_within on_pack first_true
     accepted_is a b e = rw (size, check_within, read, a, first_true, b, e)
-
-    pub accepted_number : duplicates P ≡ false → prefix_clash P ≡ false → dangling P ≡ false → 0 ≡ number_of (well_formed s)
-    accepted_number a b e = rw (accepted_is a b e)
 
 -- ---- a pack is refused by one number, or accepted as one pack
 

@@ -6,7 +6,7 @@ use lib.ListN.{length}
 use lib.Seq.{slice}
 use mathlib.Core.Bool.{false}
 use mathlib.Core.List.{List}
-use mathlib.Core.Path.{◌≡◌, refl, sym, ap, ◌∙◌}
+use mathlib.Core.Path.{◌≡◌, refl, sym}
 use native.Mathlib.Nat.{add-zero, le_refl}
 use native.Mathlib.Numerals.{add-one}
 use native.Mathlib.Omega.{arith}
@@ -15,6 +15,7 @@ use Rattle.meaning.specs.Limits.{bodies, contents_bytes, max_pack_bytes}
 use Rattle.meaning.specs.Tests.{within}
 use Rattle.pack.specs.Contents.{word, length_of, start_of, body_of, bad_size}
 use Rattle.pack.specs.Shown.{BodyAt}
+use Rattle.pack.specs.declared.cursor.Cursor.{Cursor}
 use Rattle.meaning.proofs.Lists.Parts.{slice_by}
 
 -- the lengths before i are added
@@ -33,9 +34,6 @@ summed_on {s} {i} {at} {w} p e h = record {
   small = omega (arith, p.small);
 }
 
-pub summed_done : {s : List ℕ} {i at : ℕ} (k : ℕ) → Summed s i at → i ≤ k → k ≤ i → at ≡ start_of s k
-summed_done {s} {i} k p h l = p.is ∙ ap (start_of s) (omega arith)
-
 -- what the size says
 pub record Sized (s : List ℕ) : Type 0 where
   pub long : contents_bytes ≤ length s
@@ -49,7 +47,7 @@ size_is s e =
     let b = and_both (leb contents_bytes (length s)) (leb (length s) max_pack_bytes) a.0 in
     record { long = leb-true _ _ b.0; short = leb-true _ _ b.1; whole = eqb-true _ _ a.1 }
 
-start_up : (s : List ℕ) (k n : ℕ) → start_of s k ≤ start_of s (k + n)
+pub start_up : (s : List ℕ) (k n : ℕ) → start_of s k ≤ start_of s (k + n)
 unfolding start_of
 start_up s k zero = rw add-zero (le_refl _)
 start_up s k (suc n) = let e : k + suc n ≡ suc (k + n) = omega arith in rw e (omega (arith, start_up s k n))
@@ -66,12 +64,5 @@ unfolding body_of
 body_is s k = rw (next_start s k) (sym (slice_by (start_of s k) (length_of s k) s))
 
 -- the cursor from one start to the next is the body's
-pub body_at : (s : List ℕ) (k : ℕ) → Sized s → k < bodies → BodyAt s k (record { at = start_of s k; end = start_of s (k + 1) })
-body_at s k z h = record {
-  start = refl;
-  placed = record { before = start_up s k 1; inside = start_within s z (k + 1) (omega arith) };
-  is = body_is s k;
-}
-
-pub body_from : (s : List ℕ) (k : ℕ) {a e : ℕ} → bad_size s ≡ false → k < bodies → a ≡ start_of s k → e ≡ start_of s (k + 1) → BodyAt s k (record { at = a; end = e })
-body_from s k z h p q = rw (p, q) (body_at s k (size_is s z) h)
+pub body_from : (s : List ℕ) (k : ℕ) {c : Cursor} → c.bytes.now ≡ s → c.at ≡ start_of s k → c.end ≡ start_of s (k + 1) → BodyAt s k c
+body_from s k b p q = record { bytes = b; start = p; is = rw (b, p, q) (body_is s k) }

@@ -1,8 +1,10 @@
--- The kinds of record by which the code calls their readers. Assumes nothing.
-use Rattle.std.specs.Prelude.{ℕ}
+-- The kinds of record by which the code calls their readers; the kinds of a rule's head. Assumes nothing.
+use Rattle.std.specs.Prelude.{◌≡◌, ℕ, ◌<◌, Option, Some, None}
 use Rattle.meaning.specs.Pack.{Text, Dependency, ShapeRecord, Constructor, Rule, Row}
 use Rattle.pack.specs.Readers.{Reader}
 use Rattle.pack.specs.Records.{value, relation, dependency, name, shape, constructor, rule, row}
+use Rattle.pack.specs.declared.kinds.HeadKind.{HeadKind}
+use Rattle.pack.specs.declared.kinds.HeadKind.TheVariants as H
 use Rattle.pack.specs.declared.kinds.Kind.{Kind}
 use Rattle.pack.specs.declared.kinds.Kind.TheVariants as K
 
@@ -25,3 +27,14 @@ reader_of K.Shape = shape
 reader_of K.Constructor = constructor
 reader_of K.Rule = rule
 reader_of K.Row = row
+
+-- "Head kind 0: term, type. Kind 1: term, predicate, term. Kind 2: term, predicate, variable."
+abbrev pub kind_number : HeadKind → ℕ
+kind_number H.Type = 0
+kind_number H.Link = 1
+kind_number H.Value = 2
+
+-- the kind of a number, or it has none
+abbrev pub KindOf : ℕ → Option HeadKind → Type 0
+KindOf n (Some k) = n ≡ kind_number k
+KindOf n None = 2 < n

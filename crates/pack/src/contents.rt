@@ -12,11 +12,7 @@ pub fn word(s: &[u8], i: usize) -> u64
     requires { i + 3 < length s.now }
     ensures { (result ≡ word s.now i) × (result < 4294967296) }
 {
-    let a = s[i] as u64;
-    let b = s[i + 1] as u64;
-    let c = s[i + 2] as u64;
-    let d = s[i + 3] as u64;
-    a + 256 * (b + 256 * (c + 256 * d))
+    u32::from_le_bytes([s[i], s[i + 1], s[i + 2], s[i + 3]]) as u64
 }
 
 // Where body k starts, by the lengths before it. The sum does not wrap, whatever the bytes.
@@ -25,10 +21,8 @@ fn start(s: &[u8], k: usize) -> u64
     ensures { result ≡ start_of s.now k }
 {
     let mut at = CONTENTS_BYTES as u64;
-    let mut i = 0;
-    while i < k {
+    for i in 0..k {
         at += word(s, 4 * i);
-        i += 1;
     }
     at
 }
@@ -37,21 +31,18 @@ fn start(s: &[u8], k: usize) -> u64
 pub fn bad_size(s: &[u8]) -> bool
     ensures { result ≡ bad_size s.now }
 {
-    if s.len() < CONTENTS_BYTES {
-        return true;
-    }
-    if MAX_PACK_BYTES < s.len() {
+    if !(CONTENTS_BYTES..=MAX_PACK_BYTES).contains(&s.len()) {
         return true;
     }
     start(s, BODIES) != s.len() as u64
 }
 
 // A cursor at the start of body k.
-pub fn body(s: &[u8], k: usize) -> Cursor
+pub fn body(s: &[u8], k: usize) -> Cursor<'_>
     requires { (bad_size s.now ≡ false) × (k < bodies) }
     ensures { BodyAt s.now k result }
 {
     let at = start(s, k) as usize;
     let end = start(s, k + 1) as usize;
-    Cursor { at, end }
+    Cursor { bytes: s, at, end }
 }

@@ -1,469 +1,301 @@
-// A cursor over a body's bytes. Each method reads one record, or a part of one, and returns it with the moved cursor.
-ghost use Rattle.pack.specs.Readers.{byte, byte_in, sized};
-ghost use Rattle.pack.specs.Records.{value, relation, dependency, name, shape, constructor, tuple, atom, atom_of, term, term_of, row, row_of, atoms, rule};
-ghost use Rattle.pack.specs.Classes.{in_class};
-ghost use Rattle.pack.specs.Shown.{CursorIn, pair, ByteShown, TextShown, DependencyShown, ShapeShown, ConstructorShown, TupleShown, MovedShown, ObjectShown, HeadShown, RuleShown};
+// A cursor over a body's bytes. Each method reads one record, or a part of one, and returns it with the moved cursor; or nothing.
+// It goes by value, with methods on self: a form that document 01 names.
+ghost use Rattle.std.specs.Prelude.{length, ◌≤◌};
+ghost use Rattle.meaning.specs.Limits.{max_atoms};
 
-use crate::bytes::{Class, all_pass, in_range};
+use crate::bytes::{Class, all_pass};
+use crate::kinds::HeadKind;
 use meaning::{
     MAX_ARGUMENTS, MAX_ATOMS, MAX_COLUMNS, MAX_NAME_BYTES, MAX_PREFIX_BYTES, MAX_VALUE_BYTES,
     MAX_VARIABLES,
 };
 
-// The place of the next record, and the body's end.
+// The bytes, the place in them of the next record, and the body's end.
 #[derive(Clone, Copy)]
-pub struct Cursor {
+pub struct Cursor<'a> {
+    pub bytes: &'a [u8],
     pub at: usize,
     pub end: usize,
-}
-
-#[derive(Drop)]
-pub enum ByteRead {
-    Byte { value: u8, next: Cursor },
-    Bad,
+    pub ghost before: { at ≤ end },
+    pub ghost inside: { end ≤ length bytes.now },
 }
 
 // A text by its place.
-#[derive(Drop)]
-pub enum TextRead {
-    Text {
-        start: usize,
-        len: usize,
-        next: Cursor,
-    },
-    Bad,
-}
-
-#[derive(Drop)]
-pub enum DependencyRead {
-    Dependency {
-        relation: u8,
-        left: u8,
-        right: u8,
-        next: Cursor,
-    },
-    Bad,
-}
-
-#[derive(Drop)]
-pub enum ShapeRead {
-    Shape {
-        owner: u8,
-        predicate: u8,
-        target: u8,
-        multiplicity: u8,
-        next: Cursor,
-    },
-    Bad,
-}
-
-#[derive(Drop)]
-pub enum ConstructorRead {
-    Constructor {
-        arity: u8,
-        start: usize,
-        len: usize,
-        next: Cursor,
-    },
-    Bad,
-}
-
-// A number, and the place of the bytes that it goes with.
 #[derive(Clone, Copy)]
-pub struct Tuple {
-    pub number: u8,
+pub struct Text {
     pub start: usize,
     pub len: usize,
 }
 
-#[derive(Drop)]
-pub enum TupleRead {
-    Tuple { tuple: Tuple, next: Cursor },
-    Bad,
+#[derive(Clone, Copy)]
+pub struct Dependency {
+    pub relation: u8,
+    pub left: u8,
+    pub right: u8,
 }
 
-#[derive(Drop)]
-pub enum Moved {
-    To(Cursor),
-    Stuck,
+#[derive(Clone, Copy)]
+pub struct Shape {
+    pub owner: u8,
+    pub predicate: u8,
+    pub target: u8,
+    pub multiplicity: u8,
 }
 
-// A rule's head: its subject, its type or predicate, and its object (kind 1: a term; kind 2: a variable, as the number).
-#[derive(Drop)]
-pub enum HeadRead {
-    Head {
-        subject: Tuple,
-        label: u8,
-        object: Tuple,
-        next: Cursor,
-    },
-    Bad,
+#[derive(Clone, Copy)]
+pub struct Constructor {
+    pub arity: u8,
+    pub prefix: Text,
+}
+
+// A number, and the bytes that it goes with, so many at most.
+#[derive(Clone, Copy)]
+pub struct Tuple<'a, const MOST: usize> {
+    pub number: u8,
+    pub items: &'a [u8],
+    pub ghost few: { length items.now ≤ MOST },
+}
+
+pub type Atom<'a> = Tuple<'a, MAX_COLUMNS>;
+
+pub type Term<'a> = Tuple<'a, MAX_ARGUMENTS>;
+
+pub type Row<'a> = Tuple<'a, MAX_COLUMNS>;
+
+// What a head has after its label, by its kind: nothing, a term, or a value's variable.
+#[derive(Clone, Copy)]
+pub enum Object<'a> {
+    Nothing,
+    Term(Term<'a>),
+    Variable(u8),
+}
+
+// A rule's head: its subject, its type or predicate, and its object.
+#[derive(Clone, Copy)]
+pub struct Head<'a> {
+    pub subject: Term<'a>,
+    pub label: u8,
+    pub object: Object<'a>,
 }
 
 // A rule: how many atoms, where they start, and its head.
-#[derive(Drop)]
-pub enum RuleRead {
-    Rule {
-        count: u8,
-        first: Cursor,
-        kind: u8,
-        subject: Tuple,
-        label: u8,
-        object: Tuple,
-        next: Cursor,
-    },
-    Bad,
+#[derive(Clone, Copy)]
+pub struct Rule<'a> {
+    pub count: u8,
+    pub first: Cursor<'a>,
+    pub head: Head<'a>,
+    pub ghost few: { count ≤ max_atoms },
 }
 
-impl Cursor {
-    pub fn byte(self, s: &[u8]) -> ByteRead
-        requires { CursorIn s.now self }
-        ensures { ByteShown byte s.now self result }
+impl<'a> Cursor<'a> {
+    ghost use Rattle.std.specs.Prelude.{◌+◌};
+    ghost use Rattle.pack.specs.Readers.{byte, byte_in, sized};
+    ghost use Rattle.pack.specs.Records.{value, relation, name, tuple, atom, atom_of, term, term_of, row, row_of, atoms};
+    ghost use Rattle.pack.specs.Classes.{in_class};
+    ghost use Rattle.pack.specs.Shown.{Past, pair, ByteShown, TextShown, DependencyShown, ShapeShown, ConstructorShown, TupleShown, MovedShown, ObjectShown, HeadShown, RuleShown, HeadKindShown};
+
+    // The cursor n bytes on.
+    fn past(self, n: usize) -> Self
+        requires { self.at + n ≤ self.end }
+        ensures { Past self.entry n result }
     {
-        let at = self.at;
-        let end = self.end;
-        if end <= at {
-            return ByteRead::Bad;
+        let Cursor { bytes, at, end } = self;
+        Cursor {
+            bytes,
+            at: at + n,
+            end,
         }
-        let value = s[at];
-        ByteRead::Byte {
-            value,
-            next: Cursor { at: at + 1, end },
+    }
+
+    pub fn byte(self) -> Option<(u8, Self)>
+        ensures { ByteShown byte self.entry result }
+    {
+        if self.end <= self.at {
+            return None;
         }
+        Some((self.bytes[self.at], self.past(1)))
     }
 
     // A byte in bounds.
-    pub fn byte_in(self, s: &[u8], lo: u8, hi: u8) -> ByteRead
-        requires { CursorIn s.now self }
-        ensures { ByteShown (byte_in lo hi) s.now self result }
+    pub fn byte_in(self, lo: u8, hi: u8) -> Option<(u8, Self)>
+        ensures { ByteShown (byte_in lo hi) self.entry result }
     {
-        let ByteRead::Byte { value, next } = self.byte(s) else {
-            return ByteRead::Bad;
-        };
-        if !in_range(value, lo, hi) {
-            return ByteRead::Bad;
+        let (value, next) = self.byte()?;
+        if !(lo..=hi).contains(&value) {
+            return None;
         }
-        ByteRead::Byte { value, next }
+        Some((value, next))
     }
 
     // A length or count in bounds, and that many bytes of the class.
-    pub fn sized(self, s: &[u8], class: Class, lo: u8, hi: u8) -> TextRead
-        requires { CursorIn s.now self }
-        ensures { TextShown (sized (in_class class) lo hi) s.now self result }
+    pub fn sized(self, class: Class, lo: u8, hi: u8) -> Option<(Text, Self)>
+        ensures { TextShown (sized (in_class class) lo hi) self.entry result }
     {
-        let ByteRead::Byte { value, next } = self.byte_in(s, lo, hi) else {
-            return TextRead::Bad;
-        };
+        let (value, next) = self.byte_in(lo, hi)?;
         let start = next.at;
-        let end = next.end;
         let len = value as usize;
-        if end - start < len {
-            return TextRead::Bad;
+        if next.end - start < len {
+            return None;
         }
-        if !all_pass(s, start, len, class) {
-            return TextRead::Bad;
+        if !all_pass(next.bytes, start, len, class) {
+            return None;
         }
-        TextRead::Text {
-            start,
-            len,
-            next: Cursor {
-                at: start + len,
-                end,
+        Some((Text { start, len }, next.past(len)))
+    }
+
+    pub fn value(self) -> Option<(Text, Self)>
+        ensures { TextShown value self.entry result }
+    {
+        self.sized(Class::Any, 0, MAX_VALUE_BYTES as u8)
+    }
+
+    pub fn relation(self) -> Option<(u8, Self)>
+        ensures { ByteShown relation self.entry result }
+    {
+        self.byte_in(1, MAX_COLUMNS as u8)
+    }
+
+    pub fn dependency(self) -> Option<(Dependency, Self)>
+        ensures { DependencyShown self.entry result }
+    {
+        let (relation, a) = self.byte()?;
+        let (left, b) = a.byte()?;
+        let (right, next) = b.byte()?;
+        Some((
+            Dependency {
+                relation,
+                left,
+                right,
             },
-        }
-    }
-
-    pub fn value(self, s: &[u8]) -> TextRead
-        requires { CursorIn s.now self }
-        ensures { TextShown value s.now self result }
-    {
-        self.sized(s, Class::Any, 0, MAX_VALUE_BYTES as u8)
-    }
-
-    pub fn relation(self, s: &[u8]) -> ByteRead
-        requires { CursorIn s.now self }
-        ensures { ByteShown relation s.now self result }
-    {
-        self.byte_in(s, 1, MAX_COLUMNS as u8)
-    }
-
-    pub fn dependency(self, s: &[u8]) -> DependencyRead
-        requires { CursorIn s.now self }
-        ensures { DependencyShown s.now self result }
-    {
-        let ByteRead::Byte {
-            value: relation,
-            next: a,
-        } = self.byte(s)
-        else {
-            return DependencyRead::Bad;
-        };
-        let ByteRead::Byte {
-            value: left,
-            next: b,
-        } = a.byte(s)
-        else {
-            return DependencyRead::Bad;
-        };
-        let ByteRead::Byte { value: right, next } = b.byte(s) else {
-            return DependencyRead::Bad;
-        };
-        DependencyRead::Dependency {
-            relation,
-            left,
-            right,
             next,
-        }
+        ))
     }
 
     // A type's or a predicate's name.
-    pub fn name(self, s: &[u8]) -> TextRead
-        requires { CursorIn s.now self }
-        ensures { TextShown name s.now self result }
+    pub fn name(self) -> Option<(Text, Self)>
+        ensures { TextShown name self.entry result }
     {
-        self.sized(s, Class::Letter, 1, MAX_NAME_BYTES as u8)
+        self.sized(Class::Letter, 1, MAX_NAME_BYTES as u8)
     }
 
-    pub fn shape(self, s: &[u8]) -> ShapeRead
-        requires { CursorIn s.now self }
-        ensures { ShapeShown s.now self result }
+    pub fn shape(self) -> Option<(Shape, Self)>
+        ensures { ShapeShown self.entry result }
     {
-        let ByteRead::Byte {
-            value: owner,
-            next: a,
-        } = self.byte(s)
-        else {
-            return ShapeRead::Bad;
-        };
-        let ByteRead::Byte {
-            value: predicate,
-            next: b,
-        } = a.byte(s)
-        else {
-            return ShapeRead::Bad;
-        };
-        let ByteRead::Byte {
-            value: target,
-            next: c,
-        } = b.byte(s)
-        else {
-            return ShapeRead::Bad;
-        };
-        let ByteRead::Byte {
-            value: multiplicity,
+        let (owner, a) = self.byte()?;
+        let (predicate, b) = a.byte()?;
+        let (target, c) = b.byte()?;
+        let (multiplicity, next) = c.byte_in(1, 4)?;
+        Some((
+            Shape {
+                owner,
+                predicate,
+                target,
+                multiplicity,
+            },
             next,
-        } = c.byte_in(s, 1, 4)
-        else {
-            return ShapeRead::Bad;
-        };
-        ShapeRead::Shape {
-            owner,
-            predicate,
-            target,
-            multiplicity,
-            next,
-        }
+        ))
     }
 
-    pub fn constructor(self, s: &[u8]) -> ConstructorRead
-        requires { CursorIn s.now self }
-        ensures { ConstructorShown s.now self result }
+    pub fn constructor(self) -> Option<(Constructor, Self)>
+        ensures { ConstructorShown self.entry result }
     {
-        let ByteRead::Byte {
-            value: arity,
-            next: a,
-        } = self.byte_in(s, 1, MAX_ARGUMENTS as u8)
-        else {
-            return ConstructorRead::Bad;
-        };
-        let TextRead::Text { start, len, next } = a.sized(
-            s,
-            Class::Prefix,
-            1,
-            MAX_PREFIX_BYTES as u8,
-        ) else {
-            return ConstructorRead::Bad;
-        };
-        ConstructorRead::Constructor {
-            arity,
-            start,
-            len,
-            next,
-        }
+        let (arity, a) = self.byte_in(1, MAX_ARGUMENTS as u8)?;
+        let (prefix, next) = a.sized(Class::Prefix, 1, MAX_PREFIX_BYTES as u8)?;
+        Some((Constructor { arity, prefix }, next))
     }
 
     // A number, a count from 1 to the bound, and that many bytes of the class.
-    pub fn tuple(self, s: &[u8], class: Class, most: u8) -> TupleRead
-        requires { CursorIn s.now self }
-        ensures { TupleShown pair (tuple pair (in_class class) most) s.now self result }
+    pub fn tuple<const MOST: usize>(self, class: Class) -> Option<(Tuple<'a, MOST>, Self)>
+        requires { MOST ≤ 255 }
+        ensures { TupleShown pair (tuple pair (in_class class) MOST) self.entry result }
     {
-        let ByteRead::Byte {
-            value: number,
-            next: a,
-        } = self.byte(s)
-        else {
-            return TupleRead::Bad;
-        };
-        let TextRead::Text { start, len, next } = a.sized(s, class, 1, most) else {
-            return TupleRead::Bad;
-        };
-        TupleRead::Tuple {
-            tuple: Tuple { number, start, len },
-            next,
-        }
+        let (number, a) = self.byte()?;
+        let (Text { start, len }, next) = a.sized(class, 1, MOST as u8)?;
+        let items = &a.bytes[start..start + len];
+        Some((Tuple { number, items }, next))
     }
 
-    pub fn atom(self, s: &[u8]) -> TupleRead
-        requires { CursorIn s.now self }
-        ensures { TupleShown atom_of atom s.now self result }
+    pub fn atom(self) -> Option<(Atom<'a>, Self)>
+        ensures { TupleShown atom_of atom self.entry result }
     {
-        self.tuple(s, Class::Variable, MAX_COLUMNS as u8)
+        self.tuple(Class::Variable)
     }
 
-    pub fn term(self, s: &[u8]) -> TupleRead
-        requires { CursorIn s.now self }
-        ensures { TupleShown term_of term s.now self result }
+    pub fn term(self) -> Option<(Term<'a>, Self)>
+        ensures { TupleShown term_of term self.entry result }
     {
-        self.tuple(s, Class::Variable, MAX_ARGUMENTS as u8)
+        self.tuple(Class::Variable)
     }
 
-    pub fn row(self, s: &[u8]) -> TupleRead
-        requires { CursorIn s.now self }
-        ensures { TupleShown row_of row s.now self result }
+    pub fn row(self) -> Option<(Row<'a>, Self)>
+        ensures { TupleShown row_of row self.entry result }
     {
-        self.tuple(s, Class::Any, MAX_COLUMNS as u8)
+        self.tuple(Class::Any)
     }
 
     // Past n atoms.
-    pub fn atoms(self, s: &[u8], n: u8) -> Moved
-        requires { CursorIn s.now self }
-        ensures { MovedShown (atoms n) s.now self result }
+    pub fn atoms(self, n: u8) -> Option<Self>
+        ensures { MovedShown (atoms n) self.entry result }
     {
         let mut c = self;
-        let mut i: u8 = 0;
-        while i < n {
-            match c.atom(s) {
-                TupleRead::Tuple { tuple: _, next } => {
-                    c = next;
-                }
-                TupleRead::Bad => {
-                    return Moved::Stuck;
-                }
-            }
-            i += 1;
+        for _ in 0..n {
+            let (_, next) = c.atom()?;
+            c = next;
         }
-        Moved::To(c)
+        Some(c)
     }
 
-    // What a head of a kind has after its term and its type or predicate: nothing, a term, or a variable as the number.
-    pub fn object(self, s: &[u8], kind: u8) -> TupleRead
-        requires { CursorIn s.now self }
-        ensures { ObjectShown kind s.now self result }
+    pub fn head_kind(self) -> Option<(HeadKind, Self)>
+        ensures { HeadKindShown self.entry result }
     {
-        if kind == 0 {
-            return TupleRead::Tuple {
-                tuple: Tuple {
-                    number: 0,
-                    start: 0,
-                    len: 0,
-                },
-                next: self,
-            };
+        let (number, next) = self.byte()?;
+        let kind = HeadKind::from_number(number)?;
+        Some((kind, next))
+    }
+
+    // What a head of a kind has after its term and its type or predicate.
+    pub fn object(self, kind: HeadKind) -> Option<(Object<'a>, Self)>
+        ensures { ObjectShown kind self.entry result }
+    {
+        match kind {
+            HeadKind::Type => Some((Object::Nothing, self)),
+            HeadKind::Link => {
+                let (term, next) = self.term()?;
+                Some((Object::Term(term), next))
+            }
+            HeadKind::Value => {
+                let (number, next) = self.byte()?;
+                if MAX_VARIABLES <= number as usize {
+                    return None;
+                }
+                Some((Object::Variable(number), next))
+            }
         }
-        if kind == 1 {
-            return self.term(s);
-        }
-        let ByteRead::Byte {
-            value: number,
-            next,
-        } = self.byte(s)
-        else {
-            return TupleRead::Bad;
-        };
-        if MAX_VARIABLES <= number as usize {
-            return TupleRead::Bad;
-        }
-        TupleRead::Tuple {
-            tuple: Tuple {
-                number,
-                start: 0,
-                len: 0,
+    }
+
+    pub fn head(self, kind: HeadKind) -> Option<(Head<'a>, Self)>
+        ensures { HeadShown kind self.entry result }
+    {
+        let (subject, a) = self.term()?;
+        let (label, b) = a.byte()?;
+        let (object, next) = b.object(kind)?;
+        Some((
+            Head {
+                subject,
+                label,
+                object,
             },
             next,
-        }
+        ))
     }
 
-    pub fn head(self, s: &[u8], kind: u8) -> HeadRead
-        requires { CursorIn s.now self }
-        ensures { HeadShown kind s.now self result }
+    pub fn rule(self) -> Option<(Rule<'a>, Self)>
+        ensures { RuleShown self.entry result }
     {
-        let TupleRead::Tuple {
-            tuple: subject,
-            next: a,
-        } = self.term(s)
-        else {
-            return HeadRead::Bad;
-        };
-        let ByteRead::Byte {
-            value: label,
-            next: b,
-        } = a.byte(s)
-        else {
-            return HeadRead::Bad;
-        };
-        let TupleRead::Tuple {
-            tuple: object,
-            next,
-        } = b.object(s, kind)
-        else {
-            return HeadRead::Bad;
-        };
-        HeadRead::Head {
-            subject,
-            label,
-            object,
-            next,
-        }
-    }
-
-    pub fn rule(self, s: &[u8]) -> RuleRead
-        requires { CursorIn s.now self }
-        ensures { RuleShown s.now self result }
-    {
-        let ByteRead::Byte {
-            value: count,
-            next: first,
-        } = self.byte_in(s, 1, MAX_ATOMS as u8)
-        else {
-            return RuleRead::Bad;
-        };
-        let Moved::To(a) = first.atoms(s, count) else {
-            return RuleRead::Bad;
-        };
-        let ByteRead::Byte {
-            value: kind,
-            next: b,
-        } = a.byte_in(s, 0, 2)
-        else {
-            return RuleRead::Bad;
-        };
-        let HeadRead::Head {
-            subject,
-            label,
-            object,
-            next,
-        } = b.head(s, kind)
-        else {
-            return RuleRead::Bad;
-        };
-        RuleRead::Rule {
-            count,
-            first,
-            kind,
-            subject,
-            label,
-            object,
-            next,
-        }
+        let (count, first) = self.byte_in(1, MAX_ATOMS as u8)?;
+        let a = first.atoms(count)?;
+        let (kind, b) = a.head_kind()?;
+        let (head, next) = b.head(kind)?;
+        Some((Rule { count, first, head }, next))
     }
 }

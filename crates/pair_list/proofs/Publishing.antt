@@ -2,7 +2,7 @@
 use lib.ListN.{drop, get_or, length, length-append, length-set, set, take}
 use lib.Seq.{drop-cons, get_or-take, length-take-le, set_at, take-suc}
 use mathlib.Core.List.{List, [], ◌∷◌, ◌++◌, append_assoc, flatten, map}
-use mathlib.Core.Path.{◌≡◌, refl, sym, ap, subst, ◌∙◌}
+use mathlib.Core.Path.{◌≡◌, refl, sym, ap, ◌∙◌}
 use native.Mathlib.Omega.{arith}
 use Prim.Native.Nat.{ℕ, zero, suc, ◌+◌, ◌*◌, ◌≤◌, ◌<◌}
 use Rattle.reached.specs.Keys.{pair_from, pair_keys, pair_to}
@@ -65,20 +65,24 @@ pub publishing_start : {found before : List ℕ} → Publishing found 0 before b
 unfolding flatten
 publishing_start = record { long = refl; is = refl }
 
-pub publishing_again : {found before now : List ℕ} {k i u v : ℕ} → k ≤ length found → k * pair_width ≤ length before → i < k
-    → Publishing found i before now → u ≡ pair_from (get_or found i 0) → v ≡ pair_to (get_or found i 0)
+-- the pair at i, as code goes through the first k
+pub publishing_again : {found before now : List ℕ} {k i u v : ℕ} → k ≤ length found → k * pair_width ≤ length before → i < length (take k found)
+    → Publishing found i before now → u ≡ pair_from (get_or (take k found) i 0) → v ≡ pair_to (get_or (take k found) i 0)
     → Publishing found (i + 1) before (set (set now (2 * i) u) (2 * i + 1) v)
 publishing_again {found} {before} {now} {k} {i} {u} {v} h l j p a b = record {
   long = length-set (set now (2 * i) u) (2 * i + 1) v ∙ length-set now (2 * i) u ∙ p.long;
-  is = (λ t. set (set (p.is t) (2 * i) (a t)) (2 * i + 1) (b t)) ∙ pairs_again found before k i h l j;
+  is = (λ t. set (set (p.is t) (2 * i) ((a ∙ ap pair_from here_is) t)) (2 * i + 1) ((b ∙ ap pair_to here_is) t)) ∙ pairs_again found before k i h l below;
 }
+  where
+    below : i < k
+    below = omega (arith, length-take-le k found h)
 
-pub published : {found before now : List ℕ} {k i : ℕ} → i ≡ k → Publishing found i before now → now ≡ with_pairs k found before
-published {found} {before} e p = p.is ∙ ap (λ j. with_pairs j found before) e
+    here_is : get_or (take k found) i 0 ≡ get_or found i 0
+    here_is = get_or-take k found i 0 below
 
 -- a pair that is written is of two nodes
-pub small_at : (found : List ℕ) (k i : ℕ) → AllPairs (take k found) → k ≤ length found → i < k → get_or found i 0 < pair_keys
-small_at found k i all h l = all (get_or found i 0) (subst (λ z. z ∈ take k found) (get_or-take k found i 0 l) (get_d_in (take k found) i (omega (arith, length-take-le k found h))))
+pub small_at : (found : List ℕ) (i : ℕ) → AllPairs found → i < length found → get_or found i 0 < pair_keys
+small_at found i all l = all (get_or found i 0) (get_d_in found i l)
   where
     get_d_in : (xs : List ℕ) (i : ℕ) → i < length xs → get_or xs i 0 ∈ xs
     get_d_in [] i h = absurd (omega arith)

@@ -6,10 +6,9 @@ ghost use Rattle.meaning.specs.Limits.{max_pairs};
 ghost use Rattle.pair_list.specs.Written.{TableRoom};
 
 use evaluate::pairs::pairs;
-use reached::pairs::Pairs;
-use sets::buffers::clear_u64;
+use reached::pairs::TooMany;
 
-// The pairs as numbers at the front of `found`; or that they are too many.
+// How many pairs there are, as numbers at the front of `found`; or that they are too many.
 pub fn find_pairs(
     tree: &[u32],
     parts: usize,
@@ -24,15 +23,15 @@ pub fn find_pairs(
     stack: &mut [u16],
     seen: &mut [u64],
     found: &mut [u32],
-) -> Pairs
+) -> Result<usize, TooMany>
     requires { IsReady tree.now parts wanted.now nodes.now count triples.now edges
         × BySubject triples.now count edges index.now × TableRoom alive.old waiting.old stack.old seen.old × (max_pairs ≤ length found.old) }
     ensures { ForReady tree.now parts wanted.now nodes.now count triples.now edges
         (λ pack query. PairsIn pack query nodes.now count triples.now edges result found.new) }
 {
-    clear_u64(alive);
-    clear_u64(waiting);
-    clear_u64(seen);
+    alive.fill(0);
+    waiting.fill(0);
+    seen.fill(0);
     pairs(
         tree, parts, wanted, nodes, count, triples, edges, index, alive, waiting, stack, seen,
         found,

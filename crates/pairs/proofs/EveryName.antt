@@ -18,12 +18,12 @@ use Rattle.meaning.specs.Graph.{Name, is_named, name_of}
 use Rattle.meaning.specs.Member.{◌∈◌}
 use Rattle.meaning.specs.Pack.{Pack, Text}
 use Rattle.meaning.specs.Query.{Expr}
-use Rattle.pairs.specs.Answer.{Gives}
+use Rattle.pairs.specs.Answer.{GivesPairs}
 use Rattle.pairs.specs.declared.PairAnswer.{PairAnswer}
 use Rattle.spelling.proofs.CoreTerms.{plain_distinct}
 use Rattle.spelling.specs.Iri.{plain}
 
-module _ {pack query : Text} {r : PairAnswer} {fronts : List (List ℕ)} (G : Gives pack query r fronts) where
+module _ {pack query : Text} {r : PairAnswer} {fronts : List (List ℕ)} (G : GivesPairs pack query r fronts) where
   abbrev P : Pack
   P = G.asked.graph.of
 

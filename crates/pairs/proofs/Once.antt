@@ -5,6 +5,7 @@ use mathlib.Core.List.{List, [], ◌∷◌, ◌++◌, flatten}
 use mathlib.Core.Path.{◌≡◌, refl, sym, ap, subst, ◌∙◌}
 use native.Mathlib.Omega.{arith}
 use Prim.Native.Nat.{ℕ, ◌*◌}
+use Rattle.std.specs.Prelude.{Result, Ok, Err}
 use Rattle.calls.proofs.Once.{Fixed, Same, SameLengths, call_once}
 use Rattle.calls.specs.Call.{Contents}
 use Rattle.construct.proofs.Once.{accepted_once}
@@ -18,7 +19,8 @@ use Rattle.meaning.specs.Listing.{NodesInOrder, node_key}
 use Rattle.meaning.specs.Member.{◌∈◌, here, there}
 use Rattle.meaning.specs.Pack.{Pack, Text}
 use Rattle.meaning.specs.Query.{Expr}
-use Rattle.pairs.specs.Answer.{PairsAnswers, Gives, Refuses, before_12, buffers, lists, too_many}
+use Rattle.meaning.specs.declared.refusal.Refusal.{Refusal}
+use Rattle.pairs.specs.Answer.{PairsAnswers, Gives, GivesPairs, Refuses, before_12, buffers, lists, too_many}
 use Rattle.pairs.specs.declared.PairAnswer.{PairAnswer}
 use Rattle.prepare.proofs.Once as prepared
 use Rattle.prepare.proofs.Once.{not_asked}
@@ -32,28 +34,25 @@ unfolding flatten
 pair_flat [] h = refl
 pair_flat (r ∷ rs) h = let l = length-append r (flatten rs) in let m = pair_flat rs (λ q i. h q (there i)) in omega (arith, ap length (h r (here refl)).are)
 
-pub pair_length : {pack query : Text} {r : PairAnswer} {fronts : List (List ℕ)} (G : Gives pack query r fronts) → length (flatten G.records) ≡ r.pairs * pair_width
+pub pair_length : {pack query : Text} {r : PairAnswer} {fronts : List (List ℕ)} (G : GivesPairs pack query r fronts) → length (flatten G.records) ≡ r.pairs * pair_width
 pair_length G = pair_flat G.records (λ r i. (G.certain.members r).0 i) ∙ ap (λ n. n * pair_width) (sym G.count)
 
 -- ---- one answer
 
-same : {r s : PairAnswer} → r.graph ≡ s.graph → r.pairs ≡ s.pairs → r ≡ s
-same e n i = record { graph = e i; pairs = n i }
+module _ {pack query : Text} where
+  one_refusal : {A : Type 0} {r s : Result A Refusal} → Refuses pack query r → Refuses pack query s → r ≡ s
+  one_refusal (before_12 x) (before_12 y) = prepared.one_refusal x y
+  one_refusal (before_12 x) (too_many f j Q o m w y p) = absurd (not_asked x f j o m w)
+  one_refusal (too_many e i P o n w x q) (before_12 y) = absurd (not_asked y e i o n w)
+  one_refusal (too_many e i P o n w x q) (too_many f j Q o' m w' y p) = q ∙ sym p
 
-module _ {pack query : Text} {r s : PairAnswer} where
-  one_refusal : Refuses pack query r → Refuses pack query s → r ≡ s
-  one_refusal (before_12 x a) (before_12 y b) = same (prepared.one_refusal x y) (a ∙ sym b)
-  one_refusal (before_12 x a) (too_many f j Q o m w y p b) = absurd (not_asked x f j o m w)
-  one_refusal (too_many e i P o n w x q a) (before_12 y b) = absurd (not_asked y e i o n w)
-  one_refusal (too_many e i P o n w x q a) (too_many f j Q o' m w' y p b) = same (q ∙ sym p) (a ∙ sym b)
-
-  not_both : {gs : List (List ℕ)} → Refuses pack query r → Gives pack query s gs → ⊥
-  not_both (before_12 x a) h = prepared.not_both x h.asked
-  not_both (too_many e i P o n w x q a) h =
+  not_given : {A : Type 0} {r : Result A Refusal} {s : PairAnswer} {gs : List (List ℕ)} → Refuses pack query r → GivesPairs pack query s gs → ⊥
+  not_given (before_12 x) h = prepared.not_both x h.asked
+  not_given (too_many e i P o n w x q) h =
       h.few (subst (λ (z : Pack × Expr). TooManyPairs (plain z.0) z.0 z.1)
       (λ k. (accepted_once pack o h.asked.graph.has.is k, one_expression query e h.asked.expression i h.asked.is k)) x)
 
-  module _ {fs gs : List (List ℕ)} (g : Gives pack query r fs) (h : Gives pack query s gs) where
+  module _ {r s : PairAnswer} {fs gs : List (List ℕ)} (g : GivesPairs pack query r fs) (h : GivesPairs pack query s gs) where
     pub one_list : g.records ≡ h.records
     one_list =
         let o = prepared.one_question g.asked h.asked in
@@ -63,15 +62,30 @@ module _ {pack query : Text} {r s : PairAnswer} where
         let x = subst (λ (z : (Pack × Expr) × List BuiltNode). PairList (plain z.0.0) z.0.0 z.0.1 z.1 g.records) (λ k. (o k, w k)) g.certain in
         list_unique (by_key (λ t. t)) x h.certain
 
-    one_result : (r ≡ s) × (fs ≡ gs)
-    one_result =
+    one_given : (r ≡ s) × (fs ≡ gs)
+    one_given =
         let (e, f) = prepared.one_result g.asked h.asked in
-        (same e (g.count ∙ ap length one_list ∙ sym h.count), g.fronts_are ∙ (λ i. f i ++ (flatten (one_list i) ∷ [])) ∙ sym h.fronts_are)
+        let n = g.count ∙ ap length one_list ∙ sym h.count in
+        (λ i. record { size = e i; pairs = n i }, g.fronts_are ∙ (λ i. f i ++ (flatten (one_list i) ∷ [])) ∙ sym h.fronts_are)
+
+module _ (pack query : Text) where
+  one_result : (r s : Result PairAnswer Refusal) (fs gs : List (List ℕ)) → Gives pack query r fs → Gives pack query s gs → (r ≡ s) × (fs ≡ gs)
+  one_result (Ok a) (Ok b) fs gs g h = let (e, f) = one_given g h in (ap Ok e, f)
+  one_result (Ok a) (Err d) fs gs g h = absurd h
+  one_result (Err e) s fs gs g h = absurd g
+
+  not_both : (r s : Result PairAnswer Refusal) (gs : List (List ℕ)) → Refuses pack query r → Gives pack query s gs → ⊥
+  not_both r (Ok a) gs x g = not_given x g
+  not_both r (Err e) gs x g = g
 
 pub fixed : (pack query : Text) → Fixed (Refuses pack query) (Gives pack query)
-fixed pack query = record { one_refusal = one_refusal; not_both = not_both; one_result = one_result }
+fixed pack query = record {
+  one_refusal = one_refusal;
+  not_both = λ {r} {s} {gs} x g. not_both pack query r s gs x g;
+  one_result = λ {r} {s} {fs} {gs} g h. one_result pack query r s fs gs g h;
+}
 
-pub answers_once : (pack query : Text) (r s : PairAnswer)
+pub answers_once : (pack query : Text) (r s : Result PairAnswer Refusal)
     (nodes nodes₂ triples triples₂ index index₂ pairs pairs₂ rows rows₂ heads heads₂ alive alive₂
     waiting waiting₂ stack stack₂ seen seen₂ own_nodes own_nodes₂ own_triples own_triples₂ own_index own_index₂ : Contents)
     → SameLengths (lists nodes triples index pairs) (lists nodes₂ triples₂ index₂ pairs₂)

@@ -7,7 +7,8 @@ ghost use Rattle.pairs.specs.Answer.{PairsAnswers, buffers};
 ghost use Rattle.pairs.specs.Inner.{Comes, CountedGraph, ForCounted, ListRoom, Room};
 
 use calls::long_enough;
-use construct::{Constructed, refused};
+use graph::Size;
+use meaning::refusal::Refusal;
 use meaning::{
     HEADS_LENGTH, INDEX_LENGTH, MAX_PAIRS, MAX_PARTS, MAX_QUERY_BYTES, NODE_LIST_LENGTH,
     PAIR_LIST_LENGTH, ROWS_LENGTH, SEEN_WORDS, STATE_WORDS, TRIPLE_LIST_LENGTH,
@@ -15,13 +16,11 @@ use meaning::{
 use pair_list::find::find_pairs;
 use pair_list::publish::publish;
 use prepare::prepare;
-use reached::pairs::Pairs;
-use sets::buffers::{clear_u16, clear_u64};
 
-// What the pack comes to, and the pair count.
-#[derive(Drop)]
+// How many nodes and triples the pack's graph has, and how many pairs there are.
+#[derive(Clone, Copy)]
 pub struct PairAnswer {
-    pub graph: Constructed,
+    pub size: Size,
     pub pairs: usize,
 }
 
@@ -31,7 +30,7 @@ fn in_lists(
     tree: &[u32],
     parts: usize,
     wanted: &[u16],
-    graph: Constructed,
+    size: Size,
     points: &[u16],
     links: &[u16],
     marks: &[u16],
@@ -43,39 +42,36 @@ fn in_lists(
     waiting: &mut [u64],
     stack: &mut [u16],
     seen: &mut [u64],
-) -> PairAnswer
-    requires { CountedGraph tree.now parts wanted.now graph points.now links.now marks.now
+) -> Result<PairAnswer, Refusal>
+    requires { CountedGraph tree.now parts wanted.now size points.now links.now marks.now
         × ListRoom nodes.old triples.old index.old pairs.old × TableRoom alive.old waiting.old stack.old seen.old }
-    ensures { ForCounted tree.now parts wanted.now graph points.now links.now marks.now
+    ensures { ForCounted tree.now parts wanted.now size points.now links.now marks.now
         (λ pack query. Comes pack query result (lent nodes) (lent triples) (lent index) (lent pairs)) }
 {
     let mut found = [0u32; MAX_PAIRS];
-    let n = graph.nodes;
-    let t = graph.triples;
-    match find_pairs(
+    let Size {
+        nodes: n,
+        triples: t,
+    } = size;
+    let Ok(k) = find_pairs(
         tree, parts, wanted, points, n, links, t, marks, alive, waiting, stack, seen, &mut found,
-    ) {
-        Pairs::TooMany => PairAnswer {
-            graph: refused(12),
-            pairs: 0,
-        },
-        Pairs::Listed(k) => {
-            publish(
-                points,
-                n,
-                links,
-                t,
-                marks,
-                &found[..],
-                k,
-                nodes,
-                triples,
-                index,
-                pairs,
-            );
-            PairAnswer { graph, pairs: k }
-        }
-    }
+    ) else {
+        return Err(Refusal::TooManyPairs);
+    };
+    publish(
+        points,
+        n,
+        links,
+        t,
+        marks,
+        &found[..],
+        k,
+        nodes,
+        triples,
+        index,
+        pairs,
+    );
+    Ok(PairAnswer { size, pairs: k })
 }
 
 // 2 to 12, or the graph and its pairs. The graph is built in `own_nodes`, `own_triples` and `own_index`, since 12 is known only
@@ -96,7 +92,7 @@ fn answer(
     own_nodes: &mut [u16],
     own_triples: &mut [u16],
     own_index: &mut [u16],
-) -> PairAnswer
+) -> Result<PairAnswer, Refusal>
     requires { Room nodes.old triples.old index.old pairs.old rows.old heads.old alive.old waiting.old stack.old seen.old
         own_nodes.old own_triples.old own_index.old }
     ensures { Comes pack.now query.now result (lent nodes) (lent triples) (lent index) (lent pairs) }
@@ -113,16 +109,12 @@ fn answer(
         own_index,
         rows,
         heads,
-    );
-    let graph = prepared.graph;
-    if graph.refusal != 0 {
-        return PairAnswer { graph, pairs: 0 };
-    }
+    )?;
     in_lists(
         &tree[..],
         prepared.parts,
         &wanted[..],
-        graph,
+        prepared.size,
         &own_nodes[..],
         &own_triples[..],
         &own_index[..],
@@ -151,15 +143,15 @@ fn clear(
 )
     ensures { Zero (buffers (lent rows) (lent heads) (lent alive) (lent waiting) (lent stack) (lent seen) (lent own_nodes) (lent own_triples) (lent own_index)) }
 {
-    clear_u16(rows);
-    clear_u64(heads);
-    clear_u64(alive);
-    clear_u64(waiting);
-    clear_u16(stack);
-    clear_u64(seen);
-    clear_u16(own_nodes);
-    clear_u16(own_triples);
-    clear_u16(own_index);
+    rows.fill(0);
+    heads.fill(0);
+    alive.fill(0);
+    waiting.fill(0);
+    stack.fill(0);
+    seen.fill(0);
+    own_nodes.fill(0);
+    own_triples.fill(0);
+    own_index.fill(0);
 }
 
 // What each list and buffer must hold at least, in the order in which they are lent.
@@ -197,7 +189,7 @@ pub fn pairs(
     own_nodes: &mut [u16],
     own_triples: &mut [u16],
     own_index: &mut [u16],
-) -> PairAnswer
+) -> Result<PairAnswer, Refusal>
     ensures { PairsAnswers pack.now query.now result (lent nodes) (lent triples) (lent index) (lent pairs) (lent rows) (lent heads)
         (lent alive) (lent waiting) (lent stack) (lent seen) (lent own_nodes) (lent own_triples) (lent own_index) }
 {
@@ -218,10 +210,7 @@ pub fn pairs(
         own_index.len(),
     ];
     if !long_enough(&asked, &lengths) {
-        return PairAnswer {
-            graph: refused(1),
-            pairs: 0,
-        };
+        return Err(Refusal::ShortBuffer);
     }
     let said = answer(
         pack,

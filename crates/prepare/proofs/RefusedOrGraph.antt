@@ -1,66 +1,70 @@
--- A query that is read or not, a pack that has a graph or not; and which of them a refusal number says. Assumes nothing.
+-- A query that is read or not, a pack that has a graph or not; and which of them is answered. Assumes nothing.
 use lib.ListN.{length}
 use mathlib.Core.List.{List}
-use mathlib.Core.Path.{◌≡◌, ap, subst}
 use native.Mathlib.Omega.{arith}
 use Prim.Native.Nat.{ℕ, ◌≤◌}
+use Rattle.std.specs.Prelude.{Ok, Err}
 use Rattle.calls.specs.Call.{Contents, Kept, Written, gives, refuses}
-use Rattle.construct.proofs.RefusalNumbers.{refuses_some}
-use Rattle.construct.specs.Outcome.{Constructs, refused_as}
-use Rattle.construct.specs.declared.Constructed.{Constructed}
+use Rattle.construct.proofs.Refused.{carried, no_error, no_value, same_refusal as same_of_pack}
+use Rattle.construct.specs.Outcome.{Constructs}
 use Rattle.graph.specs.Fronts.{graph_lists}
+use Rattle.graph.specs.declared.Size.{Size}
 use Rattle.meaning.specs.Limits.{max_query_bytes, node_list_length}
 use Rattle.meaning.specs.Pack.{Text}
+use Rattle.meaning.specs.declared.refusal.Refusal.{Refusal}
 use Rattle.prepare.specs.Prepared.{Gives, Prepares, Readied, Refuses, no_graph, no_query}
 use Rattle.prepare.specs.declared.Prepared.{Prepared}
-use Rattle.query.specs.Answer.{Answered, HoldsQuery}
-use Rattle.query.specs.declared.Query.TheVariants.{NoExpression, Parts}
-use Rattle.query.specs.declared.Query.{Query}
+use Rattle.query.specs.Answer.{HoldsQuery}
 use Rattle.resolve.specs.Listed.{Roomy}
+
+-- ---- a refusal is no value, and the same whatever it stands in the place of
+
+module _ {A : Type 0} {pack query : Text} where
+  pub not_ok : {x : A} → Refuses {A = A} pack query (Ok x) → ⊥
+  not_ok (no_query x q) = no_error q
+  not_ok (no_graph e i x) = no_value x
+
+  pub same_refusal : {B : Type 0} {e : Refusal} → Refuses {A = A} pack query (Err e) → Refuses {A = B} pack query (Err e)
+  same_refusal (no_query x q) = no_query x (carried q)
+  same_refusal (no_graph f i x) = no_graph f i (same_of_pack x)
 
 -- ---- what the code finds
 
--- 2
-pub not_read : (q : Query) (query tree : List ℕ) {pack : Text} {g : Constructed} {n : ℕ} (nodes triples index : Contents) → Answered q query tree → q ≡ NoExpression → g ≡ refused_as 2
-    → Kept (graph_lists nodes triples index) → Prepares pack query tree (record { graph = g; parts = n }) nodes triples index
-not_read q query tree nodes triples index a e h k = refuses (no_query (subst (λ y. Answered y query tree) e a) h) k
+module _ {pack query : Text} (tree : List ℕ) (nodes triples index : Contents) {parts : ℕ} (h : HoldsQuery query tree parts) where
+  -- 3 to 11
+  pub refused_pack : {e : Refusal} → Constructs pack (Err e) nodes triples index → Prepares pack query tree (Err e) nodes triples index
+  refused_pack (refuses x k) = refuses (no_graph h.expression h.query (same_of_pack x)) k
+  refused_pack (gives fs G w) = absurd G
 
-pub as_held : (q : Query) (query tree : List ℕ) {n : ℕ} → Answered q query tree → q ≡ Parts n → HoldsQuery query tree n
-as_held q query tree a e = subst (λ x. Answered x query tree) e a
+  module _ {size : Size} (c : Constructs pack (Ok size) nodes triples index) where
+    -- or the graph
+    pub built : max_query_bytes ≤ length tree → Prepares pack query tree (Ok (record { size = size; parts = parts })) nodes triples index
+    built l = go c
+      where
+        go : Constructs pack (Ok size) nodes triples index → Prepares pack query tree (Ok (record { size = size; parts = parts })) nodes triples index
+        go (refuses x k) = absurd (no_value x)
+        go (gives fs G w) = gives fs (record { graph = G; held = h; room = let a = h.few in let b = h.query.fits in omega arith }) w
 
-pub not_0 : {g : Constructed} → g ≡ refused_as 2 → g.refusal ≡ 0 → ⊥
-not_0 q z = let w = ap (λ (c : Constructed). c.refusal) q in omega arith
+    -- the node list has room for its nodes
+    pub roomy : node_list_length ≤ length nodes.after → Roomy nodes.after size.nodes
+    roomy l = go c
+      where
+        go : Constructs pack (Ok size) nodes triples index → Roomy nodes.after size.nodes
+        go (refuses x k) = absurd (no_value x)
+        go (gives fs G w) = record { room = l; few = let h = G.has.graph.listed.few_nodes in omega arith }
 
--- 3 to 11, or the graph
-pub built : {pack query : Text} {tree : List ℕ} {g : Constructed} {n : ℕ} (nodes triples index : Contents) → HoldsQuery query tree n
-    → max_query_bytes ≤ length tree → Constructs pack g nodes triples index
-    → Prepares pack query tree (record { graph = g; parts = n }) nodes triples index
-built nodes triples index h l (refuses x k) = refuses (no_graph h.expression h.query x) k
-built nodes triples index h l (gives fs G w) = gives fs (record { graph = G; held = h; room = let a = h.few in let b = h.query.fits in omega arith }) w
+-- ---- what is answered
 
--- the node list has room for its nodes
-pub roomy : {pack : Text} {g : Constructed} (nodes triples index : Contents) → Constructs pack g nodes triples index → g.refusal ≡ 0
-    → node_list_length ≤ length nodes.after → Roomy nodes.after g.nodes
-roomy nodes triples index (refuses x k) z l = absurd (refuses_some x z)
-roomy nodes triples index (gives fs G w) z l = record { room = l; few = let h = G.has.graph.listed.few_nodes in omega arith }
+module _ {pack query : Text} (tree : List ℕ) (nodes triples index : Contents) where
+  pub as_readied : {p : Prepared} → Prepares pack query tree (Ok p) nodes triples index → (fronts : List (List ℕ)) × Readied pack query tree p fronts
+      × Written fronts (graph_lists nodes triples index)
+  as_readied (refuses x k) = absurd (not_ok x)
+  as_readied (gives fs G w) = (fs, G, w)
 
--- ---- what the number says
-
-module _ {pack query : Text} where
-  some_number : {g : Constructed} → Refuses pack query g → g.refusal ≡ 0 → ⊥
-  some_number (no_query x q) z = not_0 q z
-  some_number (no_graph e i x) z = refuses_some x z
-
-  module _ {tree : List ℕ} {p : Prepared} (nodes triples index : Contents) where
-    pub as_readied : Prepares pack query tree p nodes triples index → p.graph.refusal ≡ 0 → (fronts : List (List ℕ)) × Readied pack query tree p fronts
-        × Written fronts (graph_lists nodes triples index)
-    as_readied (refuses x k) z = absurd (some_number x z)
-    as_readied (gives fs G w) z = (fs, G, w)
-
-    pub as_refused : Prepares pack query tree p nodes triples index → (p.graph.refusal ≡ 0 → ⊥) → Refuses pack query p.graph × Kept (graph_lists nodes triples index)
-    as_refused (refuses x k) n = (x, k)
-    as_refused (gives fs G w) n = absurd (n (ap (λ (c : Constructed). c.refusal) G.graph.counts))
+  pub as_refused : {e : Refusal} → Prepares pack query tree (Err e) nodes triples index → Refuses {A = Prepared} pack query (Err e) × Kept (graph_lists nodes triples index)
+  as_refused (refuses x k) = (x, k)
+  as_refused (gives fs G w) = absurd G
 
 -- what is readied is given
-abbrev pub given : {pack query : Text} {tree : List ℕ} {p : Prepared} {fronts : List (List ℕ)} → Readied pack query tree p fronts → Gives pack query p.graph fronts
+abbrev pub given : {pack query : Text} {tree : List ℕ} {p : Prepared} {fronts : List (List ℕ)} → Readied pack query tree p fronts → Gives pack query p.size fronts
 given R = record { expression = R.held.expression; is = R.held.query; graph = R.graph }

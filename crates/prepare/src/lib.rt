@@ -7,15 +7,18 @@ ghost use Rattle.calls.specs.Call.{lent};
 ghost use Rattle.meaning.specs.Limits.{heads_length, index_length, max_parts, max_query_bytes, node_list_length, rows_length, triple_list_length};
 ghost use Rattle.prepare.specs.Prepared.{Prepares, ResolvedIf};
 
-use construct::{Constructed, construct, refused};
+use construct::construct;
+use graph::Size;
 use meaning::SETTING_LENGTH;
-use query::{Query, read_query};
+use meaning::refusal::Refusal;
+use query::read_query;
+use records::setting::LoadedSetting;
 use resolve::resolve;
 
-// What the pack comes to, or 2, and how many parts the query has.
-#[derive(Drop)]
+// How many nodes and triples the pack's graph has, and how many parts the query.
+#[derive(Clone, Copy)]
 pub struct Prepared {
-    pub graph: Constructed,
+    pub size: Size,
     pub parts: usize,
 }
 
@@ -31,38 +34,31 @@ pub fn prepare(
     index: &mut [u16],
     rows: &mut [u16],
     heads: &mut [u64],
-) -> Prepared
+) -> Result<Prepared, Refusal>
     requires { (max_query_bytes ≤ length tree.old) × (max_parts ≤ length wanted.old)
         × (node_list_length ≤ length nodes.old) × (triple_list_length ≤ length triples.old)
         × (index_length ≤ length index.old) × (rows_length ≤ length rows.old) × (heads_length ≤ length heads.old) }
     ensures { Prepares pack.now query.now tree.new result (lent nodes) (lent triples) (lent index)
         × ResolvedIf pack.now query.now tree.new result nodes.new wanted.new }
 {
-    match read_query(query, tree) {
-        Query::NoExpression => Prepared {
-            graph: refused(2),
-            parts: 0,
-        },
-        Query::Parts(parts) => {
-            let mut numbers = [0u16; SETTING_LENGTH];
-            let loaded = construct(pack, &mut numbers, nodes, triples, index, rows, heads);
-            let graph = loaded.graph;
-            let counts = loaded.counts;
-            if graph.refusal != 0 {
-                return Prepared { graph, parts };
-            }
-            resolve(
-                pack,
-                counts,
-                &numbers[..],
-                query,
-                &tree[..],
-                parts,
-                &nodes[..],
-                graph.nodes,
-                wanted,
-            );
-            Prepared { graph, parts }
-        }
-    }
+    let parts = read_query(query, tree).ok_or(Refusal::NoExpression)?;
+    let mut numbers = [0u16; SETTING_LENGTH];
+    let loaded = construct(pack, &mut numbers, nodes, triples, index, rows, heads)?;
+    let size = loaded.size;
+    let counts = loaded.counts;
+    let setting = LoadedSetting {
+        counts,
+        numbers: &numbers[..],
+    };
+    resolve(
+        pack,
+        &setting,
+        query,
+        &tree[..],
+        parts,
+        &nodes[..],
+        size.nodes,
+        wanted,
+    );
+    Ok(Prepared { size, parts })
 }

@@ -3,11 +3,10 @@ use borrow.Author.Tests.{eq-eqb, ne_eqb, le-leb, lt-leb}
 use lib.Dec.{lit<}
 use lib.ListN.{length, take, drop, get_or, set, length-take, length-drop}
 use lib.Seq.{drop-drop, get_or-set_same, get_or-set_other}
-use mathlib.Core.Bool.{Bool, true, false}
+use mathlib.Core.Bool.{Bool}
 use mathlib.Core.List.{List}
 use mathlib.Core.Logic.{◌⊎◌}
 use mathlib.Core.Path.{◌≡◌, refl, sym, ap, subst, ◌∙◌}
-use native.Mathlib.Decide.{ℕ_discrete}
 use native.Mathlib.Omega.{arith}
 use Prim.Native.Nat.{ℕ, ◌+◌, ◌-◌, ◌≤◌, ◌<◌}
 use Rattle.grammar.proofs.Bytes.{first_drop, get_d_within, run_le}
@@ -16,17 +15,18 @@ use Rattle.grammar.specs.Parse.{bad, first, label, leaf, name, no_byte, ok, Out,
 use Rattle.meaning.specs.Limits.{max_name_bytes, part_room}
 use Rattle.meaning.specs.Pack.{Text}
 use Rattle.meaning.specs.Query.{Expr, step, any_step, at_iri, at_literal}
-use Rattle.query.specs.Reading.{class, labelled, CanRead, StarsPut, Tells, Reading}
+use Rattle.std.specs.Prelude.{Option, Some, None}
+use Rattle.query.specs.Reading.{class, labelled, CanRead, Tells, Reading}
 use Rattle.query.specs.Tree.{part, QueryTextAt, Holds, h_step, h_iri, h_literal}
 
 -- A refusal that kept the parts below n.
-pub refuse : (q t t' : List ℕ) (i n : ℕ) (o : Out) → ((x : ℕ) → x < n → get_or t' x 0 ≡ get_or t x 0) → o ≡ bad → Reading q t t' i n false 0 0 o
+pub refuse : (q t t' : List ℕ) (i n : ℕ) (o : Out) → ((x : ℕ) → x < n → get_or t' x 0 ≡ get_or t x 0) → o ≡ bad → Reading q t t' i n None o
 refuse q t t' i n o k h = record { kept = k; tells = h }
 
 -- One part stored at n.
 pub store : (q t : List ℕ) (i n j v : ℕ) (o : Out) (e : Expr) → n < length t → i < j → j ≤ length q
     → o ≡ ok e (drop j q) → (get_or (set t n v) n 0 ≡ v → Holds q (set t n v) n e (n + 1))
-    → Reading q t (set t n v) i n true j (n + 1) o
+    → Reading q t (set t n v) i n (Some (j, n + 1)) o
 store q t i n j v o e lt mv wi g h = record {
   kept = λ x l. get_or-set_other t n x v 0 (λ w. omega arith);
   tells = record { expr = e; gives = g; holds = h (get_or-set_same t n v 0 lt); moved = mv; within = wi; few = omega arith };
@@ -68,7 +68,7 @@ abbrev pub Kind : ℕ → ℕ → Type 0
 Kind kind mark = ((kind ≡ 3) × (mark ≡ angle_close)) ⊎ ((kind ≡ 4) × (mark ≡ quote))
 
 module _ (q t : List ℕ) (i n kind mark j : ℕ) (is : j ≡ i + run (class kind) (drop i q)) where
-  pub label_refused : Kind kind mark → (get_or q j no_byte ≡ mark → ⊥) → Reading q t t i n false 0 0 (labelled kind (drop i q))
+  pub label_refused : Kind kind mark → (get_or q j no_byte ≡ mark → ⊥) → Reading q t t i n None (labelled kind (drop i q))
   unfolding labelled class
   label_refused (◌⊎◌.inl (p, r)) h = refuse q t t i n (labelled kind (drop i q)) (λ x l. refl)
       (ap (λ (x : ℕ). labelled x (drop i q)) p ∙ label_no angle_close at_iri q i j (is ∙ ap (λ (x : ℕ). i + run (class x) (drop i q)) p) (λ w. h (w ∙ sym r)))
@@ -79,7 +79,7 @@ module _ (q t : List ℕ) (i n kind mark j : ℕ) (is : j ≡ i + run (class kin
   module _ (v : ℕ) (rd : CanRead q t i n) (h : get_or q j no_byte ≡ mark) (u : v ≡ part kind i (j - i)) (k m : ℕ) (lt : m < no_byte)
       (f : Text → Expr) (rule : (s : Text) → QueryTextAt q i s → get_or (set t n v) n 0 ≡ part k i (length s) → Holds q (set t n v) n (f s) (n + 1))
       (p : kind ≡ k) (r : mark ≡ m) (same : j ≡ i + run (other m) (drop i q)) (told : labelled kind (drop i q) ≡ label m f (drop i q)) where
-    label_kept : Reading q t (set t n v) i n true (j + 1) (n + 1) (labelled kind (drop i q))
+    label_kept : Reading q t (set t n v) i n (Some (j + 1, n + 1)) (labelled kind (drop i q))
     label_kept =
         let z = run_size (other m) q i j rd.within same in
         let w = get_d_within q j m (h ∙ r) lt in
@@ -89,7 +89,7 @@ module _ (q t : List ℕ) (i n kind mark j : ℕ) (is : j ≡ i + run (class kin
         (x ∙ u ∙ ap (λ (y : ℕ). part y i (j - i)) p ∙ ap (λ (y : ℕ). part k i y) (sym z.2)))
 
   pub label_stored : (v : ℕ) → CanRead q t i n → Kind kind mark → get_or q j no_byte ≡ mark → v ≡ part kind i (j - i)
-      → Reading q t (set t n v) i n true (j + 1) (n + 1) (labelled kind (drop i q))
+      → Reading q t (set t n v) i n (Some (j + 1, n + 1)) (labelled kind (drop i q))
   unfolding labelled class
   label_stored v rd (◌⊎◌.inl (p, r)) h u = label_kept v rd h u 3 angle_close (lit< tt) at_iri (λ s a x. h_iri a x) p r
       (is ∙ ap (λ (x : ℕ). i + run (class x) (drop i q)) p) (ap (λ (x : ℕ). labelled x (drop i q)) p)
@@ -99,15 +99,15 @@ module _ (q t : List ℕ) (i n kind mark j : ℕ) (is : j ≡ i + run (class kin
 -- ---- names
 
 module _ (q t : List ℕ) (i n j : ℕ) (is : j ≡ i + run (class 2) (drop i q)) where
-  pub name_short : i ≤ length q → j - i ≡ 0 → Reading q t t i n false 0 0 (name (drop i q))
+  pub name_short : i ≤ length q → j - i ≡ 0 → Reading q t t i n None (name (drop i q))
   unfolding name class
   name_short le h = refuse q t t i n (name (drop i q)) (λ x l. refl) (rw ((run_size letter q i j le is).0, h))
 
-  pub name_long : i ≤ length q → max_name_bytes < j - i → Reading q t t i n false 0 0 (name (drop i q))
+  pub name_long : i ≤ length q → max_name_bytes < j - i → Reading q t t i n None (name (drop i q))
   unfolding name class
   name_long le h = refuse q t t i n (name (drop i q)) (λ x l. refl) (rw ((run_size letter q i j le is).0, lt-leb (j - i) max_name_bytes h, le-leb 1 (j - i) (omega arith)))
 
-  pub name_stored : (v : ℕ) → CanRead q t i n → (j - i ≡ 0 → ⊥) → j - i ≤ max_name_bytes → v ≡ part 2 i (j - i) → Reading q t (set t n v) i n true j (n + 1) (name (drop i q))
+  pub name_stored : (v : ℕ) → CanRead q t i n → (j - i ≡ 0 → ⊥) → j - i ≤ max_name_bytes → v ≡ part 2 i (j - i) → Reading q t (set t n v) i n (Some (j, n + 1)) (name (drop i q))
   unfolding name class
   name_stored v rd lo hi u =
       let z = run_size letter q i j rd.within is in
@@ -120,12 +120,12 @@ module _ (q t : List ℕ) (i n j : ℕ) (is : j ≡ i + run (class 2) (drop i q)
 -- ---- the choice by the first byte
 
 -- The same reading, begun at an earlier byte and seen as another answer.
-pub reread : (q t t' : List ℕ) (i i' n : ℕ) (good : Bool) (j m : ℕ) (o o' : Out) → Reading q t t' i' n good j m o → i ≤ i' → o ≡ o' → Reading q t t' i n good j m o'
-reread q t t' i i' n good j m o o' r le e = record { kept = r.kept; tells = subst (λ (x : Out). Tells good q t' i n j m x) e (go good r.tells) }
+pub reread : (q t t' : List ℕ) (i i' n : ℕ) (r : Option (ℕ × ℕ)) (o o' : Out) → Reading q t t' i' n r o → i ≤ i' → o ≡ o' → Reading q t t' i n r o'
+reread q t t' i i' n r o o' g le e = record { kept = g.kept; tells = subst (λ (x : Out). Tells r q t' i n x) e (go r g.tells) }
   where
-    go : (b : Bool) → Tells b q t' i' n j m o → Tells b q t' i n j m o
-    go false x = x
-    go true x = let a = x.moved in let b = x.few in record { expr = x.expr; gives = x.gives; holds = x.holds; moved = omega arith; within = x.within; few = omega arith }
+    go : (r : Option (ℕ × ℕ)) → Tells r q t' i' n o → Tells r q t' i n o
+    go None x = x
+    go (Some p) x = let a = x.moved in let b = x.few in record { expr = x.expr; gives = x.gives; holds = x.holds; moved = omega arith; within = x.within; few = omega arith }
 
 module _ (q : Text) (i : ℕ) where
   pub leaf_iri : get_or q i no_byte ≡ angle_open → labelled 3 (drop (i + 1) q) ≡ leaf (drop i q)
@@ -140,21 +140,8 @@ module _ (q : Text) (i : ℕ) where
   unfolding leaf
   leaf_any h = rw (first_drop q i, h, drop-drop 1 i q)
 
-  pub leaf_name : (c : ℕ) → c ≡ get_or q i no_byte → (c ≡ angle_open → ⊥) → (c ≡ quote → ⊥) → (c ≡ underscore → ⊥) → name (drop i q) ≡ leaf (drop i q)
+  pub leaf_name : (get_or q i no_byte ≡ angle_open → ⊥) → (get_or q i no_byte ≡ quote → ⊥) → (get_or q i no_byte ≡ underscore → ⊥) → name (drop i q) ≡ leaf (drop i q)
   unfolding leaf
-  leaf_name c e h₁ h₂ h₃ = rw (first_drop q i, ← e, ne_eqb c angle_open h₁, ne_eqb c quote h₂, ne_eqb c underscore h₃)
-
--- ---- stars, one after another
-
-pub put_none : (t : List ℕ) (n : ℕ) → StarsPut t t n 0
-put_none t n = record { kept = λ x h. refl; stars = λ x h l. absurd (omega arith) }
-
-pub put_more : (t t' : List ℕ) (n i v : ℕ) → StarsPut t t' n i → n + i < length t' → v ≡ part 6 0 0 → StarsPut t (set t' (n + i) v) n (i + 1)
-put_more t t' n i v p lt e = record {
-  kept = λ x h. get_or-set_other t' (n + i) x v 0 (λ w. omega arith) ∙ p.kept x h;
-  stars = λ x h l. go x h l (ℕ_discrete x (n + i));
-}
-  where
-    go : (x : ℕ) → n ≤ x → x < n + (i + 1) → Dec (x ≡ n + i) → get_or (set t' (n + i) v) x 0 ≡ part 6 0 0
-    go x h l (yes w) = ap (λ (y : ℕ). get_or (set t' (n + i) v) y 0) w ∙ get_or-set_same t' (n + i) v 0 lt ∙ e
-    go x h l (no w) = get_or-set_other t' (n + i) x v 0 w ∙ p.stars x h (omega arith)
+  leaf_name h₁ h₂ h₃ =
+      let c = get_or q i no_byte in
+      rw (first_drop q i, ne_eqb c angle_open h₁, ne_eqb c quote h₂, ne_eqb c underscore h₃)

@@ -1,10 +1,8 @@
 -- What the reader says of a text. Assumes nothing.
-use Rattle.std.specs.Prelude.{length, List, ℕ, ◌≤◌}
+use Rattle.std.specs.Prelude.{length, List, Option, Some, None, ℕ, ◌≤◌}
 use Rattle.meaning.specs.Pack.{Text}
 use Rattle.meaning.specs.Query.{Expr}
 use Rattle.grammar.specs.Grammar.{IsQuery}
-use Rattle.query.specs.declared.Query.{Query}
-use Rattle.query.specs.declared.Query.TheVariants.{Parts, NoExpression}
 use Rattle.query.specs.Tree.{Holds}
 
 -- Refusal 2: "The query is no expression within its bounds."
@@ -18,6 +16,6 @@ pub record HoldsQuery (q : Text) (t : List ℕ) (n : ℕ) : Type 0 where
   pub holds : Holds q t 0 expression n
   pub few : n ≤ length q
 
-abbrev pub Answered : Query → Text → List ℕ → Type 0
-Answered (Parts n) q t = HoldsQuery q t n
-Answered NoExpression q t = Refusal2 q
+abbrev pub Answered : Option ℕ → Text → List ℕ → Type 0
+Answered (Some n) q t = HoldsQuery q t n
+Answered None q t = Refusal2 q

@@ -1,5 +1,5 @@
 -- What the readers leave, as their contracts say it. Assumes nothing.
-use Rattle.std.specs.Prelude.{eqb, length, drop, get_or, Bool, true, false, cond, List, ◌≡◌, ℕ, ◌+◌, ◌≤◌, ◌<◌}
+use Rattle.std.specs.Prelude.{eqb, length, drop, get_or, Bool, cond, List, Option, Some, None, ◌≡◌, ℕ, ◌+◌, ◌≤◌, ◌<◌}
 use Rattle.grammar.specs.Grammar.{letter, other, asterisk, angle_close, quote}
 use Rattle.grammar.specs.Parse.{Out, bad, ok, label}
 use Rattle.meaning.specs.Limits.{max_parts, max_query_bytes}
@@ -31,14 +31,15 @@ pub record Stored (q t : List ℕ) (i n j m : ℕ) (o : Out) : Type 0 where
   pub within : j ≤ length q
   pub few : m + i ≤ n + j
 
-abbrev pub Tells : Bool → List ℕ → List ℕ → ℕ → ℕ → ℕ → ℕ → Out → Type 0
-Tells true q t i n j m o = Stored q t i n j m o
-Tells false q t i n j m o = o ≡ bad
+abbrev pub Tells : Option (ℕ × ℕ) → List ℕ → List ℕ → ℕ → ℕ → Out → Type 0
+Tells (Some p) q t i n o = Stored q t i n p.0 p.1 o
+Tells None q t i n o = o ≡ bad
 
--- A reader that began at byte i and part n, and ended at j and m, or refused, as the answer o says. Parts before n are kept.
-pub record Reading (q t t' : List ℕ) (i n : ℕ) (good : Bool) (j m : ℕ) (o : Out) : Type 0 where
+-- A reader that began at byte i and part n, and ended at a byte and a part, or refused, as the answer o says. Parts before n
+-- are kept.
+pub record Reading (q t t' : List ℕ) (i n : ℕ) (r : Option (ℕ × ℕ)) (o : Out) : Type 0 where
   pub kept : (x : ℕ) → x < n → get_or t' x 0 ≡ get_or t x 0
-  pub tells : Tells good q t' i n j m o
+  pub tells : Tells r q t' i n o
 
 -- k stars from part n on.
 pub record StarsPut (t t' : List ℕ) (n k : ℕ) : Type 0 where

@@ -3,7 +3,6 @@
 
 pub mod kinds;
 mod leaves;
-mod marks;
 pub mod parts;
 mod readers;
 mod scan;
@@ -12,31 +11,20 @@ ghost use Rattle.std.specs.Prelude.{length, ◌≤◌};
 ghost use Rattle.meaning.specs.Limits.{max_parts};
 ghost use Rattle.query.specs.Answer.{Answered};
 
-use crate::leaves::Read;
 use crate::readers::read_union;
 use meaning::{MAX_OPEN_BRACKETS, MAX_QUERY_BYTES};
 
-// How many parts the expression has, or refusal 2.
-#[derive(Drop)]
-pub enum Query {
-    Parts(usize),
-    NoExpression,
-}
-
-// Reads a whole text into the list of parts.
-pub fn read_query(q: &[u8], tree: &mut [u32]) -> Query
+// Reads a whole text into the list of parts: how many the expression has, or none where the text is refused (2).
+pub fn read_query(q: &[u8], tree: &mut [u32]) -> Option<usize>
     requires { max_parts ≤ length tree.old }
     ensures { Answered result q.now tree.new }
 {
     if MAX_QUERY_BYTES < q.len() {
-        return Query::NoExpression;
+        return None;
     }
-    let Read(ok, at, n) = read_union(q, 0, MAX_OPEN_BRACKETS, tree, 0);
-    if !ok {
-        return Query::NoExpression;
-    }
+    let (at, n) = read_union(q, 0, MAX_OPEN_BRACKETS, tree, 0)?;
     if at != q.len() {
-        return Query::NoExpression;
+        return None;
     }
-    Query::Parts(n)
+    Some(n)
 }

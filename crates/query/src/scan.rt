@@ -1,35 +1,30 @@
 // Looking at the bytes of the query.
-ghost use Rattle.std.specs.Prelude.{length, drop, get_or, ◌≡◌, ◌+◌, ◌≤◌};
+ghost use Rattle.std.specs.Prelude.{length, drop, get_or, ◌==◌, ◌≡◌, ◌+◌, ◌≤◌};
 ghost use Rattle.grammar.specs.Parse.{no_byte, run};
 ghost use Rattle.query.specs.Reading.{class};
 
-use crate::{kinds, marks};
+use crate::kinds;
 
-const NO_BYTE: usize = 256;
-
-// The byte at `at`, or none at the end.
-pub fn peek(q: &[u8], at: usize) -> usize
-    ensures { result ≡ get_or q.now at no_byte }
+// Whether the byte at a place is the mark.
+pub fn is_at(q: &[u8], at: usize, mark: u8) -> bool
+    ensures { result ≡ (get_or q.now at no_byte == mark) }
 {
-    if at < q.len() {
-        q[at] as usize
-    } else {
-        NO_BYTE
-    }
+    q.get(at) == Some(&mark)
 }
 
 // Whether a byte belongs to a run that is read for this kind of part.
-pub fn passes(kind: usize, c: usize) -> bool
+#[tactic(auto, unfolding(crate::specs::Reading::class))]
+pub fn passes(kind: usize, c: u8) -> bool
     ensures { result ≡ class kind c }
 {
     if kind == kinds::STEP {
-        97 <= c && c <= 122
+        b'a' <= c && c <= b'z'
     } else if kind == kinds::AT_IRI {
-        c != marks::ANGLE_CLOSE
+        c != b'>'
     } else if kind == kinds::AT_LITERAL {
-        c != marks::QUOTE
+        c != b'"'
     } else {
-        marks::ASTERISK == c
+        c == b'*'
     }
 }
 
@@ -38,12 +33,8 @@ pub fn run_end(q: &[u8], at: usize, kind: usize) -> usize
     requires { at ≤ length q.now }
     ensures { result ≡ at + run (class kind) (drop at q.now) }
 {
-    let mut i = at;
-    while i < q.len() {
-        if !passes(kind, q[i] as usize) {
-            return i;
-        }
-        i += 1;
+    match q[at..].iter().position(|c| !passes(kind, *c)) {
+        Some(k) => at + k,
+        None => q.len(),
     }
-    i
 }

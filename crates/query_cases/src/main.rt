@@ -4,55 +4,40 @@
 // between two letters.
 #![tactic(auto)]
 
-ghost use Rattle.std.specs.Prelude.{length, ◌≤◌, ◌<◌};
+ghost use Rattle.std.specs.Prelude.{length, ◌≤◌};
 
-use query::{Query, read_query};
+use query::read_query;
 
 // Whether the text is read.
 fn is_read(q: &[u8]) -> bool {
     let mut tree = [0u32; 256];
-    match read_query(q, &mut tree) {
-        Query::Parts(_) => true,
-        Query::NoExpression => false,
-    }
+    read_query(q, &mut tree).is_some()
 }
 
 fn say(q: &[u8]) {
     let mut tree = [0u32; 256];
     match read_query(q, &mut tree) {
-        Query::Parts(n) => {
+        Some(n) => {
             io::print_decimal(1, n as u64);
         }
-        Query::NoExpression => {
+        None => {
             io::write_all(1, b"refused 2");
         }
     }
 }
 
-// Where the line that begins at `from` ends.
-fn line_end(s: &[u8], from: usize) -> usize
-    requires { from < length s.now }
-    ensures { (from ≤ result) × (result ≤ length s.now) }
-{
-    let mut i = from;
-    while i < s.len() {
-        if s[i] == 10 {
-            return i;
-        }
-        i += 1;
-    }
-    i
+// A line's text and what is said of it.
+fn say_line(line: &[u8]) {
+    say(line);
+    io::write_all(1, b" ");
+    io::write_all(1, line);
+    io::write_all(1, b"\n");
 }
 
+// The lines of a text, one after another, each without its line feed.
 fn say_lines(s: &[u8]) {
-    let mut from = 0;
-    while from < s.len() {
-        let to = line_end(s, from);
-        say(&s[from..to]);
-        io::write_all(1, b" ");
-        io::write_all(1, &s[from..to]);
-        io::write_all(1, b"\n");
-        from = to + 1;
+    for line in s.split_inclusive(|b| *b == b'\n') {
+        say_line(line.strip_suffix(b"\n").unwrap_or(line));
     }
 }
 
@@ -93,14 +78,12 @@ fn stray(key: &[u8], from: usize, to: usize)
     requires { (from ≤ to) × (to ≤ 3) }
 {
     io::write_all(1, key);
-    let mut b = 0;
-    while b < 256 {
-        let q = [97, b as u8, 97];
+    for b in 0..=255u8 {
+        let q = [b'a', b, b'a'];
         if is_read(&q[from..to]) {
             io::write_all(1, b" ");
-            io::print_decimal(1, b);
+            io::print_decimal(1, b as u64);
         }
-        b += 1;
     }
     io::write_all(1, b"\n");
 }

@@ -15,8 +15,8 @@ use Rattle.states.specs.Fits.{ListsFit}
 use Rattle.states.specs.Lists.{AliveIn, Lists, ReachedIn, leaf_at, numbered}
 use Rattle.states.specs.Living.{Living}
 use Rattle.reached.specs.Walked.{EndsAre, ListedBelow, ListedUpTo, PairIn, PairsAre, Walked, ends_from, has_state}
-use Rattle.reached.specs.declared.pairs.Pairs.{Pairs}
-use Rattle.reached.specs.declared.pairs.Pairs.TheVariants.{Listed, TooMany}
+use Rattle.reached.specs.declared.pairs.TooMany.{TooMany}
+use Rattle.std.specs.Prelude.{Err, Ok, Result}
 use Rattle.reached.specs.Keys.{pair_key}
 use Rattle.forward.specs.Seen.{seen_state}
 use Rattle.meaning.specs.Limits.{max_core_nodes, max_nodes, max_pairs, named_words}
@@ -300,12 +300,12 @@ module _ {L : Lists} (f : ListsFit L) {named : ℕ} (fit : named ≤ L.nodes) wh
     added b = list_append (PairIn L named) (omega arith) b (ends_ascend seen L.parts v named 0) sound complete
 
     -- The pairs of one start more.
-    pub listed_from : {pairs : List ℕ} (pairs' : List ℕ) {k : ℕ} (r : Pairs) → ListedBelow L named (pair_key v 0) pairs k
+    pub listed_from : {pairs : List ℕ} (pairs' : List ℕ) {k : ℕ} (r : Result ℕ TooMany) → ListedBelow L named (pair_key v 0) pairs k
         → EndsAre r (ends_from seen L.parts v 0 named) pairs k pairs' → ListedUpTo r L named (pair_key (v + 1) 0) pairs'
-    listed_from pairs' (Listed n) b (h, e) = record { few = h; are = subst (ListOf ◌<◌ (λ x. PairIn L named x × (x < pair_key (v + 1) 0))) (sym e) (added b.are) }
-    listed_from pairs' TooMany b h = list_over (PairIn L named) (added b.are) h
+    listed_from pairs' (Ok n) b (h, e) = record { few = h; are = subst (ListOf ◌<◌ (λ x. PairIn L named x × (x < pair_key (v + 1) 0))) (sym e) (added b.are) }
+    listed_from pairs' (Err e) b h = list_over (PairIn L named) (added b.are) h
 
-  pub listed_done : {pairs : List ℕ} {k v : ℕ} → named ≤ v → ListedBelow L named (pair_key v 0) pairs k → PairsAre (Listed k) L named pairs
+  pub listed_done : {pairs : List ℕ} {k v : ℕ} → named ≤ v → ListedBelow L named (pair_key v 0) pairs k → PairsAre (Ok k) L named pairs
   listed_done {pairs} {k} {v} l b = (
     b.few,
     record {

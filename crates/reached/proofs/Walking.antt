@@ -1,4 +1,5 @@
 -- The states at named nodes that are marked grow until they are those that are reached. Assumes nothing.
+use lib.ListN.{length}
 use mathlib.Core.List.{List}
 use mathlib.Core.Logic.{⊎_elim}
 use mathlib.Core.Path.{refl, subst, sym, ◌≡◌}
@@ -14,7 +15,8 @@ use Rattle.forward.proofs.Stepping.{step_in, step_named}
 use Rattle.states.specs.Lists.{Lists, ReachedIn, StepIn}
 use Rattle.walk.specs.Walk.{onward, start}
 use Rattle.worklist.proofs.Growth.{adds_sound, all_looked, turn_looked, turn_marked}
-use Rattle.worklist.specs.Table.{AddsOnly, Board, FromWord, InWord, Looked, Marked, Table, Takes, Unmarked, board}
+use Rattle.worklist.proofs.Stack.{stacked_as}
+use Rattle.worklist.specs.Table.{AddsOnly, Blank, Board, FromWord, InWord, Looked, Marked, Stacked, Table, Takes}
 
 -- The number x is a state at a named node that is reached.
 pub record StateReached (L : Lists) (named v x : ℕ) : Type 0 where
@@ -39,27 +41,29 @@ module _ {L : Lists} {named : ℕ} {own index alive : List ℕ} (f : WalkReady L
         reached = subst (λ x. ReachedIn L v x (seen_node y)) (sym u) (subst (λ x. ReachedIn L v i x) (sym w) a);
       }
 
-  pub walk_start : {marked waiting stack : List ℕ} {b : Board} → v < named → Unmarked seen_words marked waiting stack
-      → AddsOnly seen_words (λ y. y ≡ seen_state (L.parts - 1) v) (board marked waiting stack 0) b → Walking L named v b
-  walk_start h u a = record {
-    marks = a.after;
-    begun = a.all (seen_state (L.parts - 1) v) refl;
-    sound = adds_sound a (StateReached L named v) (λ x l e. absurd (let z = u.none x l in omega arith)) (λ x e. state_reached (L.parts - 1) v x (omega arith) h e start);
-    closed = λ x l e. absurd (let y = (a.looked x l e).is in let z = u.none x l in omega arith);
+  pub walk_start : {a b : Board} → v < named → Blank seen_words a → AddsOnly seen_words (λ y. y ≡ seen_state (L.parts - 1) v) a b → Walking L named v b
+  walk_start h u d = record {
+    marks = d.after;
+    begun = d.all (seen_state (L.parts - 1) v) refl;
+    sound = adds_sound d (StateReached L named v) (λ x l e. absurd (let z = u.0.none x l in omega arith)) (λ x e. state_reached (L.parts - 1) v x (omega arith) h e start);
+    closed = λ x l e. absurd (let y = (d.looked x l e).is in let z = u.0.none x l in omega arith);
   }
 
   -- The states of a word are looked at.
-  module _ {w bits : ℕ} {marked waiting stack waiting' : List ℕ} {top top' : ℕ} (g : Walking L named v (board marked waiting stack top))
-      (k : Takes seen_words (InWord w bits) waiting stack waiting' top') where
+  module _ {w bits : ℕ} {b c : Board} (g : Walking L named v b) (k : Takes seen_words (InWord w bits) b c) where
     pub now_reached : (x : ℕ) → InWord w bits x → StateReached L named v x
     now_reached x t = g.sound x (k.inside x t) (turn_marked g.marks k x t)
 
-    pub walk_again : {b : Board} → AddsOnly seen_words (FromWord w bits (StepFrom L named)) (board marked waiting' stack top') b → Walking L named v b
-    walk_again {b} a = record {
+    -- what was marked still is
+    still : (x : ℕ) → Marked b.marked x → Marked c.marked x
+    still x h = subst (λ m. Marked m x) (sym k.marked) h
+
+    pub walk_again : {d : Board} → AddsOnly seen_words (FromWord w bits (StepFrom L named)) c d → Walking L named v d
+    walk_again a = record {
       marks = a.after;
-      begun = a.more (seen_state (L.parts - 1) v) g.begun;
-      sound = adds_sound a (StateReached L named v) g.sound from;
-      closed = λ x l h y s. ⊎_elim (λ t. a.all y (record { from = x; is = t; leads = s })) (λ e. a.more y (g.closed x l e y s)) (turn_looked g.marks k a x l h);
+      begun = a.more (seen_state (L.parts - 1) v) (still (seen_state (L.parts - 1) v) g.begun);
+      sound = adds_sound a (StateReached L named v) (λ x l e. g.sound x l (subst (λ m. Marked m x) k.marked e)) from;
+      closed = λ x l h y s. ⊎_elim (λ t. a.all y (record { from = x; is = t; leads = s })) (λ e. a.more y (still y (g.closed x l e y s))) (turn_looked g.marks k a x l h);
     }
       where
         from : (y : ℕ) → FromWord w bits (StepFrom L named) y → StateReached L named v y
@@ -103,8 +107,14 @@ module _ {L : Lists} {named : ℕ} {own index alive : List ℕ} (f : WalkReady L
         subst (λ x. ReachedIn L v x n) (seen_part_lem i n (seen_state i n) (omega arith) refl)
         (subst (λ x. ReachedIn L v (seen_part (seen_state i n)) x) (seen_node_lem i n (seen_state i n) (omega arith) refl) r)
 
-    pub walk_done : Walked L named v b.marked
+    walk_done : Walked L named v b.marked
     walk_done = record {
       reached = λ i n a c. (only i n a c, λ r. (every r c).1);
       within = λ x l e. part_below x L.parts (g.sound x l e).is.part;
     }
+
+    -- what the code then has
+    pub walk_ended : {c : Board} → c ≡ b → Walked L named v c.marked × (seen_words ≤ length c.marked) × Stacked seen_words c.waiting c.stack 0 × (c.top ≡ 0)
+    walk_ended e =
+        subst (λ (d : Board). Walked L named v d.marked × (seen_words ≤ length d.marked) × Stacked seen_words d.waiting d.stack 0 × (d.top ≡ 0)) (sym e)
+        (walk_done, g.marks.long, stacked_as done g.marks.stacked, done)

@@ -1,9 +1,8 @@
 -- What a walk from a start reaches, and the pairs that are listed by it, over lists. Assumes nothing.
-use Rattle.std.specs.Prelude.{eqb, length, take, Bool, cond, List, [], ◌++◌, ◌∷◌, ◌↔◌, ◌≡◌, suc, zero, ℕ, ◌*◌, ◌+◌, ◌<◌, ◌≤◌}
+use Rattle.std.specs.Prelude.{eqb, length, take, Bool, cond, List, [], ◌++◌, ◌∷◌, Err, Ok, Result, ◌↔◌, ◌≡◌, suc, zero, ℕ, ◌*◌, ◌+◌, ◌<◌, ◌≤◌}
 use Rattle.meaning.specs.Limits.{max_core_nodes, max_pairs, seen_words}
 use Rattle.meaning.specs.Ordered.{ListOf, Over}
-use Rattle.reached.specs.declared.pairs.Pairs.{Pairs}
-use Rattle.reached.specs.declared.pairs.Pairs.TheVariants.{Listed, TooMany}
+use Rattle.reached.specs.declared.pairs.TooMany.{TooMany}
 use Rattle.reached.specs.Keys.{pair_key}
 use Rattle.forward.specs.Seen.{seen_state}
 use Rattle.states.specs.Lists.{Lists, ReachedIn}
@@ -36,9 +35,9 @@ ends_from seen part start e (suc f) =
     cond (has_state seen part e) (pair_key start e ∷ ends_from seen part start (suc e) f) (ends_from seen part start (suc e) f)
 
 -- xs were added to the k numbers that are listed; or there are too many then.
-abbrev pub EndsAre : Pairs → List ℕ → List ℕ → ℕ → List ℕ → Type 0
-EndsAre (Listed k') xs pairs k pairs' = (k' ≤ max_pairs) × (take k' pairs' ≡ take k pairs ++ xs)
-EndsAre TooMany xs pairs k pairs' = max_pairs < length (take k pairs ++ xs)
+abbrev pub EndsAre : Result ℕ TooMany → List ℕ → List ℕ → ℕ → List ℕ → Type 0
+EndsAre (Ok k') xs pairs k pairs' = (k' ≤ max_pairs) × (take k' pairs' ≡ take k pairs ++ xs)
+EndsAre (Err e) xs pairs k pairs' = max_pairs < length (take k pairs ++ xs)
 
 -- The pairs with a number below b are listed, k of them.
 pub record ListedBelow (L : Lists) (named b : ℕ) (pairs : List ℕ) (k : ℕ) : Type 0 where
@@ -46,11 +45,11 @@ pub record ListedBelow (L : Lists) (named b : ℕ) (pairs : List ℕ) (k : ℕ) 
   pub are : ListOf ◌<◌ (λ x. PairIn L named x × (x < b)) (take k pairs)
 
 -- The same, or there are too many pairs.
-abbrev pub ListedUpTo : Pairs → Lists → ℕ → ℕ → List ℕ → Type 0
-ListedUpTo (Listed k) L named b pairs = ListedBelow L named b pairs k
-ListedUpTo TooMany L named b pairs = Over max_pairs (PairIn L named)
+abbrev pub ListedUpTo : Result ℕ TooMany → Lists → ℕ → ℕ → List ℕ → Type 0
+ListedUpTo (Ok k) L named b pairs = ListedBelow L named b pairs k
+ListedUpTo (Err e) L named b pairs = Over max_pairs (PairIn L named)
 
 -- "Over 4,096 pairs": the pairs are listed, so many; or they are too many.
-abbrev pub PairsAre : Pairs → Lists → ℕ → List ℕ → Type 0
-PairsAre (Listed k) L named pairs = (k ≤ max_pairs) × ListOf ◌<◌ (PairIn L named) (take k pairs)
-PairsAre TooMany L named pairs = Over max_pairs (PairIn L named)
+abbrev pub PairsAre : Result ℕ TooMany → Lists → ℕ → List ℕ → Type 0
+PairsAre (Ok k) L named pairs = (k ≤ max_pairs) × ListOf ◌<◌ (PairIn L named) (take k pairs)
+PairsAre (Err e) L named pairs = Over max_pairs (PairIn L named)

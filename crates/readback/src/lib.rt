@@ -1,58 +1,24 @@
 // Read-back, an open call: from an IRI's text to its constructor and values.
 #![tactic(auto)]
 
-ghost use Rattle.std.specs.Prelude.{◌≡◌};
-ghost use Rattle.readback.specs.Answer.{ReadBackAnswers, unread_as, read};
+ghost use Rattle.readback.specs.Answer.{ReadBackAnswers};
 
 use checks::check;
-use iris::iri::{IriRead, read_iri};
-use meaning::{MAX_ARGUMENTS, ROWS_LENGTH, SETTING_LENGTH, UNUSED};
+use iris::iri::{Term, read_iri};
+use meaning::refusal::Refusal;
+use meaning::{ROWS_LENGTH, SETTING_LENGTH};
+use records::setting::LoadedSetting;
 
-// Refusal 0, and the constructor with its values in argument order, UNUSED in places unused; or a refusal's number.
-#[derive(Drop)]
-pub struct ReadBack {
-    pub refusal: u8,
-    pub constructor: u16,
-    pub values: [u16; MAX_ARGUMENTS],
-}
-
-fn refused(k: u8) -> ReadBack
-    ensures { result ≡ unread_as k }
-{
-    ReadBack {
-        refusal: k,
-        constructor: UNUSED,
-        values: [UNUSED; MAX_ARGUMENTS],
-    }
-}
-
-// Refusal 13 where no IRI was read.
-fn answer(found: IriRead) -> ReadBack
-    ensures { result ≡ read found }
-{
-    let ok = found.ok;
-    if !ok {
-        return refused(13);
-    }
-    let values = found.values;
-    ReadBack {
-        refusal: 0,
-        constructor: found.constructor,
-        values,
-    }
-}
-
-// The constructor and the values whose IRI the text is.
-pub fn read_back(pack: &[u8], text: &[u8]) -> ReadBack
+// The constructor and the values whose IRI the text is; else a refusal of 3 to 7, or 13.
+pub fn read_back(pack: &[u8], text: &[u8]) -> Result<Term, Refusal>
     ensures { ReadBackAnswers pack.now text.now result }
 {
     let mut numbers = [0u16; SETTING_LENGTH];
     let mut rows = [0u16; ROWS_LENGTH];
-    let checked = check(pack, &mut numbers, &mut rows);
-    let refusal = checked.refusal;
-    if refusal != 0 {
-        return refused(refusal);
-    }
-    let counts = checked.counts;
-    answer(read_iri(pack, counts, &numbers[..], text))
+    let counts = check(pack, &mut numbers, &mut rows)?;
+    let setting = LoadedSetting {
+        counts,
+        numbers: &numbers[..],
+    };
+    read_iri(pack, &setting, text).ok_or(Refusal::NoIri)
 }

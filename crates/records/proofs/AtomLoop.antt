@@ -7,16 +7,13 @@ use mathlib.Core.Path.{◌≡◌, refl, sym, ap, ◌∙◌}
 use native.Mathlib.Nat.{sub-zero}
 use native.Mathlib.Omega.{arith}
 use Prim.Native.Nat.{ℕ, suc, ◌+◌, ◌*◌, ◌-◌, ◌≤◌, ◌<◌, zero-le}
-use Rattle.meaning.specs.Limits.{atoms_length, atom_width, max_atoms, max_columns}
+use Rattle.meaning.specs.Limits.{atoms_length, atom_width, max_atoms}
 use Rattle.meaning.specs.Pack.{Atom}
 use Rattle.meaning.specs.Tables.{atom_numbers}
-use Rattle.pack.proofs.Bounds.{atom_fine}
-use Rattle.pack.proofs.Reading.{length_at}
 use Rattle.pack.specs.Readers.{Read, give, next}
-use Rattle.pack.specs.Records.{atom, atom_of, atoms}
-use Rattle.pack.specs.Shown.{left, Got, Not, CursorIn, TupleGot, made}
+use Rattle.pack.specs.Records.{atom, atoms}
+use Rattle.pack.specs.Shown.{left, Got, Not}
 use Rattle.pack.specs.declared.cursor.Cursor.{Cursor}
-use Rattle.pack.specs.declared.cursor.Tuple.{Tuple}
 use Rattle.records.specs.Kept.{Put}
 use Rattle.records.proofs.Terms.{length_atom}
 use Rattle.meaning.proofs.Lists.Blocks.{length_flat}
@@ -25,37 +22,33 @@ use Rattle.meaning.proofs.Lists.Padding.{drop_zeros, take_zeros}
 -- ---- atoms one after another
 
 -- the atom in front of the others
-front_atom : {s : List ℕ} {c e d : Cursor} {a : Atom} {bs : List Atom} (k : ℕ) → Got atom s c a e → Got (atoms (suc k)) s c bs d
-    → (cs : List Atom) × (bs ≡ a ∷ cs) × Got (atoms k) s e cs d
+front_atom : {c e d : Cursor} {a : Atom} {bs : List Atom} (k : ℕ) → Got atom c a e → Got (atoms (suc k)) c bs d
+    → (cs : List Atom) × (bs ≡ a ∷ cs) × Got (atoms k) e cs d
 unfolding atoms
-front_atom {s} {c} {e} {d} {a} {bs} k g h = go (atoms k (left s e)) refl (rw g.reads at h.reads)
+front_atom {c} {e} {d} {a} {bs} k g h = go (atoms k (left e)) refl (rw g.reads at h.reads)
   where
-    go : (o : Option (Read (List Atom))) → atoms k (left s e) ≡ o → next o (λ as'. give (a ∷ as')) ≡ some (record { got = bs; rest = left s d })
-        → (cs : List Atom) × (bs ≡ a ∷ cs) × Got (atoms k) s e cs d
+    go : (o : Option (Read (List Atom))) → atoms k (left e) ≡ o → next o (λ as'. give (a ∷ as')) ≡ some (record { got = bs; rest = left d })
+        → (cs : List Atom) × (bs ≡ a ∷ cs) × Got (atoms k) e cs d
     go none q r = absurd (let z : ◌≡◌ {A = ℕ} 0 1 = cc in omega arith)
     go (some x) q r =
         let p = some-injective _ _ r in
-        let f : x.rest ≡ left s d = ap (λ (y : Read (List Atom)). y.rest) p in (
+        let f : x.rest ≡ left d = ap (λ (y : Read (List Atom)). y.rest) p in (
           x.got,
           sym (ap (λ (y : Read (List Atom)). y.got) p),
           record {
             reads = q ∙ rw (← f);
+            bytes = h.bytes ∙ sym g.bytes;
             same = h.same ∙ sym g.same;
-            placed = h.placed;
           },
         )
 
-no_atom : {Q : Type 0} {s : List ℕ} {c d : Cursor} {bs : List Atom} (k : ℕ) → Not atom s c → Got (atoms (suc k)) s c bs d → Q
+no_atom : {Q : Type 0} {c d : Cursor} {bs : List Atom} (k : ℕ) → Not atom c → Got (atoms (suc k)) c bs d → Q
 unfolding atoms
 no_atom k n h = let e = rw n.reads at h.reads in absurd (let z : ◌≡◌ {A = ℕ} 0 1 = cc in omega arith)
 
-no_atoms : {s : List ℕ} {c d : Cursor} {bs : List Atom} → Got (atoms 0) s c bs d → bs ≡ []
+no_atoms : {c d : Cursor} {bs : List Atom} → Got (atoms 0) c bs d → bs ≡ []
 unfolding atoms
 no_atoms g = sym (ap (λ (y : Read (List Atom)). y.got) (some-injective _ _ g.reads))
-
--- an atom that was read has no more variables than columns are allowed
-pub atom_short : {s : List ℕ} {c d : Cursor} {t : Tuple} → TupleGot atom_of atom s c t d → t.len ≤ max_columns
-atom_short {s} {c} {d} {t} g = omega (arith, (atom_fine (left s c) _ g.got.reads).short, length_at s t.start t.len g.inside)
 
 -- ---- their numbers
 
@@ -89,28 +82,26 @@ all_zeros xs h =
 -- ---- the loop
 
 -- the atoms of `done` are put, and with those from c on they are all n
-pub record AtomsPut (s : List ℕ) (c₀ : Cursor) (n i : ℕ) (c : Cursor) (out : List ℕ) : Type 0 where
+pub record AtomsPut (c₀ : Cursor) (n i : ℕ) (c : Cursor) (out : List ℕ) : Type 0 where
   pub within : i ≤ n
-  pub placed : CursorIn s c
   pub done : List Atom
   pub many : length done ≡ i
   pub held : out ≡ flat_map atom_numbers done ++ zeros i
-  pub asked : (as' : List Atom) (d : Cursor) → Got (atoms n) s c₀ as' d → (bs : List Atom) × Got (atoms (n - i)) s c bs d × (done ++ bs ≡ as')
+  pub asked : (as' : List Atom) (d : Cursor) → Got (atoms n) c₀ as' d → (bs : List Atom) × Got (atoms (n - i)) c bs d × (done ++ bs ≡ as')
 
-pub atoms_start : {s : List ℕ} {c : Cursor} (n : ℕ) → CursorIn s c → AtomsPut s c n 0 c (replicate atoms_length 0)
+pub atoms_start : {c : Cursor} (n : ℕ) → AtomsPut c n 0 c (replicate atoms_length 0)
 unfolding flat_map
-atoms_start n p = record {
+atoms_start n = record {
   within = zero-le;
-  placed = p;
   done = [];
   many = refl;
   held = refl;
   asked = λ as' d g. (as', rw sub-zero g, refl);
 }
 
-module _ {s : List ℕ} {c₀ c : Cursor} {n i : ℕ} {out : List ℕ} (p : AtomsPut s c₀ n i c out) where
-  ahead : {as' : List Atom} {d : Cursor} → i < n → Got (atoms n) s c₀ as' d
-      → (bs : List Atom) × Got (atoms (suc (n - (i + 1)))) s c bs d × (p.done ++ bs ≡ as')
+module _ {c₀ c : Cursor} {n i : ℕ} {out : List ℕ} (p : AtomsPut c₀ n i c out) where
+  ahead : {as' : List Atom} {d : Cursor} → i < n → Got (atoms n) c₀ as' d
+      → (bs : List Atom) × Got (atoms (suc (n - (i + 1)))) c bs d × (p.done ++ bs ≡ as')
   ahead h g =
       let q = p.asked _ _ g in
       let e : n - i ≡ suc (n - (i + 1)) = omega arith in
@@ -134,24 +125,23 @@ module _ {s : List ℕ} {c₀ c : Cursor} {n i : ℕ} {out : List ℕ} (p : Atom
       q.is ∙ ap (λ (ys : List ℕ). ys ++ atom_numbers a ++ drop (i * atom_width + length (atom_numbers a)) out) t
       ∙ ap (λ (ys : List ℕ). f ++ atom_numbers a ++ ys) r ∙ ap (λ (ys : List ℕ). ys ++ zeros (i + 1)) (sym (flat_snoc p.done a))
 
-  pub atoms_on : {t : Tuple} {e : Cursor} {out' : List ℕ} → TupleGot atom_of atom s c t e → i < n → n ≤ max_atoms → Put (atom_numbers (made atom_of s t)) (i * atom_width) out out'
-      → AtomsPut s c₀ n (i + 1) e out'
-  atoms_on {t} g h few q = record {
+  pub atoms_on : {a : Atom} {e : Cursor} {out' : List ℕ} → Got atom c a e → i < n → n ≤ max_atoms → Put (atom_numbers a) (i * atom_width) out out'
+      → AtomsPut c₀ n (i + 1) e out'
+  atoms_on {a} g h few q = record {
     within = omega arith;
-    placed = g.got.placed;
-    done = p.done ++ (made atom_of s t ∷ []);
-    many = omega (arith, length-append p.done (made atom_of s t ∷ []), p.many);
-    held = put_atom (made atom_of s t) (omega arith) q;
+    done = p.done ++ (a ∷ []);
+    many = omega (arith, length-append p.done (a ∷ []), p.many);
+    held = put_atom a (omega arith) q;
     asked = λ as' d k.
         let q = ahead h k in
-        let r = front_atom (n - (i + 1)) g.got q.1 in
-        (r.0, r.2, append_assoc p.done (made atom_of s t ∷ []) r.0 ∙ ap (λ (ys : List Atom). p.done ++ ys) (sym r.1) ∙ q.2);
+        let r = front_atom (n - (i + 1)) g q.1 in
+        (r.0, r.2, append_assoc p.done (a ∷ []) r.0 ∙ ap (λ (ys : List Atom). p.done ++ ys) (sym r.1) ∙ q.2);
   }
 
-  pub atoms_stuck : {Q : Type 0} {d : Cursor} {as' : List Atom} → i < n → Not atom s c → Got (atoms n) s c₀ as' d → Q
+  pub atoms_stuck : {Q : Type 0} {d : Cursor} {as' : List Atom} → i < n → Not atom c → Got (atoms n) c₀ as' d → Q
   atoms_stuck h k g = no_atom (n - (i + 1)) k (ahead h g).1
 
-  pub atoms_done : {d : Cursor} {as' : List Atom} → n ≤ i → n ≤ max_atoms → Got (atoms n) s c₀ as' d
+  pub atoms_done : {d : Cursor} {as' : List Atom} → n ≤ i → n ≤ max_atoms → Got (atoms n) c₀ as' d
       → out ≡ take atoms_length (flat_map atom_numbers as' ++ replicate atoms_length 0)
   atoms_done {d} {as'} h few g =
       let q = p.asked _ _ g in

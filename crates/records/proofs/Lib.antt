@@ -1,6 +1,5 @@
 -- Laws of a record's numbers. Assumes nothing.
 pub mod Putting
-pub mod Rows
 pub mod Terms
 pub mod AtomLoop
 pub mod RuleParts

@@ -1,13 +1,12 @@
--- Numbers put one after another into a list, from a place on; the place of a text. Assumes nothing.
-use lib.ListN.{drop, get_or, length, length-set, set, take}
-use lib.Seq.{paste, paste-suc, paste-zero, slice_empty, take_all}
+-- Numbers put one after another into a list, from a place on. Assumes nothing.
+use lib.ListN.{get_or, length, length-set, set}
+use lib.Seq.{paste, paste-suc}
 use mathlib.Core.List.{List, ◌++◌}
-use mathlib.Core.Path.{◌≡◌, refl, sym, ap, subst, ◌∙◌}
-use native.Mathlib.Nat.{add-zero, le_refl}
+use mathlib.Core.Path.{◌≡◌, refl, ap, subst, ◌∙◌}
 use native.Mathlib.Numerals.{add-one}
 use native.Mathlib.Omega.{arith}
-use Prim.Native.Nat.{ℕ, ◌+◌, ◌≤◌, ◌<◌, zero-le}
-use Rattle.records.specs.Kept.{Put, SamePlace}
+use Prim.Native.Nat.{ℕ, ◌+◌, ◌≤◌, ◌<◌}
+use Rattle.records.specs.Kept.{Put}
 use Rattle.meaning.proofs.Lists.Overwriting.{parts_written, written_long}
 
 -- ---- the loop: the first i numbers are put
@@ -17,9 +16,6 @@ pub record Putting (numbers : List ℕ) (at i : ℕ) (out₀ out : List ℕ) : T
   pub long : length out ≡ length out₀
   pub is : out ≡ paste out₀ at numbers i
 
-pub putting_start : (numbers : List ℕ) (at : ℕ) (out : List ℕ) → Putting numbers at 0 out out
-putting_start numbers at out = record { within = zero-le; long = refl; is = paste-zero out at numbers }
-
 module _ {numbers : List ℕ} {at i : ℕ} {out₀ out : List ℕ} (p : Putting numbers at i out₀ out) where
   pub putting_on : at + length numbers ≤ length out₀ → i < length numbers → Putting numbers at (i + 1) out₀ (set out (at + i) (get_or numbers i 0))
   putting_on h k = record {
@@ -27,14 +23,6 @@ module _ {numbers : List ℕ} {at i : ℕ} {out₀ out : List ℕ} (p : Putting 
     long = length-set out (at + i) (get_or numbers i 0) ∙ p.long;
     is = rw (p.is, add-one) (paste-suc out₀ at numbers i 0 (omega arith) k);
   }
-
-  pub putting_done : length numbers ≤ i → Put numbers at out₀ out
-  putting_done h =
-      let e : i ≡ length numbers = omega (arith, p.within) in
-      record {
-        is = p.is ∙ ap (λ (k : ℕ). paste out₀ at numbers k) e
-            ∙ ap (λ (ys : List ℕ). take at out₀ ++ ys ++ drop (at + length numbers) out₀) (take_all (length numbers) numbers (le_refl _));
-      }
 
 -- ---- what was put
 
@@ -48,14 +36,3 @@ module _ {numbers : List ℕ} {at : ℕ} {out out' : List ℕ} (p : Put numbers 
   -- more numbers behind them
   pub put_next : {more : List ℕ} {q : ℕ} {out'' : List ℕ} → Put more q out' out'' → q ≡ at + length numbers → Put (numbers ++ more) at out out''
   put_next {more} t e = record { is = t.is ∙ rw (e, p.is) (parts_written at (length numbers) numbers out refl h more) }
-
--- ---- the place of a text
-
-pub place_empty : (start len : ℕ) → len ≡ 0 → SamePlace start len 0
-place_empty start len e = record {
-  same = λ s. rw (e, add-zero) (sym (slice_empty start s));
-  within = zero-le;
-}
-
-pub place_same : (start len : ℕ) → SamePlace start len start
-place_same start len = record { same = λ s. refl; within = le_refl start }

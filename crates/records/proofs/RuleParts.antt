@@ -9,12 +9,11 @@ use Rattle.meaning.specs.Pack.{Atom, Head, has_type, links_to, links_to_value}
 use Rattle.meaning.specs.Tables.{atom_numbers, head_arguments, head_numbers, rule_numbers}
 use Rattle.pack.proofs.Bounds.{atoms_fine}
 use Rattle.pack.specs.Records.{atoms}
-use Rattle.pack.specs.Shown.{Got, head_at}
+use Rattle.pack.specs.Shown.{Got}
 use Rattle.pack.specs.declared.cursor.Cursor.{Cursor}
-use Rattle.pack.specs.declared.cursor.Tuple.{Tuple}
-use Rattle.records.specs.Kept.{Put, arguments_at, atoms_part, head_part}
+use Rattle.records.specs.Kept.{Put, atoms_part, head_part}
 use Rattle.records.proofs.Putting.{put_as, put_next}
-use Rattle.records.proofs.Terms.{arguments_are, variables_at}
+use Rattle.records.proofs.Terms.{variables_of}
 use Rattle.meaning.proofs.Lists.Padding.{padded, padded_wide}
 
 pub length_head : (h : Head) → length (head_numbers h) ≡ head_width
@@ -24,7 +23,7 @@ length_head (links_to s p o) = refl
 length_head (links_to_value s p v) = refl
 
 -- as many atoms as were to be read
-pub atoms_many : {s : List ℕ} {c d : Cursor} (n : ℕ) {as' : List Atom} → Got (atoms n) s c as' d → length as' ≡ n
+pub atoms_many : {c d : Cursor} (n : ℕ) {as' : List Atom} → Got (atoms n) c as' d → length as' ≡ n
 atoms_many n g = (atoms_fine n _ _ g.reads).many
 
 pub length_atoms_part : (as' : List Atom) → length (atoms_part as') ≡ 1 + atoms_length
@@ -49,25 +48,22 @@ length_rule as' h = ap length (sym (rule_parts as' h)) ∙ omega (arith, length-
 
 -- ---- put one after another
 
-pub put_rule : (as' : List Atom) (h : Head) {at : ℕ} {out out₁ out₂ : List ℕ} → at + rule_width ≤ length out → Put (atoms_part as') at out out₁
+pub rule_put : (as' : List Atom) (h : Head) {at : ℕ} {out out₁ out₂ : List ℕ} → at + rule_width ≤ length out → Put (atoms_part as') at out out₁
     → Put (head_part h) (at + (1 + atoms_length)) out₁ out₂ → Put (rule_numbers (record { atoms = as'; head = h })) at out out₂
-put_rule as' h {at} l p q = put_as (rule_parts as' h) (put_next p (omega (arith, length_atoms_part as')) q (ap (λ (n : ℕ). at + n) (sym (length_atoms_part as'))))
+rule_put as' h {at} l p q = put_as (rule_parts as' h) (put_next p (omega (arith, length_atoms_part as')) q (ap (λ (n : ℕ). at + n) (sym (length_atoms_part as'))))
 
-pub put_atoms_lem : {s : List ℕ} {c d : Cursor} (n : ℕ) {as' : List Atom} → Got (atoms n) s c as' d → {at : ℕ} {xs out out₁ out₂ : List ℕ} → at + (1 + atoms_length) ≤ length out
+pub put_atoms_lem : {c d : Cursor} (n : ℕ) {as' : List Atom} → Got (atoms n) c as' d → {at : ℕ} {xs out out₁ out₂ : List ℕ} → at + (1 + atoms_length) ≤ length out
     → Put (n ∷ []) at out out₁ → xs ≡ take atoms_length (padded atoms_length 0 (flat_map atom_numbers as')) → Put xs (at + 1) out₁ out₂ → Put (atoms_part as') at out out₂
 unfolding atoms_part
 put_atoms_lem n {as'} g {at} {xs} l p e q =
     let m : n ∷ xs ≡ length as' ∷ take atoms_length (padded atoms_length 0 (flat_map atom_numbers as')) = rw (e, atoms_many n g) in
     put_as m (put_next p (omega arith) q refl)
 
-module _ (kind l : ℕ) (s : List ℕ) (t u : Tuple) {at m : ℕ} {vars head out out₁ out₂ out₃ : List ℕ} (room : at + (1 + max_head_variables + head_width) ≤ length out) where
-  pub put_head_lem : m ≡ length (arguments_at kind s t u) → Put (m ∷ []) at out out₁ → vars ≡ variables_at kind s t u → Put vars (at + 1) out₁ out₂
-      → head ≡ head_numbers (head_at kind s t l u) → Put head (at + (1 + max_head_variables)) out₂ out₃ → Put (head_part (head_at kind s t l u)) at out out₃
+module _ (h : Head) {at m : ℕ} {vars head out out₁ out₂ out₃ : List ℕ} (room : at + (1 + max_head_variables + head_width) ≤ length out) where
+  pub put_head_lem : m ≡ length (head_arguments h) → Put (m ∷ []) at out out₁ → vars ≡ variables_of h → Put vars (at + 1) out₁ out₂
+      → head ≡ head_numbers h → Put head (at + (1 + max_head_variables)) out₂ out₃ → Put (head_part h) at out out₃
   unfolding head_part
   put_head_lem e p f q g r =
-      let v : length vars ≡ max_head_variables = ap length f ∙ padded_wide max_head_variables 0 (arguments_at kind s t u) in
-      let a = arguments_are s t u kind l in
-      let xs = head_arguments (head_at kind s t l u) in
-      let x : m ∷ vars ≡ length xs ∷ take max_head_variables (padded max_head_variables 0 xs) = rw (e, f, a) in
-      put_as (ap (λ (ys : List ℕ). ys ++ head) x ∙ ap (λ (ys : List ℕ). length xs ∷ take max_head_variables (padded max_head_variables 0 xs) ++ ys) g)
-      (put_next (put_next p (omega arith) q refl) (omega (arith, v)) r (ap (λ (n : ℕ). at + n) (omega (arith, v))))
+      let v : length vars ≡ max_head_variables = ap length f ∙ padded_wide max_head_variables 0 (head_arguments h) in
+      let x : (m ∷ vars) ++ head ≡ length (head_arguments h) ∷ variables_of h ++ head_numbers h = rw (e, f, g) in
+      put_as x (put_next (put_next p (omega arith) q refl) (omega (arith, v)) r (ap (λ (n : ℕ). at + n) (omega (arith, v))))

@@ -5,3 +5,4 @@ pub mod put;
 pub mod record;
 pub mod row;
 pub mod rule;
+pub mod setting;

@@ -5,7 +5,6 @@ ghost use Rattle.std.specs.Prelude.{◌∷◌, ◌≡◌, ◌<◌};
 ghost use Rattle.report.specs.Report.{number, reported};
 
 use meaning::{CLASH_WIDTH, MAX_ARGUMENTS, REPORT_LENGTH, TERM_LENGTH};
-use sets::buffers::copy_front;
 
 // The counts, the answer and the clash, in this order.
 pub fn numbers(
@@ -21,7 +20,7 @@ pub fn numbers(
     all[0] = nodes as u16;
     all[1] = triples as u16;
     all[2] = answer as u16;
-    copy_front(&clash[..], CLASH_WIDTH, &mut all[3..]);
+    all[3..].copy_from_slice(&clash);
     all
 }
 
@@ -29,7 +28,7 @@ pub fn numbers(
 pub fn said(yes: bool) -> usize
     ensures { (result ≡ number yes) × (result < 2) }
 {
-    if yes { 1 } else { 0 }
+    yes as usize
 }
 
 // The constructor, then the values.
@@ -37,6 +36,6 @@ pub fn term(constructor: u16, values: [u16; MAX_ARGUMENTS]) -> [u16; TERM_LENGTH
     ensures { result ≡ constructor ∷ values }
 {
     let mut all = [constructor; TERM_LENGTH];
-    copy_front(&values[..], MAX_ARGUMENTS, &mut all[1..]);
+    all[1..].copy_from_slice(&values);
     all
 }

@@ -4,65 +4,49 @@ use borrow.Author.Tests.{ltb-true, ltb-false}
 use lib.Dec.{ltb}
 use lib.ListN.{length, take, drop, get_or, set, length-set, length-drop, drop_of_length-le}
 use lib.Seq.{take_all, get_or-set_same, get_or-set_other}
-use mathlib.Core.Bool.{Bool, true, false}
 use mathlib.Core.List.{List}
 use mathlib.Core.Path.{◌≡◌, refl, sym, ap, subst, ◌∙◌}
 use native.Mathlib.Decide.{ℕ_discrete}
 use native.Mathlib.Omega.{arith}
-use Prim.Native.Nat.{ℕ, ◌+◌, ◌-◌, ◌≤◌, ◌<◌}
+use Prim.Native.Nat.{ℕ, min, ◌+◌, ◌-◌, ◌≤◌, ◌<◌}
 use Rattle.meaning.specs.Pack.{Text}
 use Rattle.query.specs.Tree.{kind_of}
-use Rattle.resolve.specs.Search.{lesser}
+use Rattle.meaning.proofs.Cases.{case_on}
 use Rattle.resolve.specs.Wanted.{Wants, OfGraph, WantedWritten}
 use Rattle.walk.specs.Parts.{part_text}
 
--- ---- the lesser of two numbers
-
--- it is one of them, and at most either
-lesser_case : {Q : Type 0} (a b : ℕ) → (a < b → lesser a b ≡ a → Q) → (b ≤ a → lesser a b ≡ b → Q) → Q
-lesser_case {Q} a b f g = go (ltb a b) refl
-  where
-    go : (c : Bool) → ltb a b ≡ c → Q
-    go true e = f (ltb-true a b e) (rw e)
-    go false e = g (ltb-false a b e) (rw e)
-
-pub lesser_left : (a b : ℕ) → lesser a b ≤ a
-lesser_left a b = lesser_case a b (λ h e. omega (arith, e)) (λ h e. omega (arith, e))
-
-lesser_right : (a b : ℕ) → lesser a b ≤ b
-lesser_right a b = lesser_case a b (λ h e. omega (arith, e)) (λ h e. omega (arith, e))
-
-lesser_above : (x a b : ℕ) → x ≤ a → x ≤ b → x ≤ lesser a b
-lesser_above x a b h k = lesser_case a b (λ l e. omega (arith, e)) (λ l e. omega (arith, e))
-
 -- ---- the label
 
--- k bytes from a on, or as many as there are
-cut_inside : (q : Text) (a k : ℕ) → take (lesser (a + k) (length q) - a) (drop a q) ≡ take k (drop a q)
-cut_inside q a k = lesser_case (a + k) (length q)
-    (λ h e. ap (λ n. take n (drop a q)) (let z : lesser (a + k) (length q) - a ≡ k = omega (arith, e) in z))
-    (λ h e. take_all (lesser (a + k) (length q) - a) (drop a q) (omega (arith, e, length-drop a q)) ∙ sym (take_all k (drop a q) (omega (arith, length-drop a q))))
+-- the min of two numbers is one of them
+min_case : {Q : Type 0} (a b : ℕ) → (a < b → min a b ≡ a → Q) → (b ≤ a → min a b ≡ b → Q) → Q
+min_case a b f g = case_on (ltb a b) (λ e. let h = ltb-true a b e in f h (omega arith)) (λ e. let h = ltb-false a b e in g h (omega arith))
 
-cut_from : (q : Text) (a k : ℕ) → let start = lesser a (length q) in take (lesser (start + k) (length q) - start) (drop start q) ≡ take k (drop a q)
-cut_from q a k = lesser_case a (length q)
-    (λ h e. subst (λ n. take (lesser (n + k) (length q) - n) (drop n q) ≡ take k (drop a q)) (sym e) (cut_inside q a k))
-    (λ h e. cut_inside q (lesser a (length q)) k
-    ∙ ap (take k) (drop_of_length-le q {i = lesser a (length q)} (omega (arith, e)) ∙ sym (drop_of_length-le q h)))
+-- k bytes from a on, or as many as there are
+cut_inside : (q : Text) (a k : ℕ) → take (min (a + k) (length q) - a) (drop a q) ≡ take k (drop a q)
+cut_inside q a k = min_case (a + k) (length q)
+    (λ h e. ap (λ n. take n (drop a q)) (let z : min (a + k) (length q) - a ≡ k = omega (arith, e) in z))
+    (λ h e. take_all (min (a + k) (length q) - a) (drop a q) (omega (arith, e, length-drop a q)) ∙ sym (take_all k (drop a q) (omega (arith, length-drop a q))))
+
+cut_from : (q : Text) (a k : ℕ) → let start = min a (length q) in take (min (start + k) (length q) - start) (drop start q) ≡ take k (drop a q)
+cut_from q a k = min_case a (length q)
+    (λ h e. subst (λ n. take (min (n + k) (length q) - n) (drop n q) ≡ take k (drop a q)) (sym e) (cut_inside q a k))
+    (λ h e. cut_inside q (min a (length q)) k
+    ∙ ap (take k) (drop_of_length-le q {i = min a (length q)} (omega (arith, e)) ∙ sym (drop_of_length-le q h)))
 
 -- where the code cuts
 pub record Cut (q : Text) (a k start end : ℕ) : Type 0 where
-  pub start_is : start ≡ lesser a (length q)
-  pub end_is : end ≡ lesser (start + k) (length q)
+  pub start_is : start ≡ min a (length q)
+  pub end_is : end ≡ min (start + k) (length q)
 
 module _ {q : Text} {a k start end : ℕ} (c : Cut q a k start end) where
   pub cut_order : start ≤ end
-  cut_order = omega (arith, c.end_is, lesser_above start (start + k) (length q) (omega arith) (omega (arith, c.start_is, lesser_right a (length q))))
+  cut_order = omega (arith, c.end_is, c.start_is)
 
   pub cut_end : end ≤ length q
-  cut_end = omega (arith, c.end_is, lesser_right (start + k) (length q))
+  cut_end = omega (arith, c.end_is)
 
   pub cut_label : take (end - start) (drop start q) ≡ take k (drop a q)
-  cut_label = (λ i. take ((c.end_is ∙ ap (λ n. lesser (n + k) (length q)) c.start_is) i - c.start_is i) (drop (c.start_is i) q)) ∙ cut_from q a k
+  cut_label = (λ i. take ((c.end_is ∙ ap (λ n. min (n + k) (length q)) c.start_is) i - c.start_is i) (drop (c.start_is i) q)) ∙ cut_from q a k
 
 -- ---- the parts written so far
 

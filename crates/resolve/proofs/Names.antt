@@ -1,13 +1,15 @@
 -- Predicates by their names: where the names of a loaded setting stand, and that a name belongs to one predicate at most.
 -- Assumes nothing.
 use lib.ListN.{length, take, drop, get_or, get_elem?}
-use lib.Seq.{drop-length}
-use mathlib.Core.Bool.{Bool, true, false, ◌||◌, false≢true}
-use mathlib.Core.List.{List, [], ◌++◌, append-nil}
+use lib.Pointwise.{bytes_decides, pointwise}
+use lib.Dec.{eqb}
+use Rattle.std.specs.Prelude.{Option, unwrap_or}
+use Rattle.resolve.specs.Search.{First, found, nowhere}
+use mathlib.Core.Bool.{Bool, true, false, ◌||◌}
+use mathlib.Core.List.{List, []}
 use mathlib.Core.Logic.{◌↔◌}
 use mathlib.Core.Option.{some, some-injective}
 use mathlib.Core.Path.{◌≡◌, sym, ap, subst, ◌∙◌}
-use native.Mathlib.Decide.{ℕ_discrete}
 use native.Mathlib.Omega.{arith}
 use Prim.Native.Nat.{ℕ, ◌+◌, ◌*◌, ◌-◌, ◌≤◌, ◌<◌}
 use Rattle.checks.specs.Checked.{SettingLoaded}
@@ -17,7 +19,7 @@ use Rattle.meaning.proofs.Lists.Places.{entry_is, inside, there_is}
 use Rattle.meaning.specs.Graph.{Called}
 use Rattle.meaning.specs.Limits.{max_predicates, predicates_at, text_width, unused}
 use Rattle.meaning.specs.Pack.{Pack, Text}
-use Rattle.meaning.specs.Tests.{any_two, same_text, begins}
+use Rattle.meaning.specs.Tests.{any_two, same_text}
 use Rattle.meaning.specs.WellFormed.{duplicates, same_cell}
 use Rattle.names.proofs.Counted.{count_at_lem, held_at}
 use Rattle.meaning.proofs.Lists.Parts.{first_is_at, number_at}
@@ -26,19 +28,7 @@ use Rattle.pack.specs.Checked.{OfPack}
 use Rattle.resolve.specs.Wanted.{PredicateIs}
 use Rattle.meaning.proofs.Cases.{or_neither}
 use Rattle.meaning.proofs.Lists.Pairs.{no_two_place}
-use Rattle.meaning.proofs.Lists.Texts.{begins_append, begins_rest, eq_same}
-
--- ---- the same text
-
-pub other_length : {s t : Text} → (length s ≡ length t → ⊥) → (false ≡ true) ↔ (s ≡ t)
-other_length n = (λ e. absurd (false≢true e), λ e. absurd (n (ap length e)))
-
--- a text that begins another of its length is that text
-pub same_length : {s t : Text} {b : Bool} → length s ≡ length t → b ≡ begins s t → (b ≡ true) ↔ (s ≡ t)
-same_length {s} {t} e q = (
-  (λ h. sym (append-nil s) ∙ ap (λ (r : Text). s ++ r) (sym (ap (λ k. drop k t) e ∙ drop-length t)) ∙ begins_rest s t (sym q ∙ h)),
-  (λ h. q ∙ subst (λ r. begins s r ≡ true) (append-nil s ∙ h) (begins_append s [])),
-)
+use Rattle.meaning.proofs.Lists.Texts.{eq_same}
 
 -- ---- the names of a loaded setting
 
@@ -95,44 +85,25 @@ called_once P h text p q cp cq =
 
 -- ---- the search for it
 
--- no predicate before p has the name
-pub record NotBefore (s text : Text) (p : ℕ) : Type 0 where
-  pub none : OfPack s (λ P. (k : ℕ) → k < p → Called P text k → ⊥)
+module _ {s text counts numbers : List ℕ} (l : SettingLoaded s counts numbers) where
+  -- the name of predicate p is the text where its bytes are
+  pub called : {p : ℕ} → p < get_or counts 4 0 → {b : Bool}
+      → b ≡ pointwise eqb (take (name_start numbers p + name_length numbers p - name_start numbers p) (drop (name_start numbers p) s)) text
+      → OfPack s (λ P. (b ≡ true) ↔ Called P text p)
+  called {p} h e P w =
+      let x = name_at l h P w in
+      let i = lent x.stands in
+      let d = bytes_decides _ text in (
+        (λ t. x.listed ∙ ap some (sym i ∙ d.0 (sym e ∙ t))),
+        (λ c. e ∙ d.1 (i ∙ some-injective _ _ (sym x.listed ∙ c))),
+      )
 
-pub before_start : (s text : Text) → NotBefore s text 0
-before_start s text = record { none = λ P w k h c. absurd (let z : ⊥ = omega arith in z) }
-
-module _ {s text counts numbers : List ℕ} {p : ℕ} (l : SettingLoaded s counts numbers) (before : NotBefore s text p) where
-  pub unnamed : get_or counts 4 0 ≤ p → OfPack s (λ P. PredicateIs P text unused)
-  unnamed h P w k = (
-    (λ c. absurd (before.none P w k (omega (arith, inside P.setting.predicates k _ c, names_many l P w)) c)),
+  pub named : {r : Option ℕ} → OfPack s (λ P. First (Called P text) (get_or counts 4 0) r → PredicateIs P text (unwrap_or r unused))
+  named P w (found {r = p} h here others) k = (
+    (λ c. let q = called_once P (well_formed_lem s P w).distinct text k p c here in (omega (arith, names_few l), q)),
+    (λ c. subst (Called P text) (sym c.1) here),
+  )
+  named P w (nowhere none) k = (
+    (λ c. absurd (none k (omega (arith, inside P.setting.predicates k _ c, names_many l P w)) c)),
     (λ c. absurd (let z : ⊥ = omega (arith, c.0, c.1) in z)),
   )
-
-  -- the test's answer on predicate p, whose name is lent by its numbers
-  module _ (h : p < get_or counts 4 0) {b : Bool}
-      (e : (b ≡ true) ↔ (take (name_start numbers p + name_length numbers p - name_start numbers p) (drop (name_start numbers p) s) ≡ text)) where
-    called : OfPack s (λ P. (b ≡ true) ↔ Called P text p)
-    called P w =
-        let x = name_at l h P w in
-        let i = lent x.stands in (
-          (λ t. x.listed ∙ ap some (sym i ∙ e.0 t)),
-          (λ c. e.1 (i ∙ some-injective _ _ (sym x.listed ∙ c))),
-        )
-
-    pub before_on : b ≡ false → NotBefore s text (p + 1)
-    before_on n = record { none = more }
-      where
-        more : OfPack s (λ P. (k : ℕ) → k < p + 1 → Called P text k → ⊥)
-        more P w k j c = go (ℕ_discrete k p)
-          where
-            go : Dec (k ≡ p) → ⊥
-            go (yes q) = false≢true (sym n ∙ (called P w).1 (subst (Called P text) q c))
-            go (no ne) = before.none P w k (omega arith) c
-
-    pub named : b ≡ true → OfPack s (λ P. PredicateIs P text p)
-    named t P w k =
-        let here = (called P w).0 t in (
-          (λ c. let q = called_once P (well_formed_lem s P w).distinct text k p c here in (omega (arith, names_few l), q)),
-          (λ c. subst (Called P text) (sym c.1) here),
-        )

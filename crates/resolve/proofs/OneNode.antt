@@ -1,4 +1,5 @@
 -- What the search of the node list finds is the node of the label. Assumes nothing.
+use Rattle.std.specs.Prelude.{Option, unwrap_or}
 use lib.ListN.{length, get_elem?}
 use mathlib.Core.List.{List}
 use mathlib.Core.Logic.{◌↔◌}
@@ -25,7 +26,7 @@ module _ {P : Pack} {in_order : List BuiltNode} {nodes : List ℕ} {count : ℕ}
   built_at m b at = (listed.ordered.members b).0 (element in_order m b at)
 
   pub one_node : {k v : ℕ} {vs : List ℕ} (n : BuiltNode) → length vs ≡ 4 → ((b : BuiltNode) → IsBuilt P b → Numbered k v vs b ↔ (b ≡ n))
-      → ((b : BuiltNode) → IsBuilt P b → HasLabel b ↔ (b ≡ n)) → {r : ℕ} → First (HasNumbers nodes k v vs) count r → NodeIs HasLabel in_order r
+      → ((b : BuiltNode) → IsBuilt P b → HasLabel b ↔ (b ≡ n)) → {r : Option ℕ} → First (HasNumbers nodes k v vs) count r → NodeIs HasLabel in_order (unwrap_or r unused)
   one_node {k} {v} {vs} n four numbered labelled {r} first m b at = (forth first, back first)
     where
       i : IsBuilt P b
@@ -34,17 +35,17 @@ module _ {P : Pack} {in_order : List BuiltNode} {nodes : List ℕ} {count : ℕ}
       numbers : HasNumbers nodes k v vs m ↔ Numbered k v vs b
       numbers = has_numbers P listed m b at four
 
-      forth : First (HasNumbers nodes k v vs) count r → HasLabel b → m ≡ r
-      forth (found l q others) h =
+      forth : {r : Option ℕ} → First (HasNumbers nodes k v vs) count r → HasLabel b → m ≡ unwrap_or r unused
+      forth (found {r = r} l q others) h =
           let x = there_is in_order r (omega (arith, listed.counted)) in
           let e = (numbered x.0 (built_at r x.0 x.1)).0 ((has_numbers P listed r x.0 x.1 four).0 q) in
           let g = (labelled b i).0 h in
           one_place (by_key node_key) in_order listed.ordered.ascending n m r (at ∙ ap some g) (x.1 ∙ ap some e)
-      forth (nowhere e others) h = absurd (others m (below_count P listed m b at) (numbers.1 ((numbered b i).1 ((labelled b i).0 h))))
+      forth (nowhere others) h = absurd (others m (below_count P listed m b at) (numbers.1 ((numbered b i).1 ((labelled b i).0 h))))
 
-      back : First (HasNumbers nodes k v vs) count r → m ≡ r → HasLabel b
+      back : {r : Option ℕ} → First (HasNumbers nodes k v vs) count r → m ≡ unwrap_or r unused → HasLabel b
       back (found l q others) e = (labelled b i).1 ((numbered b i).0 (numbers.0 (subst (HasNumbers nodes k v vs) (sym e) q)))
-      back (nowhere e others) g = absurd (let z : ⊥ = omega (arith, below_count P listed m b at) in z)
+      back (nowhere others) g = absurd (let z : ⊥ = omega (arith, below_count P listed m b at) in z)
 
   pub no_node : ((b : BuiltNode) → IsBuilt P b → HasLabel b → ⊥) → NodeIs HasLabel in_order unused
   no_node never m b at = (λ h. absurd (never b (built_at m b at) h), λ e. absurd (let z : ⊥ = omega (arith, below_count P listed m b at) in z))

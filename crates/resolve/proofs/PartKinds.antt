@@ -3,20 +3,12 @@ use mathlib.Core.List.{List}
 use mathlib.Core.Path.{◌≡◌}
 use native.Mathlib.Omega.{arith}
 use Prim.Native.Nat.{ℕ}
-use Rattle.pack.specs.Checked.{OfPack}
 use Rattle.meaning.specs.Pack.{Text}
-use Rattle.resolve.specs.Wanted.{PredicateIs, IriIs, LiteralIs, Wants, OfGraph}
+use Rattle.resolve.specs.Wanted.{IriIs, LiteralIs, Wants, OfGraph}
 
 module _ (s text : Text) (nodes : List ℕ) (count kind w : ℕ) where
   abbrev Kept : Type 0
   Kept = OfGraph s nodes count (λ P in_order. Wants P in_order kind text w)
-
-  pub wants_step : kind ≡ 2 → OfPack s (λ P. PredicateIs P text w) → Kept
-  wants_step k f P a in_order listed = record {
-    step = λ e. f P a;
-    iri = λ e. absurd (let z : ⊥ = omega arith in z);
-    literal = λ e. absurd (let z : ⊥ = omega arith in z);
-  }
 
   pub wants_iri : kind ≡ 3 → OfGraph s nodes count (λ P in_order. IriIs P in_order text w) → Kept
   wants_iri k f P a in_order listed = record {
@@ -31,6 +23,3 @@ module _ (s text : Text) (nodes : List ℕ) (count kind w : ℕ) where
     iri = λ e. absurd (let z : ⊥ = omega arith in z);
     literal = λ e. f P a in_order listed;
   }
-
-  pub wants_nothing : (kind ≡ 2 → ⊥) → (kind ≡ 3 → ⊥) → (kind ≡ 4 → ⊥) → Kept
-  wants_nothing a b c P d in_order listed = record { step = λ e. absurd (a e); iri = λ e. absurd (b e); literal = λ e. absurd (c e) }

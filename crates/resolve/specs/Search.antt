@@ -1,6 +1,6 @@
--- The search of the node list, and where a text is cut. Assumes nothing.
-use Rattle.std.specs.Prelude.{ltb, get_or, cond, List, ◌≡◌, ℕ, ◌+◌, ◌*◌, ◌<◌}
-use Rattle.meaning.specs.Limits.{max_arguments, node_width, unused}
+-- The search of the node list. Assumes nothing.
+use Rattle.std.specs.Prelude.{get_or, List, Option, Some, None, ◌≡◌, ℕ, ◌+◌, ◌*◌, ◌<◌}
+use Rattle.meaning.specs.Limits.{max_arguments, node_width}
 
 -- The record of node m has this kind, number and arguments; its type set may be any.
 pub record HasNumbers (nodes : List ℕ) (kind number : ℕ) (arguments : List ℕ) (m : ℕ) : Type 0 where
@@ -8,11 +8,7 @@ pub record HasNumbers (nodes : List ℕ) (kind number : ℕ) (arguments : List �
   pub number_is : get_or nodes (m * node_width + 1) 0 ≡ number
   pub arguments_are : (j : ℕ) → j < max_arguments → get_or nodes (m * node_width + 3 + j) 0 ≡ get_or arguments j 0
 
--- The first number below count that is in Q, or 65,535.
-pub data First (Q : ℕ → Type 0) (count r : ℕ) : Type 0 where
-  found : r < count → Q r → ((m : ℕ) → m < r → Q m → ⊥) → First Q count r
-  nowhere : r ≡ unused → ((m : ℕ) → m < count → Q m → ⊥) → First Q count r
-
--- The lesser of two numbers.
-abbrev pub lesser : ℕ → ℕ → ℕ
-lesser a b = cond (ltb a b) a b
+-- The first number below count that is in Q, or none.
+pub data First (Q : ℕ → Type 0) (count : ℕ) : Option ℕ → Type 0 where
+  found : {r : ℕ} → r < count → Q r → ((m : ℕ) → m < r → Q m → ⊥) → First Q count (Some r)
+  nowhere : ((m : ℕ) → m < count → Q m → ⊥) → First Q count None

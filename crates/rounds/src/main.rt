@@ -9,8 +9,10 @@ mod count; // the rounds of a pack
 
 ghost use Rattle.std.specs.Prelude.{◌≤◌, length};
 
-use crate::count::{RoundCount, count_rounds};
+use crate::count::count_rounds;
+use core_graph::CoreSize;
 use meaning::MAX_PACK_BYTES;
+use meaning::refusal::Refusal;
 
 // One byte more than a pack may have, so that one that is too long is refused as such.
 const ROOM: usize = MAX_PACK_BYTES + 1;
@@ -26,14 +28,15 @@ fn say(key: &[u8], n: usize) {
     io::print_decimal(1, n as u64);
 }
 
-// The refusal, or the core's size and the rounds.
-fn say_count(count: RoundCount) {
-    if count.refusal != 0 {
-        say(b": refused ", count.refusal as usize);
-    } else {
-        say(b": nodes ", count.nodes);
-        say(b", triples ", count.triples);
-        say(b", rounds ", count.rounds);
+// The core's size and the rounds, or the refusal.
+fn say_count(count: Result<CoreSize, Refusal>) {
+    match count {
+        Ok(core) => {
+            say(b": nodes ", core.nodes);
+            say(b", triples ", core.triples);
+            say(b", rounds ", core.rounds);
+        }
+        Err(e) => say(b": refused ", e.number() as usize),
     }
     io::write_all(1, b"\n");
 }

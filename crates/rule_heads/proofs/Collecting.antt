@@ -1,10 +1,11 @@
 -- The loop over all rules' keys: each rule's stand in its own part of a slice. Assumes nothing.
 use Rattle.names.specs.PackGiven.{ForResolved, IsResolved}
-use Rattle.std.proofs.Common.{◌≡◌, ℕ, ◌+◌, ◌-◌, ◌*◌, ◌<◌, ◌≤◌, false, List, ◌++◌, length, get_or, take, drop, set, sym, refl, ◌∙◌, subst, zero-le, arith, length-drop, length-set, length-take, get_or-set_other, get_or-set_same}
+use Rattle.std.specs.Prelude.{Ok, Err}
+use Rattle.std.proofs.Common.{◌≡◌, ℕ, ◌+◌, ◌-◌, ◌*◌, ◌<◌, ◌≤◌, List, ◌++◌, length, get_or, take, drop, set, sym, refl, ◌∙◌, subst, zero-le, arith, length-drop, length-set, length-take, get_or-set_other, get_or-set_same}
 use native.Mathlib.Decide.{ℕ_discrete}
 use Rattle.core_graph.specs.Heads.{keys_of}
 use Rattle.matching.specs.Rule.{ListedOrOver}
-use Rattle.matching.specs.declared.Heads.TheVariants.{Listed, Over}
+use Rattle.sets.specs.declared.ordered.Full.{Full}
 use Rattle.meaning.proofs.Lists.Places.{inside, there_is}
 use Rattle.meaning.specs.Limits.{heads_length, max_heads, max_rules, row_width, rule_width, rules_at}
 use Rattle.meaning.specs.NoGraph.{TooLarge}
@@ -58,7 +59,7 @@ module _ {numbers rows : List ℕ} {count : ℕ} {heads₀ : List ℕ} {r : ℕ}
 
     module _ (ys : List ℕ) (l : length ys ≡ length part) where
       -- too many
-      pub collecting_over : ForRuleOf numbers (rules_at + r * rule_width) rows (λ P rule. ListedOrOver Over ys (RuleKey P rule))
+      pub collecting_over : {full : Full} → ForRuleOf numbers (rules_at + r * rule_width) rows (λ P rule. ListedOrOver (Err full) ys (RuleKey P rule))
           → ForRuleOf numbers (rules_at + r * rule_width) rows (λ P rule. TooLarge P)
       collecting_over a P rule g =
           let e : length ys ≡ max_heads = l ∙ part_length in
@@ -68,7 +69,7 @@ module _ {numbers rows : List ℕ} {count : ℕ} {heads₀ : List ℕ} {r : ℕ}
       long_is = part_replaced (r * max_heads) (r * max_heads + max_heads - r * max_heads) heads ys l
 
       module _ (v : IsRuleOf numbers (rules_at + r * rule_width) rows) (n : ℕ)
-          (a : ForRuleOf numbers (rules_at + r * rule_width) rows (λ P rule. ListedOrOver (Listed n) ys (RuleKey P rule))) where
+          (a : ForRuleOf numbers (rules_at + r * rule_width) rows (λ P rule. ListedOrOver (Ok n) ys (RuleKey P rule))) where
         counted_small : n ≤ max_heads
         counted_small = omega (arith, (a v.pack v.rule v.given).0, l, part_length)
 
@@ -111,7 +112,7 @@ module _ {counts numbers rows : List ℕ} {count : ℕ} (k : get_or counts 7 0 �
 
   pub collecting_done : {heads₀ : List ℕ} {r : ℕ} {heads each : List ℕ} → Collecting numbers (take (get_or counts 8 0 * row_width) rows) count heads₀ r heads each
       → count ≤ max_rules → count ≤ r
-      → ForResolved counts numbers rows (λ P. FoundOr false P (record { too_large = false; count = count; counts = each }) heads)
+      → ForResolved counts numbers rows (λ P. FoundOr (Ok (record { count = count; counts = each })) P heads)
   collecting_done p few h P g =
       let m = rules_many g.given.setting in
       record {

@@ -1,4 +1,3 @@
 pub mod TooManyHeads
 pub mod HeldRule
 pub mod Collecting
-pub mod Flagged

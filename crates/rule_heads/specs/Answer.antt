@@ -1,11 +1,12 @@
 -- The keys of the heads of all rules of a pack. Assumes nothing.
-use Rattle.std.specs.Prelude.{ℕ, ◌<◌, ◌≤◌, Bool, true, false, List, slice_index}
+use Rattle.std.specs.Prelude.{ℕ, ◌<◌, ◌≤◌, Result, Ok, Err, List, slice_index}
 use Rattle.core_graph.specs.Heads.{HeadsHeld}
 use Rattle.meaning.specs.Limits.{max_heads, max_rules}
 use Rattle.meaning.specs.NoGraph.{TooLarge}
 use Rattle.meaning.specs.Pack.{Pack}
 use Rattle.tables.specs.Tables.{HeadTable}
 use Rattle.rule_heads.specs.declared.AllHeads.{AllHeads}
+use Rattle.sets.specs.declared.ordered.Full.{Full}
 
 -- with the table of their heads they are held
 pub record HeadsFound (P : Pack) (a : AllHeads) (heads : List ℕ) : Type 0 where
@@ -14,6 +15,6 @@ pub record HeadsFound (P : Pack) (a : AllHeads) (heads : List ℕ) : Type 0 wher
   pub held : (rules : List (List ℕ)) → HeadTable P rules → HeadsHeld P rules a.count heads a.counts
 
 -- or the core is too large (refusal 9)
-abbrev pub FoundOr : Bool → Pack → AllHeads → List ℕ → Type 0
-FoundOr true P a heads = TooLarge P
-FoundOr false P a heads = HeadsFound P a heads
+abbrev pub FoundOr : Result AllHeads Full → Pack → List ℕ → Type 0
+FoundOr (Ok a) P heads = HeadsFound P a heads
+FoundOr (Err _) P heads = TooLarge P

@@ -6,6 +6,7 @@ ghost use Rattle.shapes.specs.Shapes.{CodesFit};
 
 use crate::TYPES;
 use meaning::{LITERAL_WEIGHT, MAX_PREDICATES, MAX_TYPES, MULTIPLICITY_ROOM, ShapeTable};
+use std::array;
 
 // The weight that no target has, and those of all targets.
 const REQUIRED: u16 = LITERAL_WEIGHT / 2;
@@ -46,7 +47,7 @@ fn cell_demand(cell: u16) -> u16
     target
 }
 
-// What a type's shapes demand.
+// What a type's shapes demand. A loop, and no map of the row: the proof does not know how long a row of the table is.
 fn row_demands(shapes: &ShapeTable, t: usize) -> Demands
     requires { (t < max_types) × CodesFit shapes.now }
     ensures { RowDemands shapes.now t result }
@@ -59,7 +60,7 @@ fn row_demands(shapes: &ShapeTable, t: usize) -> Demands
     row
 }
 
-// What each type's shapes demand.
+// What each type's shapes demand. A loop, and no from_fn: a closure that calls row_demands would need its contract written again.
 pub fn demand_table(shapes: &ShapeTable) -> DemandTable
     requires { CodesFit shapes.now }
     ensures { TableDemands shapes.now result }
@@ -77,17 +78,14 @@ fn joined(all: Demands, table: &DemandTable, t: usize) -> Demands
     requires { t < max_types }
     ensures { IsJoined all table.now t result }
 {
-    let mut both = [0u16; MAX_PREDICATES];
-    for p in 0..MAX_PREDICATES {
-        both[p] = all[p] | table[t][p];
-    }
-    both
+    array::from_fn(|p| all[p] | table[t][p])
 }
 
 // What the members of a mask demand: "The members of a type set are taken from the lowest number upward."
 pub fn demands_of(table: &DemandTable, mask: u16) -> Demands
     ensures { DemandsOf table.now mask result }
 {
+    // Members lowest first, by trailing_zeros: a form that document 01 names.
     let mut left = mask & TYPES;
     let mut all = [0u16; MAX_PREDICATES];
     while left != 0 {

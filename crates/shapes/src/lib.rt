@@ -19,6 +19,7 @@ pub fn targets(shapes: &ShapeTable, mask: u16, p: usize) -> u16
     requires { (p < max_predicates) × CodesFit shapes.now }
     ensures { TargetsOf shapes.now mask p result }
 {
+    // Members lowest first, by trailing_zeros: a form that document 01 names.
     let mut left = mask & TYPES;
     let mut all = 0u16;
     while left != 0 {
@@ -37,6 +38,7 @@ pub fn limited(shapes: &ShapeTable, mask: u16, p: usize) -> bool
     requires { p < max_predicates }
     ensures { SomePasses Limits shapes.now mask p result }
 {
+    // Members lowest first, by trailing_zeros: a form that document 01 names.
     let mut left = mask & TYPES;
     while left != 0 {
         let t = u16::trailing_zeros(left) as usize;

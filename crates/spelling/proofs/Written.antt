@@ -1,18 +1,19 @@
 -- Laws of writing a segment into a list, byte after byte. Assumes nothing.
 use borrow.Author.Tests.{le-leb, lt-leb, leb-true, leb-false, not-true, not-false}
+use borrow.Rule.Slice.PartMut.{put_mid}
 use lib.Dec.{leb}
-use lib.ListN.{length, drop, get_or, set, length-append, drop_of_length-le}
-use lib.Seq.{drop-cons, sets-eq}
+use lib.ListN.{length, drop, get_or, set, take, length-append, drop_of_length-le}
+use lib.Seq.{drop-cons, drop-drop, sets-eq}
 use mathlib.Core.Bool.{Bool, true, false, not}
-use mathlib.Core.List.{[], ◌∷◌, ◌++◌}
+use mathlib.Core.List.{[], ◌∷◌, ◌++◌, append_assoc}
 use mathlib.Core.Path.{◌≡◌, refl, sym, ap, ◌∙◌}
-use native.Mathlib.Numerals.{add-one, towards_suc}
+use native.Mathlib.Numerals.{add-one}
 use native.Mathlib.Omega.{arith}
 use Prim.Native.Nat.{ℕ, ◌+◌, ◌-◌, ◌/◌, ◌%◌, ◌<◌, ◌≤◌}
 use Rattle.meaning.specs.Pack.{Text}
 use Rattle.meaning.proofs.Cases.{case_on}
 use Rattle.spelling.proofs.Segments.{byte_stays, byte_escaped}
-use Rattle.spelling.specs.declared.write.Wrote.TheVariants.{To, Full}
+use Rattle.std.specs.Prelude.{None, Some}
 use Rattle.spelling.specs.Segment.{unreserved, hex_digit, spelled_byte, segment, percent}
 use Rattle.spelling.specs.Writing.{written, place_after, written_if_room}
 use Rattle.meaning.proofs.Lists.Overwriting.{nothing_written, parts_written, written_long}
@@ -63,15 +64,20 @@ room_done {v} {room} {i} {left} r h = sym (le-leb 0 left (omega arith)) ∙ rw (
 
 -- ---- what the stores of one byte leave
 
+-- a text copied over as many bytes
+copied_written : (part : Text) (at n : ℕ) (d : Text) → n ≡ length part → put_mid at n d part ≡ written part at d
+copied_written part at n d e = rw (e, drop-drop) (sym (append_assoc (take at d) part (drop (at + length part) d)))
+
 module _ (b at : ℕ) (d : Text) (room : at + length (spelled_byte b) ≤ length d) where
   pub stays_written : unreserved b ≡ true → (at + 1 ≡ at + length (spelled_byte b)) × (set d at b ≡ written (spelled_byte b) at d)
   stays_written e = let l = one_long b e in rw (byte_stays b e) (refl, sets-eq (b ∷ []) d at (omega arith))
 
-  pub escaped_written : (x y : ℕ) → unreserved b ≡ false → x ≡ hex_digit (b / 16) → y ≡ hex_digit (b % 16)
-      → (at + 3 ≡ at + length (spelled_byte b)) × (set (set (set d at percent) (at + 1) x) (at + 2) y ≡ written (spelled_byte b) at d)
-  escaped_written x y e p q =
+  pub escaped_written : {x y : ℕ} → unreserved b ≡ false → x ≡ hex_digit (b / 16) → y ≡ hex_digit (b % 16) → {part : Text} → part ≡ percent ∷ x ∷ y ∷ []
+      → (at + 3 ≡ at + length (spelled_byte b)) × (put_mid at (at + 3 - at) d part ≡ written (spelled_byte b) at d)
+  escaped_written e p q {part} w =
       let l = three_long b e in
-      rw (byte_escaped b e, ← p, ← q) (refl, simp towards_suc (simp towards_suc at (sets-eq (percent ∷ x ∷ y ∷ []) d at (omega arith))))
+      let s : part ≡ spelled_byte b = w ∙ (λ i. percent ∷ p i ∷ q i ∷ []) ∙ sym (byte_escaped b e) in
+      (omega arith, rw s (copied_written (spelled_byte b) at (at + 3 - at) d (omega arith)))
 
 -- ---- a segment written: the first i bytes of v are done, the next goes to `to`
 
@@ -117,30 +123,30 @@ writing_done {v} {at} {d₀} {i} {to} {d} w h =
 -- ---- the answer
 
 module _ (text : Text) (at : ℕ) (d : Text) where
-  no_room : length d < at + length text → (Full ≡ place_after text at d) × (d ≡ written_if_room text at d)
+  no_room : length d < at + length text → (None ≡ place_after text at d) × (d ≡ written_if_room text at d)
   unfolding place_after written_if_room
   no_room h = rw (lt-leb (at + length text) (length d) h) (refl, refl)
 
   all_written : at + length text ≤ length d → (to : ℕ) (d' : Text) → (to ≡ at + length text) × (d' ≡ written text at d)
-      → (To to ≡ place_after text at d) × (d' ≡ written_if_room text at d)
+      → (Some to ≡ place_after text at d) × (d' ≡ written_if_room text at d)
   unfolding place_after written_if_room
-  all_written h to d' e = rw (le-leb (at + length text) (length d) h) (ap To e.0, e.1)
+  all_written h to d' e = rw (le-leb (at + length text) (length d) h) (ap Some e.0, e.1)
 
 -- the same, with the code's tests
 
-pub no_place : (text : Text) (at : ℕ) (d : Text) → length d < at → (Full ≡ place_after text at d) × (d ≡ written_if_room text at d)
+pub no_place : (text : Text) (at : ℕ) (d : Text) → length d < at → (None ≡ place_after text at d) × (d ≡ written_if_room text at d)
 no_place text at d h = no_room text at d (omega arith)
 
 module _ (v : Text) (at : ℕ) (d : Text) (h : at ≤ length d) (r : Bool) (e : r ≡ leb (length (segment v)) (length d - at)) where
   fits : not r ≡ false → at + length (segment v) ≤ length d
   fits n = omega (arith, leb-true (length (segment v)) (length d - at) (sym e ∙ not-false r n))
 
-  pub fits_not : not r ≡ true → (Full ≡ place_after (segment v) at d) × (d ≡ written_if_room (segment v) at d)
+  pub fits_not : not r ≡ true → (None ≡ place_after (segment v) at d) × (d ≡ written_if_room (segment v) at d)
   fits_not n = no_room (segment v) at d (omega (arith, leb-false (length (segment v)) (length d - at) (sym e ∙ not-true r n)))
 
   pub fits_start : not r ≡ false → Writing v at d 0 at d
   fits_start n = writing_start v at d (fits n)
 
   pub fits_done : not r ≡ false → {i to : ℕ} {d' : Text} → Writing v at d i to d' → length v ≤ i
-      → (To to ≡ place_after (segment v) at d) × (d' ≡ written_if_room (segment v) at d)
+      → (Some to ≡ place_after (segment v) at d) × (d' ≡ written_if_room (segment v) at d)
   fits_done n {i} {to} {d'} w l = all_written (segment v) at d (fits n) to d' (writing_done w l)

@@ -5,13 +5,6 @@ ghost use Rattle.spelling.specs.Writing.{written, place_after, written_if_room};
 
 use crate::table::stays;
 
-// Where the writing ended, or that there was no room for it.
-#[derive(Drop)]
-pub enum Wrote {
-    To(usize),
-    Full,
-}
-
 // The upper-case hexadecimal digit n.
 pub fn hex_digit(n: u8) -> u8
     requires { n < 16 }
@@ -32,8 +25,8 @@ fn fits(value: &[u8], room: usize) -> bool
     ensures { result ≡ leb (length (segment value.now)) room }
 {
     let mut left = room;
-    for i in 0..value.len() {
-        let n = byte_len(value[i]);
+    for &b in value {
+        let n = byte_len(b);
         if left < n {
             return false;
         }
@@ -51,25 +44,24 @@ fn write_byte(b: u8, dst: &mut [u8], at: usize) -> usize
         dst[at] = b;
         return at + 1;
     }
-    dst[at] = b'%';
-    dst[at + 1] = hex_digit(b / 16);
-    dst[at + 2] = hex_digit(b % 16);
+    let escape = [b'%', hex_digit(b / 16), hex_digit(b % 16)];
+    dst[at..at + 3].copy_from_slice(&escape);
     at + 3
 }
 
-// Writes the value's segment from `at` on, if there is room for all of it.
-pub fn write_segment(value: &[u8], dst: &mut [u8], at: usize) -> Wrote
+// Writes the value's segment from `at` on, if there is room for all of it, and returns the place behind it.
+pub fn write_segment(value: &[u8], dst: &mut [u8], at: usize) -> Option<usize>
     ensures { (result ≡ place_after (segment value.now) at dst.old) × (dst.new ≡ written_if_room (segment value.now) at dst.old) }
 {
     if dst.len() < at {
-        return Wrote::Full;
+        return None;
     }
     if !fits(value, dst.len() - at) {
-        return Wrote::Full;
+        return None;
     }
     let mut to = at;
-    for i in 0..value.len() {
-        to = write_byte(value[i], dst, to);
+    for &b in value {
+        to = write_byte(b, dst, to);
     }
-    Wrote::To(to)
+    Some(to)
 }

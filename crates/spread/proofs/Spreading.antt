@@ -2,7 +2,8 @@
 use lib.Bits.{bit_or, and_le_r, or_add_and, or_lt}
 use lib.ListN.{length, length-reverse, get_or, set, take}
 use lib.Seq.{get_or-set_same, get_or-set_other, set-get_or, take_all, take-suc}
-use mathlib.Core.Bool.{Bool, true, false, true≢false}
+use mathlib.Core.Bool.{Bool, true, false, ◌||◌, true≢false}
+use Rattle.std.proofs.Math.Bool.{or-true, or-false}
 use mathlib.Core.List.{List, [], ◌∷◌, ◌++◌}
 use mathlib.Core.Logic.{◌↔◌, ◌⊎◌, inl, inr}
 use mathlib.Core.Path.{◌≡◌, refl, sym, ap, ◌∙◌, subst}
@@ -184,7 +185,7 @@ module _ {table : List (List ℕ)} {triples : List ℕ} {back : Bool} {i : ℕ} 
   }
 
   module _ (d' : List ℕ) (s : PassShown table key d d') (l : length d' ≡ length d) where
-    pub round_hit : Progress mask_room true d d' → SomeAdded d d' → RoundDone table triples back (i + 1) true p₀ (set p at from) d₀ d'
+    round_hit : Progress mask_room true d d' → SomeAdded d d' → RoundDone table triples back (i + 1) true p₀ (set p at from) d₀ d'
     round_hit n (f, x) = record {
       within = omega arith;
       long = l ∙ r.long;
@@ -196,7 +197,7 @@ module _ {table : List (List ℕ)} {triples : List ℕ} {back : Bool} {i : ℕ} 
       progress = nearer mask_room changed d₀ d d' r.progress n;
     }
 
-    pub round_miss : Progress mask_room false d d' → RoundDone table triples back (i + 1) changed p₀ (set p at from) d₀ d'
+    round_miss : Progress mask_room false d d' → RoundDone table triples back (i + 1) changed p₀ (set p at from) d₀ d'
     round_miss e = subst (RoundDone table triples back (i + 1) changed p₀ (set p at from) d₀) (sym e) (record {
       within = omega arith;
       long = r.long;
@@ -207,6 +208,12 @@ module _ {table : List (List ℕ)} {triples : List ℕ} {back : Bool} {i : ℕ} 
       };
       progress = r.progress;
     })
+
+  -- what was added so far, and now
+  pub round_on : (b : Bool) (d' : List ℕ) → PassShown table key d d' → length d' ≡ length d → Progress mask_room b d d' → (b ≡ true → SomeAdded d d')
+      → RoundDone table triples back (i + 1) (changed || b) p₀ (set p at from) d₀ d'
+  round_on true d' s l n f = rw (or-true changed) (round_hit d' s l n (f refl))
+  round_on false d' s l e f = rw (or-false changed) (round_miss d' s l e)
 
 pub round_done : {table : List (List ℕ)} {triples : List ℕ} {back : Bool} {i : ℕ} {changed : Bool} {p₀ p d₀ d : List ℕ}
     → RoundDone table triples back i changed p₀ p d₀ d → length triples ≤ i → RoundOn table triples back changed p₀ p d₀ d

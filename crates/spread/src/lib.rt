@@ -60,9 +60,7 @@ fn round(
             continue;
         }
         passed[at] = from;
-        if pass(shapes, key, masks) {
-            changed = true;
-        }
+        changed |= pass(shapes, key, masks);
     }
     changed
 }
@@ -76,11 +74,8 @@ pub fn spread(shapes: &ShapeTable, triples: &[u64], masks: &mut [u16]) -> usize
 {
     let mut passed = [0u16; MAX_CORE_TRIPLES];
     let mut rounds = 0;
-    loop {
-        let changed = round(shapes, triples, rounds % 2 == 1, &mut passed, masks);
+    while round(shapes, triples, rounds % 2 == 1, &mut passed, masks) {
         rounds += 1;
-        if !changed {
-            return rounds;
-        }
     }
+    rounds + 1
 }

@@ -14,6 +14,17 @@ pub struct Sizes {
     pub parts: usize,
 }
 
+// The triples, three numbers each, and for each part of the query its number, what is to be done after it, and the predicate or
+// node that its name or label asks for.
+#[derive(Clone, Copy)]
+pub struct Lists<'a> {
+    pub sizes: Sizes,
+    pub triples: &'a [u16],
+    pub tree: &'a [u32],
+    pub next: &'a [u16],
+    pub wanted: &'a [u16],
+}
+
 // Whether a step of this kind takes the predicate.
 pub fn takes_predicate(kind: usize, want: u16, predicate: u16) -> bool
     ensures { result ≡ takes kind want predicate }

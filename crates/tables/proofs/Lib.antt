@@ -1,3 +1,4 @@
 pub mod Rows
 pub mod Cells
 pub mod Filling
+pub mod FromFn

@@ -2,13 +2,14 @@
 ghost use Rattle.std.specs.Prelude.{◌≡◌, ◌<◌, ◌≤◌};
 ghost use Rattle.meaning.specs.Limits.{literal_target, max_predicates, max_types, multiplicity_room};
 ghost use Rattle.meaning.specs.Tables.{ShapeTable};
-ghost use Rattle.names.specs.PackGiven.{ForSetting};
+ghost use Rattle.names.specs.PackGiven.{ForSettingOf};
 ghost use Rattle.tables.specs.Tables.{IsResolvedSetting, code_of, put_first};
 
 use meaning::{
-    BODIES, LITERAL_BIT, LITERAL_TARGET, MAX_PREDICATES, MAX_TYPES, MULTIPLICITY_ROOM, SHAPE_WIDTH,
+    LITERAL_BIT, LITERAL_TARGET, MAX_PREDICATES, MAX_TYPES, MULTIPLICITY_ROOM, SHAPE_WIDTH,
     SHAPES_AT, SHAPES_BODY, ShapeTable,
 };
+use records::setting::LoadedSetting;
 
 const LITERAL: u16 = LITERAL_TARGET as u16;
 
@@ -39,17 +40,17 @@ fn put_first(table: ShapeTable, t: usize, p: usize, v: u16) -> ShapeTable
 }
 
 // The table of the shapes, of which each names records that are there.
-pub fn shape_table(counts: [usize; BODIES], numbers: &[u16]) -> ShapeTable
-    requires { IsResolvedSetting counts numbers.now }
-    ensures { ForSetting counts numbers.now (λ P. ShapeTable P.setting result) }
+pub fn shape_table(setting: &LoadedSetting) -> ShapeTable
+    requires { IsResolvedSetting setting.now.counts setting.now.numbers.now }
+    ensures { ForSettingOf setting.now (λ P. ShapeTable P.setting result) }
 {
-    let n = counts[SHAPES_BODY];
+    let n = setting.counts[SHAPES_BODY];
     let mut table = [[0u16; MAX_PREDICATES]; MAX_TYPES];
     for i in 0..n {
         let at = SHAPES_AT + i * SHAPE_WIDTH;
-        let t = numbers[at] as usize;
-        let p = numbers[at + 1] as usize;
-        let v = cell_code(numbers[at + 2], numbers[at + 3]);
+        let t = setting.numbers[at] as usize;
+        let p = setting.numbers[at + 1] as usize;
+        let v = cell_code(setting.numbers[at + 2], setting.numbers[at + 3]);
         let filled = put_first(table, t, p, v);
         table = filled;
     }

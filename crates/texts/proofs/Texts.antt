@@ -1,6 +1,6 @@
 -- Laws of texts that are compared at their places. Assumes nothing.
 use Rattle.meaning.proofs.Cases.{case_on}
-use borrow.Author.Tests.{eq-eqb, ne_eqb}
+use borrow.Author.Tests.{eq-eqb}
 use lib.Dec.{eqb}
 use lib.ListN.{length, get_or, take}
 use lib.Seq.{slice, slice_empty, length-slice, get_or-drop, get_or-take}
@@ -70,7 +70,7 @@ module _ {s : List ℕ} {a n b m i : ℕ} (p : Agreeing s a n b m i) where
       let f : b + (i + 1) ≡ b + i + 1 = omega arith in
       rw (e, f, slice_front (a + i) (a + n) s 0 (omega arith) p.inside_a, slice_front (b + i) (b + m) s 0 (omega (arith, p.short)) p.inside_b)
 
-  pub agreeing_on : i < n → get_or s (a + i) 0 ≡ get_or s (b + i) 0 → Agreeing s a n b m (i + 1)
+  agreeing_on : i < n → get_or s (a + i) 0 ≡ get_or s (b + i) 0 → Agreeing s a n b m (i + 1)
   agreeing_on h e = record {
     within = omega arith;
     short = p.short;
@@ -78,12 +78,6 @@ module _ {s : List ℕ} {a n b m i : ℕ} (p : Agreeing s a n b m i) where
     inside_b = p.inside_b;
     is = rw (eq-eqb _ _ e) at (sym (step h)) ∙ p.is;
   }
-
-  pub agreeing_stops : i < n → (get_or s (a + i) 0 ≡ get_or s (b + i) 0 → ⊥) → false ≡ begins (text_at s a n) (text_at s b m)
-  agreeing_stops h e = rw (ne_eqb _ _ e) at (sym (step h)) ∙ p.is
-
-  pub agreeing_done : n ≤ i → true ≡ begins (text_at s a n) (text_at s b m)
-  agreeing_done h = let e : i ≡ n = omega (arith, p.within) in rw (e, slice_empty) at p.is
 
 -- as many bytes as are the same
 pub agreeing_from : {s : List ℕ} {a n b m : ℕ} → Agreeing s a n b m 0 → (i : ℕ) → i ≤ n → SameBytes s a b i → Agreeing s a n b m i

@@ -15,7 +15,7 @@ fn eight(s: &[u8], i: usize) -> u64
     word(s, i) + 4294967296 * word(s, i + 4)
 }
 
-// How many bytes at a and at b are known to agree, n at most: they are looked at eight at a time.
+// How many bytes at a and at b are known to agree, n at most: they are looked at eight at a time, for speed.
 fn agreeing(s: &[u8], a: usize, b: usize, n: usize) -> usize
     requires { (a + n ≤ length s.now) × (b + n ≤ length s.now) }
     ensures { (result ≤ n) × SameBytes s.now a b result }
@@ -38,17 +38,12 @@ pub fn begins_at(s: &[u8], a: usize, n: usize, b: usize, m: usize) -> bool
     if m < n {
         return false;
     }
-    let mut i = agreeing(s, a, b, n);
-    while i < n {
-        if s[a + i] != s[b + i] {
-            return false;
-        }
-        i += 1;
-    }
-    true
+    let i = agreeing(s, a, b, n);
+    s[b + i..b + m].starts_with(&s[a + i..a + n])
 }
 
-// Whether the texts are equal. Most texts that are not differ in their lengths or in their last bytes.
+// Whether the texts are equal. Most texts that are not differ in their lengths or in their last bytes, so these are looked at
+// first, for speed.
 pub fn same_at(s: &[u8], a: usize, n: usize, b: usize, m: usize) -> bool
     requires { (a + n ≤ length s.now) × (b + m ≤ length s.now) }
     ensures { result ≡ same_text (text_at s.now a n) (text_at s.now b m) }

@@ -9,9 +9,10 @@ ghost use Rattle.texts.specs.Compared.{first_of, SaysAny, SaysBefore, SaysOfPack
 
 use crate::compare::{begins_at, same_at};
 use meaning::{
-    BODIES, CONSTRUCTOR_WIDTH, CONSTRUCTORS_AT, CONSTRUCTORS_BODY, PREDICATES_AT, PREDICATES_BODY,
+    CONSTRUCTOR_WIDTH, CONSTRUCTORS_AT, CONSTRUCTORS_BODY, PREDICATES_AT, PREDICATES_BODY,
     SHAPE_WIDTH, SHAPES_AT, SHAPES_BODY, TEXT_WIDTH, TYPES_AT, TYPES_BODY, VALUES_AT, VALUES_BODY,
 };
+use records::setting::LoadedSetting;
 
 // What is compared of a record: its text, its prefix, or its type and predicate.
 #[derive(Clone, Copy)]
@@ -50,18 +51,8 @@ fn clash_at(s: &[u8], key: Key, a: usize, n: usize, b: usize, m: usize) -> bool
 {
     match key {
         Key::Text => same_at(s, a, n, b, m),
-        Key::Prefix => {
-            if begins_at(s, a, n, b, m) {
-                return true;
-            }
-            begins_at(s, b, m, a, n)
-        }
-        Key::Cell => {
-            if a != b {
-                return false;
-            }
-            n == m
-        }
+        Key::Prefix => begins_at(s, a, n, b, m) || begins_at(s, b, m, a, n),
+        Key::Cell => a == b && n == m,
     }
 }
 
@@ -75,20 +66,12 @@ fn clash_before(s: &[u8], key: Key, numbers: &[u16], at: usize, n: usize, j: usi
     let last = first + j * width;
     let b = numbers[last] as usize;
     let m = numbers[last + 1] as usize;
-    for i in 0..j {
+    (0..j).any(|i| {
         let place = first + i * width;
-        if clash_at(
-            s,
-            key,
-            numbers[place] as usize,
-            numbers[place + 1] as usize,
-            b,
-            m,
-        ) {
-            return true;
-        }
-    }
-    false
+        let a = numbers[place] as usize;
+        let k = numbers[place + 1] as usize;
+        clash_at(s, key, a, k, b, m)
+    })
 }
 
 // Whether two of n records clash: each is compared with those before it; the first stands at `at`.
@@ -96,47 +79,37 @@ pub fn clash(s: &[u8], key: Key, numbers: &[u16], at: usize, n: usize) -> bool
     requires { SomeRecords key s.now numbers.now at n }
     ensures { SaysAny key s.now numbers.now at n result }
 {
-    for j in 0..n {
-        if clash_before(s, key, numbers, at, n, j) {
-            return true;
-        }
-    }
-    false
+    (0..n).any(|j| clash_before(s, key, numbers, at, n, j))
 }
 
 // Refusal 5.
-pub fn has_duplicates(s: &[u8], counts: [usize; BODIES], numbers: &[u16]) -> bool
-    requires { SomePack s.now counts numbers.now }
-    ensures { SaysOfPack duplicates s.now counts numbers.now result }
+pub fn has_duplicates(s: &[u8], setting: &LoadedSetting) -> bool
+    requires { SomePack s.now setting.now.counts setting.now.numbers.now }
+    ensures { SaysOfPack duplicates s.now setting.now.counts setting.now.numbers.now result }
 {
-    if clash(s, Key::Text, numbers, VALUES_AT, counts[VALUES_BODY]) {
-        return true;
-    }
-    if clash(s, Key::Text, numbers, TYPES_AT, counts[TYPES_BODY]) {
-        return true;
-    }
-    if clash(
-        s,
-        Key::Text,
-        numbers,
-        PREDICATES_AT,
-        counts[PREDICATES_BODY],
-    ) {
-        return true;
-    }
-    clash(s, Key::Cell, numbers, SHAPES_AT, counts[SHAPES_BODY])
+    let LoadedSetting { counts, numbers } = *setting;
+    clash(s, Key::Text, numbers, VALUES_AT, counts[VALUES_BODY])
+        || clash(s, Key::Text, numbers, TYPES_AT, counts[TYPES_BODY])
+        || clash(
+            s,
+            Key::Text,
+            numbers,
+            PREDICATES_AT,
+            counts[PREDICATES_BODY],
+        )
+        || clash(s, Key::Cell, numbers, SHAPES_AT, counts[SHAPES_BODY])
 }
 
 // Refusal 6.
-pub fn has_prefix_clash(s: &[u8], counts: [usize; BODIES], numbers: &[u16]) -> bool
-    requires { SomePack s.now counts numbers.now }
-    ensures { SaysOfPack prefix_clash s.now counts numbers.now result }
+pub fn has_prefix_clash(s: &[u8], setting: &LoadedSetting) -> bool
+    requires { SomePack s.now setting.now.counts setting.now.numbers.now }
+    ensures { SaysOfPack prefix_clash s.now setting.now.counts setting.now.numbers.now result }
 {
     clash(
         s,
         Key::Prefix,
-        numbers,
+        setting.numbers,
         CONSTRUCTORS_AT,
-        counts[CONSTRUCTORS_BODY],
+        setting.counts[CONSTRUCTORS_BODY],
     )
 }

@@ -1,7 +1,8 @@
 -- The edges of one subject and predicate, and the order of edges. Assumes nothing.
 use borrow.Author.Tests.{eqb-true}
 use lib.Dec.{T, eqb}
-use lib.ListN.{get_or, length, length-map}
+use lib.ListN.{drop, drop_of_length-le, get_or, length, length-map, take}
+use lib.Seq.{drop-cons}
 use mathlib.Core.Bool.{Bool, true, false, cond}
 use mathlib.Core.List.Memᴰ.{map as ∈-map}
 use mathlib.Core.List.{List, [], ◌∷◌, map, flatten}
@@ -9,10 +10,11 @@ use mathlib.Core.Path.{◌≡◌, refl, sym, ap, subst, subst₂, ◌∙◌}
 use native.Mathlib.Numerals.{add-one}
 use native.Mathlib.Omega.{arith}
 use Prim.Native.Nat.{ℕ, min, suc, zero, ◌+◌, ◌*◌, ◌-◌, ◌%◌, ◌<◌, ◌≤◌}
-use Rattle.spread.specs.Keys.{object_of, origin_at, origin_of}
+use Rattle.spread.specs.Keys.{object_of, origin_at, origin_of, subject_of}
 use Rattle.invent.specs.Invent.{OfDemand, number_of}
 use Rattle.node_list.specs.Records.{SetsFit, overwritten}
-use Rattle.triple_list.specs.Triples.{EdgeFrom, EdgesListed, NodeEdge, RecordsListed, SubjectEdge, SubjectsBelow, edge_record, edge_records, gotten, present}
+use Rattle.triple_list.specs.Triples.{EdgeFrom, NodeEdge, RecordsListed, SubjectEdge, edge_record, edge_records, gotten, present}
+use Rattle.triple_list.proofs.GroupLaws.{group_between}
 use Rattle.triple_list.proofs.ListedLaws.{listed_iff, listed_none}
 use Rattle.invent.proofs.Marks.{leads_there, only}
 use Rattle.core_lists.proofs.Origin.{group_in, group_only, keys_all, keys_le, keys_mono, keys_next, origin_none, origin_some}
@@ -20,7 +22,6 @@ use Rattle.core_lists.proofs.Shaped.{requires_shape}
 use Rattle.core_lists.specs.Origin.{group, HasOrigin, keys_before}
 use Rattle.meaning.proofs.Lists.Members.{∈_map⁻¹}
 use Rattle.meaning.proofs.Lists.OrderedPlaces.{greater_later}
-use Rattle.meaning.proofs.Lists.Overwriting.{nothing_written}
 use Rattle.meaning.proofs.Lists.Places.{∈_at}
 use Rattle.meaning.specs.Limits.{max_core_triples, max_iris, max_predicates, max_triples, type_sets}
 use Rattle.meaning.specs.Member.{◌∈◌, here, there}
@@ -46,7 +47,7 @@ module _ (ks : List ℕ) (few : length ks ≤ max_core_triples) (s triple at : �
   iri_end h e = let k = keys_le (origin_at s 0) ks in omega arith
 
 -- an invented subject has none of the core's
-pub none_of : (triples : List ℕ) (node : ℕ) → SubjectsBelow triples node → length triples ≡ keys_before (origin_at node 0) triples
+pub none_of : (triples : List ℕ) (node : ℕ) → ((k : ℕ) → k ∈ triples → subject_of k < node) → length triples ≡ keys_before (origin_at node 0) triples
 none_of triples node h = sym (keys_all (origin_at node 0) triples (λ k i. let s = h k i in omega arith))
 
 -- The number of the set before place i, or 0: nodes that have edges come after it.
@@ -111,24 +112,28 @@ edges_ascend s p (k ∷ ks) (before f a) = go (eqb (origin_of k) (origin_at s p)
     go true e i = before (above (eqb-true (origin_of k) (origin_at s p) e)) i
     go false e i = i
 
+-- the loop that writes them
+pub edge_next : (s p : ℕ) (ks : List ℕ) (i : ℕ) → i < length ks → map (edge_record s p) (drop i ks) ≡ edge_record s p (get_or ks i 0) ∷ map (edge_record s p) (drop (i + 1) ks)
+edge_next s p ks i h = rw (drop-cons ks i 0 h, add-one i) refl
+
+pub edge_end : (s p : ℕ) (ks : List ℕ) (i : ℕ) → length ks ≤ i → map (edge_record s p) (drop i ks) ≡ []
+edge_end s p ks i h = rw (drop_of_length-le ks h) refl
+
 edges_flat : (s p : ℕ) (ks : List ℕ) → length (flatten (map (edge_record s p) ks)) ≡ length (map (edge_record s p) ks) * 3
 unfolding flatten
 edges_flat s p [] = refl
 edges_flat s p (k ∷ ks) = let r = edges_flat s p ks in omega arith
 
 module _ (demand : ℕ) (triples places : List ℕ) (a : InOrder ◌<◌ triples) (s p from first : ℕ)
-    (f : from ≡ keys_before (origin_at s p) triples) (out out₁ : List ℕ) (at : ℕ) (e : EdgesListed triples s p from first out out₁ at) where
+    (f : from ≡ keys_before (origin_at s p) triples) (out : List ℕ) (at : ℕ) (passed : at ≡ keys_before (origin_at s p + 1) triples) where
   -- what stands from triple `first` on, for every set that demands this
   abbrev Listed : List ℕ → ℕ → Type 0
   Listed out' r = (mask : ℕ) → RecordsListed (OfDemand mask p demand) (λ P. EdgeFrom P triples places s mask p) first out out' r
 
-  passed : at ≡ keys_before (origin_at s p + 1) triples
-  passed = let c = e.count in let k = keys_next (origin_at s p) triples in omega arith
-
   -- there are some
-  pub origin_present : (at ≡ from → ⊥) → Listed out₁ (first + (at - from)) × (first + (at - from) + from ≤ first + 1 + at)
-      × (at ≡ keys_before (origin_at s p + 1) triples)
-  origin_present n = (
+  pub origin_present : (at ≡ from → ⊥) → (out₁ : List ℕ) → out₁ ≡ overwritten (first * 3) (flatten (map (edge_record s p) (take (at - from) (drop from triples)))) out
+      → Listed out₁ (first + (at - from)) × (first + (at - from) + from ≤ first + 1 + at) × (at ≡ keys_before (origin_at s p + 1) triples)
+  origin_present n out₁ w = (
     λ mask. record {
       records = edge_records s p triples;
       are = λ P h. record {
@@ -139,13 +144,16 @@ module _ (demand : ℕ) (triples places : List ℕ) (a : InOrder ◌<◌ triples
         );
       };
       long = edges_flat s p (group (origin_at s p) triples);
-      count = let c = e.count in let n = length-map (group (origin_at s p) triples) (edge_record s p) in omega arith;
-      written = e.edges;
+      count = let n = length-map (group (origin_at s p) triples) (edge_record s p) in omega (arith, many);
+      written = w ∙ ap (λ ks. overwritten (first * 3) (flatten (map (edge_record s p) ks)) out) (group_between triples a (origin_at s p) from at f passed);
     },
-    (let c = e.count in omega arith),
+    omega (arith, many),
     passed,
   )
     where
+      many : at ≡ from + length (group (origin_at s p) triples)
+      many = let k = keys_next (origin_at s p) triples in omega arith
+
       back : (mask : ℕ) (P : Pack) (x : List ℕ) → EdgeFrom P triples places s mask p x → x ∈ edge_records s p triples
       back mask P x (present k m o q) = subst (λ y. y ∈ edge_records s p triples) (sym q) (∈-map (edge_record s p) (group_in (origin_at s p) m o))
       back mask P x (gotten j l q) = absurd (l.none (origin_some triples (origin_at s p) from at f passed n))
@@ -155,24 +163,15 @@ module _ (demand : ℕ) (triples places : List ℕ) (a : InOrder ◌<◌ triples
     no_origin : ¬ HasOrigin triples (origin_at s p)
     no_origin = origin_none triples (origin_at s p) from at f passed n
 
-    out_same : out₁ ≡ out
-    unfolding flatten
-    out_same = e.edges ∙ go (group (origin_at s p) triples) (let c = e.count in omega arith)
-      where
-        go : (g : List ℕ) → length g ≡ 0 → overwritten (first * 3) (flatten (map (edge_record s p) g)) out ≡ out
-        go [] z = sym (nothing_written (first * 3) out)
-        go (x ∷ xs) z = absurd (let y : ⊥ = omega arith in y)
-
-    pub origin_free : required_in demand ≡ false → Listed out₁ first
-        × (first + from ≤ first + 1 + from) × (from ≡ keys_before (origin_at s p + 1) triples)
-    origin_free f = (subst (λ o. Listed o first) (sym out_same) (λ mask. listed_none first out (none mask)), omega arith, sym n ∙ passed)
+    pub origin_free : required_in demand ≡ false → Listed out first × (first + from ≤ first + 1 + from) × (from ≡ keys_before (origin_at s p + 1) triples)
+    origin_free f = (λ mask. listed_none first out (none mask), omega arith, sym n ∙ passed)
       where
         none : (mask : ℕ) (P : Pack) → OfDemand mask p demand P → (x : List ℕ) → ¬ EdgeFrom P triples places s mask p x
         none mask P h x (present k m o q) = no_origin (record { key = k; listed = m; is = o })
         none mask P h x (gotten j l q) = subst T f (h.needs.1 ((requires_shape P mask p).1 l.leads.needs))
 
     pub origin_gets : required_in demand ≡ true → (m : ℕ) → m ≡ targets_in demand → (out₂ : List ℕ)
-        → out₂ ≡ overwritten (first * 3) (s ∷ p ∷ get_or places (m % type_sets) 0 ∷ []) out₁
+        → out₂ ≡ overwritten (first * 3) (s ∷ p ∷ get_or places (m % type_sets) 0 ∷ []) out
         → Listed out₂ (first + 1) × (first + 1 + from ≤ first + 1 + at) × (at ≡ keys_before (origin_at s p + 1) triples)
     unfolding flatten
     origin_gets t m is out₂ w = (
@@ -185,7 +184,7 @@ module _ (demand : ℕ) (triples places : List ℕ) (a : InOrder ◌<◌ triples
             };
         long = refl;
         count = refl;
-        written = w ∙ rw out_same refl;
+        written = w;
       },
       omega arith,
       passed,

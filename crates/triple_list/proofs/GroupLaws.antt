@@ -5,24 +5,21 @@ use lib.Dec.{eqb, ltb}
 use lib.ListN.{drop, drop_of_length-le, get_or, length, take, take-append-drop}
 use lib.Seq.{drop-cons}
 use mathlib.Core.Bool.{Bool, true, false, cond}
-use mathlib.Core.List.{List, [], ◌∷◌, ◌++◌, map}
+use mathlib.Core.List.{List, [], ◌∷◌, ◌++◌}
 use mathlib.Core.Logic.{◌≢◌}
 use mathlib.Core.Path.{◌≡◌, refl, sym, ap, subst, ◌∙◌}
-use native.Mathlib.Nat.{le_refl}
+use native.Mathlib.Decide.{dec_lt, ℕ_discrete}
 use native.Mathlib.Numerals.{add-one}
 use native.Mathlib.Omega.{arith}
 use Prim.Native.Nat.{ℕ, zero, suc, ◌+◌, ◌*◌, ◌-◌, ◌<◌, ◌≤◌}
-use Rattle.spread.specs.Keys.{object_of, origin_at, origin_of}
-use Rattle.node_list.specs.Records.{overwritten}
-use Rattle.triple_list.specs.Triples.{EdgesListed, edge_record, edge_records}
-use Rattle.core_lists.proofs.Origin.{keys_next, keys_rank, not_earlier, pass}
+use Rattle.spread.specs.Keys.{origin_of}
+use Rattle.core_lists.proofs.Origin.{keys_le, keys_mono, keys_rank, not_earlier, pass_other}
 use Rattle.core_lists.specs.Origin.{group, keys_before}
-use Rattle.meaning.specs.Limits.{max_triples, place_room, triple_list_length}
+use Rattle.meaning.specs.Limits.{place_room}
 use Rattle.meaning.specs.Member.{◌∈◌, here, there}
 use Rattle.meaning.specs.Ordered.{InOrder, before}
 use Rattle.meaning.proofs.Cases.{case_on}
 use Rattle.sets.specs.Ordered.{rank_of}
-use Rattle.meaning.proofs.Lists.Recording.{Records, records_again, records_done, records_start}
 
 module _ (q : ℕ) where
   group_none : (ks : List ℕ) → ((k : ℕ) → k ∈ ks → origin_of k ≢ q) → group q ks ≡ []
@@ -68,59 +65,28 @@ module _ (xs : List ℕ) (a : InOrder ◌<◌ xs) (q : ℕ) where
   unfolding group
   group_end i h = rw (drop_of_length-le xs h) refl
 
--- the edges before place i of the list are written
-pub record Edging (triples : List ℕ) (s p from first i : ℕ) (out₀ out : List ℕ) : Type 0 where
-  pub start : from ≡ keys_before (origin_at s p) triples
-  pub low : from ≤ i
-  pub count : i + length (group (origin_at s p) (drop i triples)) ≡ from + length (group (origin_at s p) triples)
-  pub records : Records 3 first (first + (i - from)) (map (edge_record s p) (group (origin_at s p) (drop i triples))) (edge_records s p triples) out₀ out
+module _ (xs : List ℕ) (a : InOrder ◌<◌ xs) (q : ℕ) where
+  group_run : (n i : ℕ) → keys_before q xs ≤ i → i + n ≡ keys_before (q + 1) xs → group q (drop i xs) ≡ take n (drop i xs)
+  group_run zero i l e = go (dec_lt i (length xs))
+    where
+      go : Dec (i < length xs) → group q (drop i xs) ≡ []
+      go (yes h) = let o = not_earlier xs a (q + 1) i h (omega arith) in group_stop xs a q i (omega arith) (λ z. omega arith)
+      go (no n) = group_end xs a q i (omega arith)
+  group_run (suc n) i l e =
+      group_next xs a q i h here-q ∙ ap (λ (r : List ℕ). get_or xs i 0 ∷ r) (group_run n (i + 1) (omega arith) (omega arith) ∙ ap (λ j. take n (drop j xs)) (add-one i))
+      ∙ sym (ap (take (suc n)) (drop-cons xs i 0 h))
+    where
+      h : i < length xs
+      h = omega (arith, keys_le (q + 1) xs)
 
-pub edging_start : (triples : List ℕ) → InOrder ◌<◌ triples → (s p from first : ℕ) (out : List ℕ) → from ≡ keys_before (origin_at s p) triples
-    → Edging triples s p from first from out out
-edging_start triples a s p from first out e =
-    let g = group_start triples a (origin_at s p) from (e ∙ keys_rank (origin_at s p) triples a) in
-    let n : first + (from - from) ≡ first = omega arith in
-    record {
-      start = e;
-      low = le_refl from;
-      count = ap (λ (l : List ℕ). from + length l) g;
-      records = rw (n, g) (records_start 3 first (edge_records s p triples) out);
-    }
+      here-q : origin_of (get_or xs i 0) ≡ q
+      here-q = go (ℕ_discrete (origin_of (get_or xs i 0)) q)
+        where
+          go : Dec (origin_of (get_or xs i 0) ≡ q) → origin_of (get_or xs i 0) ≡ q
+          go (yes z) = z
+          go (no z) = absurd (let p = pass_other xs a q i h l (omega arith) z in let y : ⊥ = omega arith in y)
 
-module _ {triples : List ℕ} {s p from first i : ℕ} {out₀ out : List ℕ} (e : Edging triples s p from first i out₀ out) (a : InOrder ◌<◌ triples)
-    (room : first + keys_before (origin_at s p + 1) triples ≤ max_triples + from) (long : triple_list_length ≤ length out₀) where
-  edging_done : group (origin_at s p) (drop i triples) ≡ [] → EdgesListed triples s p from first out₀ out i
-  edging_done g =
-      let c = e.count in
-      let b = e.start in
-      let l : length (group (origin_at s p) (drop i triples)) ≡ 0 = ap length g in
-      let k = keys_next (origin_at s p) triples in
-      record {
-        count = omega arith;
-        edges = records_done (rw g at e.records) (omega arith) (omega arith);
-      }
-
-  pub edging_other : i < length triples → origin_of (get_or triples i 0) ≢ origin_at s p → EdgesListed triples s p from first out₀ out i
-  edging_other h n = let b = e.start in let l = e.low in edging_done (group_stop triples a (origin_at s p) i (not_earlier triples a (origin_at s p) i h (omega arith)) n)
-
-  pub edging_end : length triples ≤ i → EdgesListed triples s p from first out₀ out i
-  edging_end h = edging_done (group_end triples a (origin_at s p) i h)
-
-  module _ (h : i < length triples) (o : origin_of (get_or triples i 0) ≡ origin_at s p) where
-    pub edging_room : first + (i - from) < max_triples
-    edging_room = let b = e.low in let k = pass triples a (origin_at s p) i h o in omega arith
-
-    pub edging_again : Edging triples s p from first (i + 1) out₀ (overwritten ((first + (i - from)) * 3) (s ∷ p ∷ object_of (get_or triples i 0) ∷ []) out)
-    edging_again =
-        let b = e.low in
-        let c = e.count in
-        let g = group_next triples a (origin_at s p) i h o in
-        let l : length (group (origin_at s p) (drop i triples)) ≡ suc (length (group (origin_at s p) (drop (i + 1) triples))) = ap length g in
-        let n : first + (i + 1 - from) ≡ first + (i - from) + 1 = omega arith in
-        let m = edging_room in
-        record {
-          start = e.start;
-          low = omega arith;
-          count = omega arith;
-          records = rw n (records_again (edge_record s p (get_or triples i 0)) (rw g at e.records) refl (omega arith));
-        }
+  -- the keys of an origin stand between the places before it and after it
+  pub group_between : (from at : ℕ) → from ≡ keys_before q xs → at ≡ keys_before (q + 1) xs → take (at - from) (drop from xs) ≡ group q xs
+  group_between from at f e =
+      sym (group_run (at - from) from (omega arith) (omega (arith, keys_mono q (q + 1) (omega arith) xs))) ∙ group_start xs a q from (f ∙ keys_rank q xs a)

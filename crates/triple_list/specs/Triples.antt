@@ -2,9 +2,10 @@
 -- nothing.
 use Rattle.std.specs.Prelude.{drop, get_or, length, ◌≡◌, ℕ, ◌+◌, ◌*◌, ◌%◌, ◌≤◌, ◌<◌}
 use mathlib.Core.List.{List, [], ◌∷◌, ◌++◌, map, flatten}
-use Rattle.spread.specs.Keys.{object_of, origin_at, origin_of, subject_of}
-use Rattle.core_lists.specs.Input.{Input}
+use Rattle.spread.specs.Keys.{object_of, origin_at, origin_of}
+use Rattle.core_lists.specs.Held.{InputOf}
 use Rattle.core_lists.specs.Origin.{group}
+use Rattle.core_lists.specs.declared.Core.{Core}
 use Rattle.invent.specs.Invent.{Lacks, Upto}
 use Rattle.node_list.specs.Records.{overwritten}
 use Rattle.meaning.specs.Built.{BuiltNode}
@@ -25,11 +26,6 @@ edge_record s p k = s ∷ p ∷ object_of k ∷ []
 
 abbrev pub edge_records : ℕ → ℕ → List ℕ → List (List ℕ)
 edge_records s p triples = map (edge_record s p) (group (origin_at s p) triples)
-
--- The edges of a subject and a predicate, whose keys are those from place `from` up to place r, stand from triple `first` on.
-pub record EdgesListed (triples : List ℕ) (s p from first : ℕ) (out out' : List ℕ) (r : ℕ) : Type 0 where
-  pub count : r ≡ from + length (group (origin_at s p) triples)
-  pub edges : out' ≡ overwritten (first * 3) (flatten (edge_records s p triples)) out
 
 -- ---- all edges
 
@@ -56,10 +52,6 @@ pub record NodeEdge (triples places : List ℕ) (node types : ℕ) (P : Pack) (x
 abbrev pub SetEdge : List ℕ → List ℕ → List ℕ → ℕ → Pack → ℕ → List ℕ → Type 0
 SetEdge triples sets places first P i = NodeEdge triples places (first + i) (get_or sets i 0) P
 
--- The core's subjects come before this number.
-abbrev pub SubjectsBelow : List ℕ → ℕ → Type 0
-SubjectsBelow triples node = (k : ℕ) → k ∈ triples → subject_of k < node
-
 -- The records of Q in each of these packs, in order, stand from triple `first` on; the next number is r.
 pub record RecordsListed (These : Pack → Type 0) (Q : Pack → List ℕ → Type 0) (first : ℕ) (out out' : List ℕ) (r : ℕ) : Type 0 where
   pub records : List (List ℕ)
@@ -78,7 +70,7 @@ pub record TriplesListed (P : Pack) (in_order : List BuiltNode) (out out' : List
   pub few : count ≤ max_triples
   pub written : out' ≡ flatten records ++ drop (count * triple_width) out
 
-abbrev pub TriplesShown : List (List ℕ) → List ℕ → List ℕ → List ℕ → List ℕ → List ℕ → List ℕ → ℕ → Type 0
-TriplesShown table nodes triples masks sets out out' count =
-    (P : Pack) → Input P table nodes triples masks → InventedNodes P sets → ¬ MixedKinds P → (in_order : List BuiltNode) → NodesInOrder P in_order
+abbrev pub TriplesShown : List (List ℕ) → Core → List ℕ → List ℕ → List ℕ → ℕ → Type 0
+TriplesShown table core sets out out' count =
+    (P : Pack) → InputOf P table core → InventedNodes P sets → ¬ MixedKinds P → (in_order : List BuiltNode) → NodesInOrder P in_order
     → TriplesListed P in_order out out' count

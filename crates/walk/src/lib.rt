@@ -40,9 +40,7 @@ pub fn thread(tree: &[u32], n: usize, next: &mut [u16])
     ensures { Threaded (part_of tree.now) (listed next.new) n }
 {
     next[n - 1] = n as u16;
-    let mut i = n;
-    while 0 < i {
-        i -= 1;
+    for i in (0..n).rev() {
         thread_part(tree, n, i, next);
     }
 }

@@ -3,7 +3,7 @@ use lib.Count.{count_trailing_zeros}
 use lib.ListN.{get_or, get_or-replicate, length, replicate}
 use mathlib.Core.List.{List}
 use mathlib.Core.Logic.{inl, inr, ⊎_elim, ◌⊎◌}
-use mathlib.Core.Path.{ap, subst, sym, ◌∙◌, ◌≡◌}
+use mathlib.Core.Path.{ap, refl, subst, sym, ◌∙◌, ◌≡◌}
 use native.Mathlib.Decide.{dec_lt, ℕ_discrete}
 use native.Mathlib.Omega.{arith}
 use Prim.Native.Nat.{ℕ, ◌%◌, ◌*◌, ◌+◌, ◌-◌, ◌/◌, ◌<◌, ◌^◌, ◌≤◌}
@@ -11,17 +11,24 @@ use Rattle.meaning.proofs.Lists.Bits.{zero_bits}
 use Rattle.meaning.specs.TypeSet.{bit}
 use Rattle.meaning.proofs.Lists.Lowest.{cleared, cleared_le, cleared_member, lowest}
 use Rattle.meaning.proofs.Lists.Masks.{bit_small}
-use Rattle.worklist.specs.Table.{Adds, AddsOnly, Board, Cleared, FromWord, InWord, Looked, Marked, Stacked, Table, Takes, Unmarked, board, left, mark}
+use Rattle.worklist.specs.Table.{Adds, AddsOnly, Board, Cleared, FromWord, InWord, Looked, Marked, Same, Stacked, Table, Takes, Unmarked, left, mark}
 use Rattle.worklist.proofs.Marks.{mark_lt, mark_zero, marked_word, one_in, zero_word}
-use Rattle.worklist.proofs.Stack.{stacked_none}
+use Rattle.worklist.proofs.Stack.{stacked_as, stacked_none}
 use Rattle.worklist.proofs.Sums.{sum_less, sum_same}
 
 -- ---- more numbers are marked
+
+pub same_start : {a : Board} → Same a a
+same_start = record { is = refl }
+
+pub same_then : {a b c : Board} → Same a b → Same b c → Same a c
+same_then d e = record { is = e.is ∙ d.is }
 
 module _ {n : ℕ} {S Y : ℕ → Type 0} {a : Board} where
   -- None is to be marked.
   pub adds_none : Table n a → ((y : ℕ) → Y y → ⊥) → Adds n S Y a a
   adds_none t none = record {
+    lent = same_start;
     after = t;
     more = λ x e. e;
     new = λ x e. inl e;
@@ -33,6 +40,7 @@ module _ {n : ℕ} {S Y : ℕ → Type 0} {a : Board} where
   -- Others are asked for, which are marked, and more are allowed.
   pub adds_for : {S' Y' : ℕ → Type 0} {b : Board} → Adds n S Y a b → ((y : ℕ) → S y → S' y) → ((y : ℕ) → Y' y → Marked b.marked y) → Adds n S' Y' a b
   adds_for d f g = record {
+    lent = d.lent;
     after = d.after;
     more = d.more;
     new = λ x e. ⊎_elim (λ h. inl h) (λ h. inr (f x h)) (d.new x e);
@@ -47,6 +55,7 @@ module _ {n : ℕ} {S Y : ℕ → Type 0} {a : Board} where
 
   pub adds_then : {Z : ℕ → Type 0} {b c : Board} → Adds n S Y a b → Adds n S Z b c → Adds n S (λ y. Y y ⊎ Z y) a c
   adds_then d e = record {
+    lent = same_then d.lent e.lent;
     after = e.after;
     more = λ x h. e.more x (d.more x h);
     new = λ x h. ⊎_elim (λ g. d.new x g) (λ g. inr g) (e.new x h);
@@ -104,38 +113,42 @@ adds_left {n} {S} {Y} {a} {b} d = sum_same (todo b) (todo a) (n * 64) (λ x l. g
 
 -- ---- a turn: numbers are taken, and more are marked
 
-module _ {n : ℕ} {T : ℕ → Type 0} {marked waiting stack waiting' : List ℕ} {top top' : ℕ} (t : Table n (board marked waiting stack top))
-    (k : Takes n T waiting stack waiting' top') where
-  pub turn_table : Table n (board marked waiting' stack top')
-  turn_table = record { long = t.long; stacked = k.after; within = λ x l e. t.within x l (k.less x e) }
+module _ {n : ℕ} {T : ℕ → Type 0} {a c : Board} (t : Table n a) (k : Takes n T a c) where
+  pub turn_table : Table n c
+  turn_table = record {
+    long = subst (λ xs. n ≤ length xs) (sym k.marked) t.long;
+    stacked = k.after;
+    within = λ x l e. subst (λ xs. Marked xs x) (sym k.marked) (t.within x l (k.less x e));
+  }
 
   -- They were marked.
-  pub turn_marked : (x : ℕ) → T x → Marked marked x
+  pub turn_marked : (x : ℕ) → T x → Marked a.marked x
   turn_marked x h = t.within x (k.inside x h) (k.was x h)
 
   -- A state that has been looked at is one that is taken, or was looked at before.
-  taken_looked : (x : ℕ) → Looked (board marked waiting' stack top') x → T x ⊎ Looked (board marked waiting stack top) x
-  taken_looked x h = go (ℕ_discrete (mark waiting x) 1)
+  taken_looked : (x : ℕ) → Looked c x → T x ⊎ Looked a x
+  taken_looked x h = go (ℕ_discrete (mark a.waiting x) 1)
     where
-      go : Dec (Marked waiting x) → T x ⊎ Looked (board marked waiting stack top) x
+      go : Dec (Marked a.waiting x) → T x ⊎ Looked a x
       go (yes p) = inl (k.which x p h.waits_not)
-      go (no n) = inr (record { is = h.is; waits_not = mark_zero waiting x n })
+      go (no n) = inr (record { is = subst (λ xs. Marked xs x) k.marked h.is; waits_not = mark_zero a.waiting x n })
 
   -- Fewer are left.
-  taken_left : left n (board marked waiting' stack top') < left n (board marked waiting stack top)
-  taken_left = sum_less (todo (board marked waiting' stack top')) (todo (board marked waiting stack top)) (n * 64) k.some (k.inside k.some k.some_is)
-      (let a = turn_marked k.some k.some_is in let b = k.was k.some k.some_is in let c = k.gone k.some k.some_is in omega arith)
-      (λ x l. fewer x (ℕ_discrete (mark waiting' x) 1))
+  taken_left : left n c < left n a
+  taken_left = sum_less (todo c) (todo a) (n * 64) k.some (k.inside k.some k.some_is)
+      (let p = turn_marked k.some k.some_is in let q = k.was k.some k.some_is in let r = k.gone k.some k.some_is in
+      let e : mark c.marked k.some ≡ mark a.marked k.some = ap (λ xs. mark xs k.some) k.marked in omega arith)
+      (λ x l. fewer x (ap (λ xs. mark xs x) k.marked) (ℕ_discrete (mark c.waiting x) 1))
     where
-      fewer : (x : ℕ) → Dec (Marked waiting' x) → todo (board marked waiting' stack top') x ≤ todo (board marked waiting stack top) x
-      fewer x (yes p) = let a = k.less x p in omega arith
-      fewer x (no n) = let a = mark_zero waiting' x n in omega arith
+      fewer : (x : ℕ) → mark c.marked x ≡ mark a.marked x → Dec (Marked c.waiting x) → todo c x ≤ todo a x
+      fewer x e (yes p) = let q = k.less x p in omega arith
+      fewer x e (no n) = let q = mark_zero c.waiting x n in omega arith
 
-  module _ {S Y : ℕ → Type 0} {b : Board} (d : Adds n S Y (board marked waiting' stack top') b) where
-    pub turn_looked : (x : ℕ) → x < n * 64 → Looked b x → T x ⊎ Looked (board marked waiting stack top) x
+  module _ {S Y : ℕ → Type 0} {b : Board} (d : Adds n S Y c b) where
+    pub turn_looked : (x : ℕ) → x < n * 64 → Looked b x → T x ⊎ Looked a x
     turn_looked x l h = taken_looked x (d.looked x l h)
 
-    pub turn_left : left n b < left n (board marked waiting stack top)
+    pub turn_left : left n b < left n a
     turn_left = let p = adds_left d in let q = taken_left in omega arith
 
 -- ---- the numbers of a word, one after another
@@ -186,11 +199,20 @@ module _ {n : ℕ} {R : ℕ → ℕ → Type 0} {w bits : ℕ} {a : Board} where
 
 -- ---- the beginning and the end
 
-pub nothing_marked : {n : ℕ} {marked waiting stack : List ℕ} → Unmarked n marked waiting stack → Table n (board marked waiting stack 0)
-nothing_marked {n} {marked} {waiting} u = record {
+-- The lists that a board had when it was given back, where each was the one that was lent.
+pub given_back : {a b : Board} (P : List ℕ → List ℕ → List ℕ → Type 0) {marked waiting stack : List ℕ} → Same a b
+    → (a.lent.0 ≡ b.lent.0 → marked ≡ b.marked) → (a.lent.1 ≡ b.lent.1 → waiting ≡ b.waiting) → (a.lent.2 ≡ b.lent.2 → stack ≡ b.stack)
+    → P b.marked b.waiting b.stack → P marked waiting stack
+given_back {a} {b} P {marked} {waiting} {stack} e f g h p =
+    subst (λ x. P x waiting stack) (sym (f (ap (λ l. l.0) (sym e.is))))
+    (subst (λ y. P b.marked y stack) (sym (g (ap (λ l. l.1) (sym e.is))))
+    (subst (P b.marked b.waiting) (sym (h (ap (λ l. l.2) (sym e.is)))) p))
+
+pub nothing_marked : {n : ℕ} {b : Board} → Unmarked n b.marked b.waiting b.stack → b.top ≡ 0 → Table n b
+nothing_marked {n} {b} u z = record {
   long = u.long;
-  stacked = u.empty;
-  within = λ x l e. absurd (let (k, h, p) = u.empty.listed (x / 64) (omega arith) (marked_word waiting x e) in omega arith);
+  stacked = stacked_as (sym z) u.empty;
+  within = λ x l e. absurd (let (k, h, p) = u.empty.listed (x / 64) (omega arith) (marked_word b.waiting x e) in omega arith);
 }
 
 -- Nothing waits: each marked state has been looked at.

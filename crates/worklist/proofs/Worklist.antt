@@ -1,8 +1,9 @@
 -- Laws of marked states of which some wait: one is marked, one is taken, all are cleared. Assumes nothing.
 use lib.Bits.{bit_or}
-use lib.ListN.{get_or, length, length-set, set}
+use lib.ListN.{drop, get_or, get_or-append, get_or-replicate, length, length-set, replicate, set}
 use lib.Seq.{get_or-set_other, get_or-set_same}
-use mathlib.Core.List.{List}
+use Rattle.std.proofs.lemmas.List.{get_or-append_right, get_or-drop, length-replicate}
+use mathlib.Core.List.{List, ◌++◌}
 use mathlib.Core.Logic.{inl, inr, ⊎_elim, ◌⊎◌, ◌≢◌}
 use mathlib.Core.Path.{ap, refl, sym, ◌∙◌, ◌≡◌}
 use native.Mathlib.Decide.{ℕ_discrete}
@@ -19,7 +20,7 @@ use Rattle.worklist.proofs.Stack.{has_room, stacked_pop, stacked_push, stacked_s
 
 -- ---- numbers of a word are marked
 
-module _ {n : ℕ} {marked waiting stack : List ℕ} {top w : ℕ} (t : Table n (board marked waiting stack top)) (lt : w < n) (bits : ℕ) where
+module _ {n : ℕ} {marked waiting stack : List ℕ} {top w : ℕ} {lent : ℕ × ℕ × ℕ} (t : Table n (board marked waiting stack top lent)) (lt : w < n) (bits : ℕ) where
   in_marked : w < length marked
   in_marked = let a = t.long in omega arith
 
@@ -40,8 +41,9 @@ module _ {n : ℕ} {marked waiting stack : List ℕ} {top w : ℕ} (t : Table n 
   new_if x h n = record { word = h.word; is = (gained_bit (x % 64) (get_or marked w 0) bits).1 (h.is, mark_bit marked x w h.word ∙ mark_zero marked x n) }
 
   -- All were marked before.
-  pub mark_old : bit_or (get_or marked w 0) bits ≡ get_or marked w 0 → AddsOnly n (InWord w bits) (board marked waiting stack top) (board marked waiting stack top)
+  pub mark_old : bit_or (get_or marked w 0) bits ≡ get_or marked w 0 → AddsOnly n (InWord w bits) (board marked waiting stack top lent) (board marked waiting stack top lent)
   mark_old e = record {
+    lent = record { is = refl };
     after = t;
     more = λ x h. h;
     new = λ x h. inl h;
@@ -54,8 +56,9 @@ module _ {n : ℕ} {marked waiting stack : List ℕ} {top w : ℕ} (t : Table n 
       same = ap (λ v. set marked w v) e ∙ set_get_d marked w 0
 
   joins : {stack' : List ℕ} {top' : ℕ} → Stacked n (joined waiting w new) stack' top'
-      → AddsOnly n (InWord w bits) (board marked waiting stack top) (board (joined marked w bits) (joined waiting w new) stack' top')
+      → AddsOnly n (InWord w bits) (board marked waiting stack top lent) (board (joined marked w bits) (joined waiting w new) stack' top' lent)
   joins {stack'} {top'} d = record {
+    lent = record { is = refl };
     after = record {
       long = simp length-set t.long;
       stacked = d;
@@ -80,7 +83,7 @@ module _ {n : ℕ} {marked waiting stack : List ℕ} {top w : ℕ} (t : Table n 
       old x h (yes p) = inr p
       old x h (no n) = inl (sym (joined_other marked w bits in_marked x n) ∙ h)
 
-      was : (x : ℕ) → Looked (board (joined marked w bits) (joined waiting w new) stack' top') x → Dec (Marked marked x) → Marked marked x
+      was : (x : ℕ) → Looked (board (joined marked w bits) (joined waiting w new) stack' top' lent) x → Dec (Marked marked x) → Marked marked x
       was x h (yes p) = p
       was x h (no n) = ⊎_elim (λ e. e) (λ i. absurd (let a = joined_in waiting w new in_waiting x (new_if x i n) in let b = h.waits_not in omega arith)) (old x h.is (in_word w bits x))
 
@@ -91,7 +94,7 @@ module _ {n : ℕ} {marked waiting stack : List ℕ} {top w : ℕ} (t : Table n 
   other_n v n = get_or-set_other waiting w v _ 0 n
 
   -- Another state of the word waits.
-  pub mark_beside : (get_or waiting w 0 ≡ 0 → ⊥) → AddsOnly n (InWord w bits) (board marked waiting stack top) (board (joined marked w bits) (joined waiting w new) stack top)
+  pub mark_beside : (get_or waiting w 0 ≡ 0 → ⊥) → AddsOnly n (InWord w bits) (board marked waiting stack top lent) (board (joined marked w bits) (joined waiting w new) stack top lent)
   mark_beside h = joins (stacked_same t.stacked (joined waiting w new) long' (λ v l. go v (ℕ_discrete v w)))
     where
       some : 0 < get_or (joined waiting w new) w 0
@@ -109,7 +112,7 @@ module _ {n : ℕ} {marked waiting stack : List ℕ} {top w : ℕ} (t : Table n 
         let b : new ≢ 0 = λ q. e (sym (xor_equal (get_or marked w 0) (bit_or (get_or marked w 0) bits) q)) in
         omega arith
 
-    pub mark_first : AddsOnly n (InWord w bits) (board marked waiting stack top) (board (joined marked w bits) (joined waiting w new) (set stack top w) (top + 1))
+    pub mark_first : AddsOnly n (InWord w bits) (board marked waiting stack top lent) (board (joined marked w bits) (joined waiting w new) (set stack top w) (top + 1) lent)
     mark_first = joins (stacked_push t.stacked (joined waiting w new) long' w lt z first other_n)
 
     pub first_room : top < length stack
@@ -137,9 +140,12 @@ module _ {n : ℕ} {waiting stack : List ℕ} {top : ℕ} (d : Stacked n waiting
     cut_long : n ≤ length (cut waiting (get_or stack (top - 1) 0))
     cut_long = simp length-set d.long
 
-    takes : {top' : ℕ} → Stacked n (cut waiting (get_or stack (top - 1) 0)) stack top'
-        → Takes n (λ x. x ≡ first_in waiting (get_or stack (top - 1) 0)) waiting stack (cut waiting (get_or stack (top - 1) 0)) top'
+    takes : {marked : List ℕ} {lent : ℕ × ℕ × ℕ} {top' : ℕ} → Stacked n (cut waiting (get_or stack (top - 1) 0)) stack top'
+        → Takes n (λ x. x ≡ first_in waiting (get_or stack (top - 1) 0)) (board marked waiting stack top lent) (board marked (cut waiting (get_or stack (top - 1) 0)) stack top' lent)
     takes a = record {
+      lent = record { is = refl };
+      marked = refl;
+      stack = refl;
       after = a;
       some = first_in waiting (get_or stack (top - 1) 0);
       some_is = refl;
@@ -163,13 +169,13 @@ module _ {n : ℕ} {waiting stack : List ℕ} {top : ℕ} (d : Stacked n waiting
         which x h g (no n) = absurd (let y = cut_other waiting (get_or stack (top - 1) 0) in_list top_waits fits x n in omega arith)
 
     -- It was the last of its word.
-    pub take_last : cleared (get_or waiting (get_or stack (top - 1) 0) 0) ≡ 0
-        → Takes n (λ x. x ≡ first_in waiting (get_or stack (top - 1) 0)) waiting stack (cut waiting (get_or stack (top - 1) 0)) (top - 1)
+    pub take_last : {marked : List ℕ} {lent : ℕ × ℕ × ℕ} → cleared (get_or waiting (get_or stack (top - 1) 0) 0) ≡ 0
+        → Takes n (λ x. x ≡ first_in waiting (get_or stack (top - 1) 0)) (board marked waiting stack top lent) (board marked (cut waiting (get_or stack (top - 1) 0)) stack (top - 1) lent)
     take_last z = takes (stacked_pop d (cut waiting (get_or stack (top - 1) 0)) cut_long some (now_word ∙ z) other_word)
 
     -- Others of its word wait.
-    pub take_one : (cleared (get_or waiting (get_or stack (top - 1) 0) 0) ≡ 0 → ⊥)
-        → Takes n (λ x. x ≡ first_in waiting (get_or stack (top - 1) 0)) waiting stack (cut waiting (get_or stack (top - 1) 0)) top
+    pub take_one : {marked : List ℕ} {lent : ℕ × ℕ × ℕ} → (cleared (get_or waiting (get_or stack (top - 1) 0) 0) ≡ 0 → ⊥)
+        → Takes n (λ x. x ≡ first_in waiting (get_or stack (top - 1) 0)) (board marked waiting stack top lent) (board marked (cut waiting (get_or stack (top - 1) 0)) stack top lent)
     take_one z = takes (stacked_same d (cut waiting (get_or stack (top - 1) 0)) cut_long (λ v l. go v (ℕ_discrete v (get_or stack (top - 1) 0))))
       where
         go : (v : ℕ) → Dec (v ≡ get_or stack (top - 1) 0) → min 1 (get_or waiting v 0) ≡ min 1 (get_or (cut waiting (get_or stack (top - 1) 0)) v 0)
@@ -178,8 +184,12 @@ module _ {n : ℕ} {waiting stack : List ℕ} {top : ℕ} (d : Stacked n waiting
         go v (no n) = let a = other_word v n in omega arith
 
     -- All of its word.
-    pub take_all : Takes n (InWord (get_or stack (top - 1) 0) (get_or waiting (get_or stack (top - 1) 0) 0)) waiting stack (set waiting (get_or stack (top - 1) 0) 0) (top - 1)
+    pub take_all : {marked : List ℕ} {lent : ℕ × ℕ × ℕ} → Takes n (InWord (get_or stack (top - 1) 0) (get_or waiting (get_or stack (top - 1) 0) 0)) (board marked waiting stack top lent)
+        (board marked (set waiting (get_or stack (top - 1) 0) 0) stack (top - 1) lent)
     take_all = record {
+      lent = record { is = refl };
+      marked = refl;
+      stack = refl;
       after = stacked_pop d (set waiting (get_or stack (top - 1) 0) 0) (simp length-set d.long) some (get_or-set_same waiting (get_or stack (top - 1) 0) 0 0 in_list)
           (λ v n. get_or-set_other waiting (get_or stack (top - 1) 0) v 0 0 n);
       some = first_in waiting (get_or stack (top - 1) 0);
@@ -208,28 +218,20 @@ module _ {n : ℕ} {waiting stack : List ℕ} {top : ℕ} (d : Stacked n waiting
 
 -- ---- numbers are cleared
 
-pub record Zeroed (i : ℕ) (table table' : List ℕ) : Type 0 where
-  pub long : length table' ≡ length table
-  pub below : (w : ℕ) → w < i → get_or table' w 0 ≡ 0
-  pub above : (w : ℕ) → i ≤ w → get_or table' w 0 ≡ get_or table w 0
-
-pub zeroed_start : {table : List ℕ} → Zeroed 0 table table
-zeroed_start = record { long = refl; below = λ w l. absurd (omega arith); above = λ w l. refl }
-
-pub zeroed_again : {i : ℕ} {table table' : List ℕ} → Zeroed i table table' → i < length table → Zeroed (i + 1) table (set table' i 0)
-zeroed_again {i} {table} {table'} z l = record {
-  long = length-set table' i 0 ∙ z.long;
-  below = λ w h. go w h (ℕ_discrete w i);
-  above = λ w h. get_or-set_other table' i w 0 0 (λ p. omega arith) ∙ z.above w (omega arith);
-}
-  where
-    go : (w : ℕ) → w < i + 1 → Dec (w ≡ i) → get_or (set table' i 0) w 0 ≡ 0
-    go w h (yes p) = let a = z.long in ap (λ x. get_or (set table' i 0) x 0) p ∙ get_or-set_same table' i 0 0 (omega arith)
-    go w h (no n) = get_or-set_other table' i w 0 0 n ∙ z.below w (omega arith)
-
-pub zeroed_done : {i n : ℕ} {table table' : List ℕ} → Zeroed i table table' → i ≡ n → Cleared (n * 64) table table'
+pub words_cleared : (n : ℕ) (zeros table : List ℕ) → zeros ≡ replicate n 0 → Cleared (n * 64) table (zeros ++ drop n table)
 unfolding mark
-zeroed_done {i} {n} {table} {table'} z e = record {
-  below = λ x l. zero_word table' x (z.below (x / 64) (omega arith));
-  above = λ x l. ap (bit (x % 64)) (z.above (x / 64) (omega arith));
-}
+words_cleared n zeros table e = record { below = λ x l. below x l; above = λ x l. ap (bit (x % 64)) (above (x / 64) (omega arith)) }
+  where
+    all : length zeros ≡ n
+    all = ap length e ∙ length-replicate n 0
+
+    below : (x : ℕ) → x < n * 64 → mark (zeros ++ drop n table) x ≡ 0
+    below x l =
+        let a = all in
+        zero_word (zeros ++ drop n table) x (get_or-append zeros (drop n table) 0 (x / 64) (omega arith) ∙ ap (λ y. get_or y (x / 64) 0) e
+        ∙ get_or-replicate n (x / 64) 0 0 (omega arith))
+
+    above : (w : ℕ) → n ≤ w → get_or (zeros ++ drop n table) w 0 ≡ get_or table w 0
+    above w l =
+        get_or-append_right zeros (drop n table) n w 0 all l ∙ get_or-drop n table (w - n) 0
+        ∙ ap (λ i. get_or table i 0) (let e : n + (w - n) ≡ w = omega arith in e)

@@ -2,18 +2,85 @@
 // wait are on a stack, each once.
 #![tactic(auto)]
 
-ghost use Rattle.std.specs.Prelude.{eqb, length, ◌≡◌, ◌*◌, ◌-◌, ◌/◌, ◌<◌, ◌≤◌};
-ghost use Rattle.worklist.specs.Table.{AddsOnly, Cleared, ForStacked, ForTable, InWord, SomeStacked, SomeTable, Takes, board, mark as marked};
+ghost use Rattle.std.specs.Prelude.{eqb, length, ◌≡◌, ◌*◌, ◌/◌, ◌<◌, ◌≤◌};
+ghost use Rattle.worklist.specs.Table.{AddsOnly, Cleared, ForStacked, ForTable, InWord, SomeStacked, SomeTable, TakesNumber, TakesWord, board_of, mark as marked};
 
 use meaning::WORD_BITS;
 
-// A number that was taken, and how many words are left on the stack.
+// The words of the set, those of its numbers that wait, and the words in which some wait: `top` of them.
 #[derive(Drop)]
-pub struct Taken(pub usize, pub usize);
+pub struct Board<'a> {
+    pub marked: &'a mut [u64],
+    pub waiting: &'a mut [u64],
+    pub stack: &'a mut [u16],
+    pub top: usize,
+}
 
-// A word, and numbers of it.
-#[derive(Drop)]
-pub struct Word(pub usize, pub u64);
+impl<'a> Board<'a> {
+    // Marks the numbers of the word w that the bits say. Those that were not marked wait, and the word is on the stack.
+    pub fn mark_word(&mut self, w: usize, bits: u64)
+        requires { SomeTable w (board_of self.old) }
+        ensures { ForTable w (board_of self.old) (λ n. AddsOnly n (InWord w bits) (board_of self.old) (board_of self.new)) }
+    {
+        let old = self.marked[w];
+        let all = old | bits;
+        if all == old {
+            return;
+        }
+        self.marked[w] = all;
+        let before = self.waiting[w];
+        self.waiting[w] = before | (old ^ all);
+        if before != 0 {
+            return;
+        }
+        self.stack[self.top] = w as u16;
+        self.top += 1;
+    }
+
+    // Marks x.
+    pub fn mark(&mut self, x: usize)
+        requires { SomeTable (x / 64) (board_of self.old) }
+        ensures { ForTable (x / 64) (board_of self.old) (λ n. AddsOnly n (λ y. y ≡ x) (board_of self.old) (board_of self.new)) }
+    {
+        self.mark_word(x / WORD_BITS, 1u64 << (x % WORD_BITS));
+    }
+
+    // Takes a number that waits. None says that none waits: the board is as it was.
+    pub fn take(&mut self) -> Option<usize>
+        requires { SomeStacked (board_of self.old) }
+        ensures { ForStacked (board_of self.old) (λ n. TakesNumber n result (board_of self.old) (board_of self.new)) }
+    {
+        if self.top == 0 {
+            return None;
+        }
+        let w = self.stack[self.top - 1] as usize;
+        let all = self.waiting[w];
+        // Members lowest first, by trailing_zeros: a form that document 01 names.
+        let x = w * WORD_BITS + u64::trailing_zeros(all) as usize;
+        let left = all & (all - 1);
+        self.waiting[w] = left;
+        if left == 0 {
+            self.top -= 1;
+        }
+        Some(x)
+    }
+
+    // Takes the numbers that wait in one word: the word, and bits that say which. None says that none waits: the board is as
+    // it was.
+    pub fn take_word(&mut self) -> Option<(usize, u64)>
+        requires { SomeStacked (board_of self.old) }
+        ensures { ForStacked (board_of self.old) (λ n. TakesWord n result (board_of self.old) (board_of self.new)) }
+    {
+        if self.top == 0 {
+            return None;
+        }
+        self.top -= 1;
+        let w = self.stack[self.top] as usize;
+        let bits = self.waiting[w];
+        self.waiting[w] = 0;
+        Some((w, bits))
+    }
+}
 
 // Whether x is in the table.
 pub fn has(table: &[u64], x: usize) -> bool
@@ -23,90 +90,10 @@ pub fn has(table: &[u64], x: usize) -> bool
     (table[x / WORD_BITS] >> (x % WORD_BITS)) % 2 == 1
 }
 
-// Marks the numbers of the word w that the bits say. Those that were not marked wait, and the word is on the stack.
-pub fn mark_word(
-    w: usize,
-    bits: u64,
-    table: &mut [u64],
-    waiting: &mut [u64],
-    stack: &mut [u16],
-    top: usize,
-) -> usize
-    requires { SomeTable w (board table.old waiting.old stack.old top) }
-    ensures { ForTable w (board table.old waiting.old stack.old top) (λ n. AddsOnly n (InWord w bits)
-        (board table.old waiting.old stack.old top) (board table.new waiting.new stack.new result)) }
-{
-    let old = table[w];
-    let all = old | bits;
-    if all == old {
-        return top;
-    }
-    table[w] = all;
-    let before = waiting[w];
-    waiting[w] = before | (old ^ all);
-    if before != 0 {
-        return top;
-    }
-    stack[top] = w as u16;
-    top + 1
-}
-
-// Marks x.
-pub fn mark(
-    x: usize,
-    table: &mut [u64],
-    waiting: &mut [u64],
-    stack: &mut [u16],
-    top: usize,
-) -> usize
-    requires { SomeTable (x / 64) (board table.old waiting.old stack.old top) }
-    ensures { ForTable (x / 64) (board table.old waiting.old stack.old top) (λ n. AddsOnly n (λ y. y ≡ x)
-        (board table.old waiting.old stack.old top) (board table.new waiting.new stack.new result)) }
-{
-    mark_word(
-        x / WORD_BITS,
-        1u64 << (x % WORD_BITS),
-        table,
-        waiting,
-        stack,
-        top,
-    )
-}
-
-// Takes a number that waits.
-pub fn take(waiting: &mut [u64], stack: &[u16], top: usize) -> Taken
-    requires { (0 < top) × SomeStacked waiting.old stack.now top }
-    ensures { ForStacked waiting.old stack.now top (λ n. Takes n (λ x. x ≡ result.0) waiting.old stack.now waiting.new result.1) }
-{
-    let w = stack[top - 1] as usize;
-    let all = waiting[w];
-    let x = w * WORD_BITS + u64::trailing_zeros(all) as usize;
-    let left = all & (all - 1);
-    waiting[w] = left;
-    if left == 0 {
-        return Taken(x, top - 1);
-    }
-    Taken(x, top)
-}
-
-// Takes the numbers that wait in one word.
-pub fn take_word(waiting: &mut [u64], stack: &[u16], top: usize) -> Word
-    requires { (0 < top) × SomeStacked waiting.old stack.now top }
-    ensures { ForStacked waiting.old stack.now top (λ n. (result.0 < n)
-        × Takes n (InWord result.0 result.1) waiting.old stack.now waiting.new (top - 1)) }
-{
-    let w = stack[top - 1] as usize;
-    let bits = waiting[w];
-    waiting[w] = 0;
-    Word(w, bits)
-}
-
 // Takes the numbers of the first words out of the table.
 pub fn clear_words(table: &mut [u64], words: usize)
     requires { words ≤ length table.old }
     ensures { Cleared (words * 64) table.old table.new }
 {
-    for i in 0..words {
-        table[i] = 0;
-    }
+    table[..words].fill(0);
 }

@@ -6,19 +6,19 @@ ghost use Rattle.yes_no.specs.Answer.{YesNoAnswers};
 ghost use Rattle.yes_no.specs.Inner.{Comes, Room};
 
 use calls::long_enough;
-use construct::{Constructed, refused};
 use evaluate::yes::yes;
+use graph::Size;
+use meaning::refusal::Refusal;
 use meaning::{
     HEADS_LENGTH, INDEX_LENGTH, MAX_PARTS, MAX_QUERY_BYTES, NODE_LIST_LENGTH, ROWS_LENGTH,
     STATE_WORDS, TRIPLE_LIST_LENGTH,
 };
 use prepare::prepare;
-use sets::buffers::{clear_u16, clear_u64};
 
-// What the pack comes to, and the answer.
-#[derive(Drop)]
+// How many nodes and triples the pack's graph has, and the answer.
+#[derive(Clone, Copy)]
 pub struct YesNo {
-    pub graph: Constructed,
+    pub size: Size,
     pub yes: bool,
 }
 
@@ -34,7 +34,7 @@ fn answer(
     alive: &mut [u64],
     waiting: &mut [u64],
     stack: &mut [u16],
-) -> YesNo
+) -> Result<YesNo, Refusal>
     requires { Room nodes.old triples.old index.old rows.old heads.old alive.old waiting.old stack.old }
     ensures { Comes pack.now query.now result (lent nodes) (lent triples) (lent index) }
 {
@@ -50,26 +50,23 @@ fn answer(
         index,
         rows,
         heads,
-    );
-    let graph = prepared.graph;
-    if graph.refusal != 0 {
-        return YesNo { graph, yes: false };
-    }
-    clear_u64(alive);
-    clear_u64(waiting);
+    )?;
+    let size = prepared.size;
+    alive.fill(0);
+    waiting.fill(0);
     let yes = yes(
         &tree[..],
         prepared.parts,
         &wanted[..],
         &nodes[..],
-        graph.nodes,
+        size.nodes,
         &triples[..],
-        graph.triples,
+        size.triples,
         alive,
         waiting,
         stack,
     );
-    YesNo { graph, yes }
+    Ok(YesNo { size, yes })
 }
 
 // What each list and buffer must hold at least, in the order in which they are lent.
@@ -97,7 +94,7 @@ pub fn yes_no(
     alive: &mut [u64],
     waiting: &mut [u64],
     stack: &mut [u16],
-) -> YesNo
+) -> Result<YesNo, Refusal>
     ensures { YesNoAnswers pack.now query.now result (lent nodes) (lent triples) (lent index) (lent rows) (lent heads)
         (lent alive) (lent waiting) (lent stack) }
 {
@@ -113,18 +110,15 @@ pub fn yes_no(
         stack.len(),
     ];
     if !long_enough(&asked, &lengths) {
-        return YesNo {
-            graph: refused(1),
-            yes: false,
-        };
+        return Err(Refusal::ShortBuffer);
     }
     let said = answer(
         pack, query, nodes, triples, index, rows, heads, alive, waiting, stack,
     );
-    clear_u16(rows);
-    clear_u64(heads);
-    clear_u64(alive);
-    clear_u64(waiting);
-    clear_u16(stack);
+    rows.fill(0);
+    heads.fill(0);
+    alive.fill(0);
+    waiting.fill(0);
+    stack.fill(0);
     said
 }

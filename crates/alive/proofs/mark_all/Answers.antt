@@ -1,39 +1,42 @@
 -- `alive::mark_all` meets its contract. Assumes nothing.
-use mathlib.Core.Path.{refl, subst, ◌∙◌}
+use mathlib.Core.Path.{subst, sym, ◌≡◌}
 use native.Mathlib.Omega.{arith}
 use Rattle.meaning.specs.Limits.{state_words}
-use Rattle.worklist.proofs.Growth.{turn_left, turn_marked, turn_table}
-use Rattle.worklist.specs.Table.{Stacked}
-use Rattle.alive.proofs.Growing.{grow_again, grow_done, grow_start}
+use Rattle.worklist.proofs.Growth.{same_start, same_then, turn_left, turn_table}
+use Rattle.states.specs.Lists.{lists_of}
+use Rattle.states.specs.Living.{Living}
+use Rattle.worklist.specs.Table.{Same, Stacked, board_of}
+use Rattle.alive.proofs.Growing.{grow_again, grow_done, grow_start, taken_alive, taken_marked}
 use Rattle.alive.proofs.mark_all.Goals as goal
 
-pub mark_ends-top-requires : goal.mark_ends-top-requires
-mark_ends-top-requires c = let a = c.requires.0.0.graph.few_nodes in
+pub mark_ends-requires : goal.mark_ends-requires
+mark_ends-requires c = let a = c.requires.0.0.graph.few_nodes in
     let b = c.requires.0.0.query.few in
     ((omega arith, omega arith), c.requires.1)
 
-pub loop-top-init : goal.loop-top-init
-loop-top-init c = (refl, refl, refl, grow_start c.requires.0.0 c.requires.1 c.mark_ends-top.ensures)
+pub loop-w-init : goal.loop-w-init
+loop-w-init c = (grow_start c.requires.0.0 c.requires.1 c.mark_ends.ensures, same_start)
 
-pub take_word-word-requires : goal.take_word-word-requires
-take_word-word-requires c = (omega arith, (_, c.loop-top.invariant.3.marks.stacked))
+pub take_word-requires : goal.take_word-requires
+take_word-requires c = (_, c.loop-w.invariant.0.marks.stacked)
 
-pub mark_back-top-requires : goal.mark_back-top-requires
-mark_back-top-requires c = let k = c.take_word-word.ensures state_words c.loop-top.invariant.3.marks.stacked in
-    (c.requires.0, ((c.loop-top.invariant.3.sound, (k.0, turn_marked c.loop-top.invariant.3.marks k.1)), turn_table c.loop-top.invariant.3.marks k.1))
+pub mark_back-requires : goal.mark_back-requires
+mark_back-requires c = let g = c.loop-w.invariant.0 in
+    let k = c.in-Some.ensures state_words g.marks.stacked in
+    (c.requires.0, ((taken_alive c.requires.0.0 g k.3, (k.2, taken_marked c.requires.0.0 g k.3)), turn_table g.marks k.3))
 
-pub loop-top-smaller : goal.loop-top-smaller
-loop-top-smaller c = let k = c.take_word-word.ensures state_words c.loop-top.invariant.3.marks.stacked in
-    turn_left c.loop-top.invariant.3.marks k.1 c.mark_back-top.ensures
+pub loop-w-smaller : goal.loop-w-smaller
+loop-w-smaller c = let g = c.loop-w.invariant.0 in
+    let k = c.in-Some.ensures state_words g.marks.stacked in
+    turn_left g.marks k.3 c.mark_back.ensures
 
-pub loop-top-preserved : goal.loop-top-preserved
-loop-top-preserved c = let k = c.take_word-word.ensures state_words c.loop-top.invariant.3.marks.stacked in (
-  c.mark_back-top.auto.alive ∙ c.loop-top.invariant.0,
-  c.mark_back-top.auto.waiting
-      ∙ c.take_word-word.auto.waiting ∙ c.loop-top.invariant.1,
-  c.mark_back-top.auto.stack ∙ c.loop-top.invariant.2,
-  grow_again c.requires.0.0 c.loop-top.invariant.3 k.1 c.mark_back-top.ensures,
-)
+pub loop-w-preserved : goal.loop-w-preserved
+loop-w-preserved c = let g = c.loop-w.invariant.0 in
+    let k = c.in-Some.ensures state_words g.marks.stacked in
+    (grow_again c.requires.0.0 g k.3 c.mark_back.ensures, same_then c.loop-w.invariant.1 (same_then k.3.lent c.mark_back.ensures.lent))
 
 pub returns : goal.returns
-returns c = (grow_done c.requires.0.0 c.loop-top.invariant.3 (omega arith), subst (Stacked state_words _ _) (omega arith) c.loop-top.invariant.3.marks.stacked)
+returns c = let g = c.loop-w.invariant.0 in
+    let k = c.in_default.ensures state_words g.marks.stacked in
+    subst (λ b. Living (lists_of c.args.lists.now) b.marked × Stacked state_words b.waiting b.stack 0 × (b.top ≡ 0) × Same (board_of c.args.board.now) b) (sym k.1)
+    (grow_done c.requires.0.0 g k.0, subst (Stacked state_words _ _) k.0 g.marks.stacked, k.0, same_then c.mark_ends.ensures.lent c.loop-w.invariant.1)

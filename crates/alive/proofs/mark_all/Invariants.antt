@@ -1,14 +1,11 @@
-use lib.ListN.{length}
-use mathlib.Core.Path.{◌≡◌}
 use Rattle.meaning.specs.Limits.{state_words}
-use Rattle.states.specs.Lists.{lists}
-use Rattle.worklist.specs.Table.{board, left}
+use Rattle.states.specs.Lists.{lists_of}
+use Rattle.worklist.specs.Table.{Same, board_of, left}
 use Rattle.alive.proofs.Growing.{Growing}
 use Rattle.alive.proofs.mark_all.Given as goal
 
-abbrev pub invariant-loop-top : goal.invariant-loop-top
-invariant-loop-top l = (length l.alive ≡ length l.initial.alive) × (length l.waiting ≡ length l.initial.waiting) × (length l.stack ≡ length l.initial.stack)
-    × Growing (lists l.sizes l.triples l.tree l.next l.wanted) (board l.alive l.waiting l.stack l.top)
+abbrev pub invariant-loop-w : goal.invariant-loop-w
+invariant-loop-w l = Growing (lists_of l.lists) (board_of l.board) × Same (board_of l.initial.board) (board_of l.board)
 
-abbrev pub decreases-loop-top : goal.decreases-loop-top
-decreases-loop-top l = left state_words (board l.alive l.waiting l.stack l.top)
+abbrev pub decreases-loop-w : goal.decreases-loop-w
+decreases-loop-w l = left state_words (board_of l.board)

@@ -1,13 +1,14 @@
 -- `answers::some_joined` meets its contract. Assumes nothing.
 use native.Mathlib.Omega.{arith}
 use Rattle.alive.proofs.Growing.{some_yes}
+use Rattle.answers.proofs.Lists.{list_ready}
 use Rattle.answers.proofs.some_joined.Goals as goal
 
 pub list_by_object-requires : goal.list_by_object-requires
-list_by_object-requires c = let p = c.requires in ((p.fits.graph, p.predicates), p.lists)
+list_by_object-requires c = let p = c.requires in ((p.fits.graph, p.predicates), list_ready p.fits.graph)
 
 pub mark_alive-requires : goal.mark_alive-requires
-mark_alive-requires c = ((c.requires.fits, c.list_by_object.ensures), c.requires.unmarked)
+mark_alive-requires c = ((c.requires.fits, c.list_by_object.ensures), c.requires.blank)
 
 pub some_alive-requires : goal.some_alive-requires
 some_alive-requires c = let p = c.requires.fits in

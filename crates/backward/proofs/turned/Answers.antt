@@ -10,7 +10,7 @@ pub first_number-requires : goal.first_number-requires
 first_number-requires c = c.requires.0.0.in_tree
 
 pub returns-then-kind-eq-SEQUENCE : goal.returns-then-kind-eq-SEQUENCE
-returns-then-kind-eq-SEQUENCE c = turned_sequence c.args.tree.now c.args.alive.now c.args.i c.args.block (get_or c.args.next.now c.args.i 0)
+returns-then-kind-eq-SEQUENCE c = turned_sequence c.args.lists.now.tree.now c.args.board.now.marked.now c.args.i c.args.block (get_or c.args.lists.now.next.now c.args.i 0)
     (sym c.requires.0.1.0 ∙ c.if-kind-eq-SEQUENCE.true) _ c.first_number.ensures
 
 pub overflow_sub-result : goal.overflow_sub-result
@@ -21,7 +21,7 @@ overflow_sub-result c = let k = c.requires.0.1 in
 pub returns-then-kind-ge-SEQUENCE : goal.returns-then-kind-ge-SEQUENCE
 returns-then-kind-ge-SEQUENCE c = let k = c.requires.0.1.0 in
     let h = c.requires.0.0.kind in
-    turned_union c.args.tree.now c.args.alive.now c.args.i c.args.block (get_or c.args.next.now c.args.i 0) (omega arith) _
+    turned_union c.args.lists.now.tree.now c.args.board.now.marked.now c.args.i c.args.block (get_or c.args.lists.now.next.now c.args.i 0) (omega arith) _
     c.first_number.ensures
 
 pub overflow_sub-body : goal.overflow_sub-body
@@ -30,9 +30,9 @@ overflow_sub-body c = let k = c.requires.0.1 in
     omega arith
 
 pub returns-then-kind-eq-NESTED : goal.returns-then-kind-eq-NESTED
-returns-then-kind-eq-NESTED c = turned_test c.args.tree.now c.args.alive.now c.args.i c.args.block (get_or c.args.next.now c.args.i 0)
+returns-then-kind-eq-NESTED c = turned_test c.args.lists.now.tree.now c.args.board.now.marked.now c.args.i c.args.block (get_or c.args.lists.now.next.now c.args.i 0)
     (sym c.requires.0.1.0 ∙ c.if-kind-eq-NESTED.true)
 
 pub returns : goal.returns
 returns c = let k = c.requires.0.1 in
-    turned_star c.args.tree.now c.args.alive.now c.args.i c.args.block (get_or c.args.next.now c.args.i 0) (omega arith)
+    turned_star c.args.lists.now.tree.now c.args.board.now.marked.now c.args.i c.args.block (get_or c.args.lists.now.next.now c.args.i 0) (omega arith)

@@ -3,4 +3,4 @@ use Rattle.construct.proofs.FromSteps.{is_resolved}
 use Rattle.cases.proofs.first_refusal.Goals as goal
 
 pub is_broken-requires : goal.is_broken-requires
-is_broken-requires c = is_resolved (c.check-checked.ensures.loaded c.if-checked-ne0.false)
+is_broken-requires c = is_resolved c.in_ok-counts.ensures

@@ -1,62 +1,22 @@
 -- `clash::clash_records` meets its contract. Assumes nothing.
-use lib.ListN.{length-set}
+use mathlib.Core.Path.{refl}
 use native.Mathlib.Omega.{arith}
 use Prim.Native.Nat.{◌+◌}
-use Rattle.clash.proofs.ClashRecords.{clash_written, kept_set, key_small, object_place, subject_place}
+use Rattle.clash.proofs.ClashRecords.{clash_written, first_at, object_place, second_at, subject_place}
+use Rattle.meaning.proofs.Lists.Overwriting.{written_as}
 use Rattle.clash.proofs.clash_records.Goals as goal
 
-pub offset_bounds-nodes-s : goal.offset_bounds-nodes-s
-offset_bounds-nodes-s c = omega (arith, subject_place c.requires.0 c.args.i (omega (arith, c.requires.2)), c.requires.0.few)
+pub record_at-requires : goal.record_at-requires
+record_at-requires c = (c.requires.0, subject_place c.args.core.now.fits c.args.i (omega (arith, c.requires.1)))
 
-pub bounds-nodes-s : goal.bounds-nodes-s
-bounds-nodes-s c = subject_place c.requires.0 c.args.i (omega (arith, c.requires.2))
+pub record_at-requires-2 : goal.record_at-requires-2
+record_at-requires-2 c = (c.requires.0, object_place c.args.core.now.fits c.args.i (omega (arith, c.requires.1)))
 
-pub offset_bounds-masks-s : goal.offset_bounds-masks-s
-offset_bounds-masks-s c = omega (arith, subject_place c.requires.0 c.args.i (omega (arith, c.requires.2)), c.requires.0.few)
-
-pub bounds-masks-s : goal.bounds-masks-s
-bounds-masks-s c = omega (arith, subject_place c.requires.0 c.args.i (omega (arith, c.requires.2)), c.requires.0.long)
-
-pub write_core_node-requires : goal.write_core_node-requires
-write_core_node-requires c = (key_small c.requires.1 _ (subject_place c.requires.0 c.args.i (omega (arith, c.requires.2))), omega arith, omega (arith, c.requires.3))
-
-pub bounds-nodes-a : goal.bounds-nodes-a
-bounds-nodes-a c = object_place c.requires.0 c.args.i (omega (arith, c.requires.2))
-
-pub bounds-masks-a : goal.bounds-masks-a
-bounds-masks-a c = omega (arith, object_place c.requires.0 c.args.i (omega (arith, c.requires.2)), c.requires.0.long)
-
-pub write_core_node-requires-2 : goal.write_core_node-requires-2
-write_core_node-requires-2 c = (key_small c.requires.1 _ (object_place c.requires.0 c.args.i (omega (arith, c.requires.2))), omega arith, simp length-set (omega (arith, c.requires.3)))
-
-pub bounds-nodes-b : goal.bounds-nodes-b
-bounds-nodes-b c = object_place c.requires.0 (c.args.i + 1) c.requires.2
-
-pub bounds-masks-b : goal.bounds-masks-b
-bounds-masks-b c = omega (arith, object_place c.requires.0 (c.args.i + 1) c.requires.2, c.requires.0.long)
-
-pub write_core_node-requires-3 : goal.write_core_node-requires-3
-write_core_node-requires-3 c = (
-  key_small c.requires.1 _ (object_place c.requires.0 (c.args.i + 1) c.requires.2),
-  omega arith,
-  omega (
-    arith,
-    kept_set _ c.write_core_node.new.out 7 _ c.write_core_node-2.auto.out,
-    c.write_core_node.auto.out,
-    c.requires.3,
-  ),
-)
-
-pub shape_of-out : goal.shape_of-out
-shape_of-out c = let write-core-node = c.write_core_node in
-    let write-core-node2 = c.write_core_node-2 in
-    omega (
-      arith,
-      c.write_core_node-3.auto.out,
-      kept_set _ write-core-node.new.out 7 _ write-core-node2.auto.out,
-      write-core-node.auto.out,
-    )
+pub record_at-requires-3 : goal.record_at-requires-3
+record_at-requires-3 c = (c.requires.0, object_place c.args.core.now.fits (c.args.i + 1) c.requires.1)
 
 pub returns : goal.returns
-returns c = λ P table I ar x. clash_written I c.args.arities ar c.args.out.now _ _ _ c.requires.3 c.write_core_node.ensures
-    c.write_core_node-2.ensures c.write_core_node-3.ensures x
+returns c = λ P table I ar x. clash_written I c.args.arities ar _ _ _ _ refl
+    (written_as 0 _ _ _ _ c.write_record.ensures c.record_at.ensures)
+    (written_as first_at _ _ _ _ c.write_record-2.ensures c.record_at-2.ensures)
+    (written_as second_at _ _ _ _ c.write_record-3.ensures c.record_at-3.ensures) x

@@ -4,4 +4,4 @@ use Rattle.clash.proofs.ClashLaws.{Searched}
 use Rattle.clash.proofs.find_clash.Given as goal
 
 abbrev pub invariant-loop-i : goal.invariant-loop-i
-invariant-loop-i l = (l.i-end ≡ length l.triples) × Searched l.shapes l.triples l.masks l.i
+invariant-loop-i l = (l.i-end ≡ length l.core.triples.now) × Searched l.shapes l.core.triples.now l.core.masks.now l.i

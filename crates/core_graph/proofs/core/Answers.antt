@@ -4,6 +4,7 @@ use lib.ListN.{length-take}
 use mathlib.Core.Logic.{inl, inr}
 use mathlib.Core.Path.{◌∙◌}
 use native.Mathlib.Omega.{arith}
+use Rattle.std.proofs.lemmas.Result.{err_from_is_err_and}
 use Rattle.core_graph.proofs.AllPasses.{all_placed, core_listed, known_rules}
 use Rattle.core_graph.proofs.core.Goals as goal
 
@@ -14,44 +15,46 @@ few : (n k : ℕ) (d : List ℕ) → n ≤ length d → length d ≡ k → lengt
 few n k d h e = omega (arith, length-take n d, h, e)
 
 pub slice_bounds-triples-end : goal.slice_bounds-triples-end
-slice_bounds-triples-end c = c.in-Count.ensures.grown.fits
+slice_bounds-triples-end c = c.in_ok-n.ensures.grown.fits
 
-pub slice_bounds-triples-end-in-Count : goal.slice_bounds-triples-end-in-Count
-slice_bounds-triples-end-in-Count c = exact _ _ c.in-Count.ensures.grown.fits
+pub slice_bounds-triples-end-2 : goal.slice_bounds-triples-end-2
+slice_bounds-triples-end-2 c = exact _ _ c.in_ok-n.ensures.grown.fits
 
-pub triples-linked-requires : goal.triples-linked-requires
-triples-linked-requires c = let g = c.in-Count.ensures.grown in
-    (c.requires.1, g.list.ascending, few _ _ _ g.fits (c.nodes-listed.auto.nodes ∙ c.requires.2), c.requires.3)
+pub triples-requires : goal.triples-requires
+triples-requires c = let g = c.in_ok-n.ensures.grown in
+    (g.list.ascending, few _ _ _ g.fits (c.nodes.auto.nodes ∙ c.requires.1), c.requires.2)
 
 pub slice_bounds-typing-end : goal.slice_bounds-typing-end
-slice_bounds-typing-end c = c.in-Count.ensures.grown.fits
+slice_bounds-typing-end c = c.in_ok-n.ensures.grown.fits
 
-pub slice_bounds-typing-end-in-Count-linked : goal.slice_bounds-typing-end-in-Count-linked
-slice_bounds-typing-end-in-Count-linked c = exact _ _ c.in-Count.ensures.grown.fits
+pub slice_bounds-typing-end-2 : goal.slice_bounds-typing-end-2
+slice_bounds-typing-end-2 c = exact _ _ c.in_ok-n.ensures.grown.fits
 
-pub slice_bounds-typing-end-in-Count-linked-2 : goal.slice_bounds-typing-end-in-Count-linked-2
-slice_bounds-typing-end-in-Count-linked-2 c = c.in-Count-linked.ensures.grown.fits
+pub slice_bounds-typing-end-3 : goal.slice_bounds-typing-end-3
+slice_bounds-typing-end-3 c = c.in_ok-t.ensures.grown.fits
 
-pub slice_bounds-typing-end-in-Count-linked-3 : goal.slice_bounds-typing-end-in-Count-linked-3
-slice_bounds-typing-end-in-Count-linked-3 c = exact _ _ c.in-Count-linked.ensures.grown.fits
+pub slice_bounds-typing-end-4 : goal.slice_bounds-typing-end-4
+slice_bounds-typing-end-4 c = exact _ _ c.in_ok-t.ensures.grown.fits
 
 pub typing-rounds-requires : goal.typing-rounds-requires
 typing-rounds-requires c =
     let s = c.requires in
-    let n = c.in-Count.ensures.grown in
-    let t = c.in-Count-linked.ensures.grown in
-    let few_nodes = few _ _ _ n.fits (c.nodes-listed.auto.nodes ∙ s.2) in
-    let k = known_rules s.1 n in
-    (s.0, s.1, n.list.ascending, few_nodes, k, all_placed s.1 _ n.list.ascending few_nodes k t, few _ _ _ t.fits (c.triples-linked.auto.triples ∙ s.3), s.4, s.5)
+    let n = c.in_ok-n.ensures.grown in
+    let t = c.in_ok-t.ensures.grown in
+    let few_nodes = few _ _ _ n.fits (c.nodes.auto.nodes ∙ s.1) in
+    let fit = c.args.heads.now.fit in
+    let k = known_rules fit n in
+    (s.0, n.list.ascending, few_nodes, k, all_placed fit _ n.list.ascending few_nodes k t, few _ _ _ t.fits (c.triples.auto.triples ∙ s.2), s.3, s.4)
 
-pub returns-in-TooLarge : goal.returns-in-TooLarge
-returns-in-TooLarge c = λ P h b. inl (c.in-TooLarge.ensures P h b)
+pub returns-in_err-n : goal.returns-in_err-n
+returns-in_err-n c = rw (err_from_is_err_and c.from_residual.result c.from_residual.ensures.1).1 (λ P h b. inl (c.in_err-n.ensures P h b))
 
-pub returns-in-TooLarge-linked : goal.returns-in-TooLarge-linked
-returns-in-TooLarge-linked c = λ P h b. inr (c.in-TooLarge-linked.ensures P h b (c.in-Count.ensures.list P h b))
+pub returns-in_err-t : goal.returns-in_err-t
+returns-in_err-t c =
+    rw (err_from_is_err_and c.from_residual-in_err-t.result c.from_residual-in_err-t.ensures.1).1 (λ P h b. inr (c.in_err-t.ensures P h b (c.in_ok-n.ensures.list P h b)))
 
-pub returns-in-Count-linked : goal.returns-in-Count-linked
-returns-in-Count-linked c =
+pub returns : goal.returns
+returns c =
     let s = c.requires in
     let a = c.typing-rounds in
-    core_listed c.in-Count.ensures c.in-Count-linked.ensures a.ensures (c.nodes-listed.auto.nodes ∙ s.2) (c.triples-linked.auto.triples ∙ s.3) (omega (arith, a.auto.masks, s.4))
+    core_listed c.in_ok-n.ensures c.in_ok-t.ensures a.ensures (c.nodes.auto.nodes ∙ s.1) (c.triples.auto.triples ∙ s.2) (omega (arith, a.auto.masks, s.3))

@@ -1,34 +1,31 @@
 -- `invent::close` meets its contract: what follows from the sets that have been looked at is marked. Assumes nothing.
-use borrow.Author.Rules.{rules}
-use mathlib.Core.Path.{refl}
-use native.Mathlib.Omega.{arith}
+use mathlib.Core.List.{List}
+use mathlib.Core.Path.{◌≡◌, refl, sym, subst}
+use Prim.Native.Nat.{ℕ}
+use Rattle.invent.specs.Invent.{CloseShown}
 use Rattle.invent.proofs.Closing.{closing_again, closing_done, closing_start, following}
 use Rattle.meaning.specs.Limits.{set_words}
-use Rattle.worklist.proofs.Growth.{turn_left, turn_table}
+use Rattle.worklist.proofs.Growth.{same_start, same_then, turn_left}
+use Rattle.worklist.specs.Table.{Board, Same}
 use Rattle.invent.proofs.close.Goals as goal
 
-pub loop-end-init : goal.loop-end-init
-loop-end-init c = let pre = c.requires in (search rules, search rules, search rules, pre.0, λ P h. closing_start pre.1)
+pub loop-number-init : goal.loop-number-init
+loop-number-init c = let pre = c.requires in (pre.0, same_start, λ P h. closing_start pre.1)
 
-pub take-taken-requires : goal.take-taken-requires
-take-taken-requires c = (c.loop-end-test.true, (set_words, c.loop-end.invariant.3.stacked))
+pub loop-number-smaller : goal.loop-number-smaller
+loop-number-smaller c = let t = c.loop-number.invariant.0 in
+    turn_left t (c.in-Some.ensures set_words t.stacked).1 c.mark_all.ensures.grows
 
-pub set_mask-requires : goal.set_mask-requires
-set_mask-requires c = (c.take-taken.ensures set_words c.loop-end.invariant.3.stacked).inside _ refl
-
-pub mark_all-end-requires : goal.mark_all-end-requires
-mark_all-end-requires c = let t = c.loop-end.invariant.3 in
-    turn_table t (c.take-taken.ensures set_words t.stacked)
-
-pub loop-end-smaller : goal.loop-end-smaller
-loop-end-smaller c = let t = c.loop-end.invariant.3 in
-    turn_left t (c.take-taken.ensures set_words t.stacked) c.mark_all-end.ensures.grows
-
-pub loop-end-preserved : goal.loop-end-preserved
-loop-end-preserved c = let t = c.loop-end.invariant.3 in
-    let k = c.take-taken.ensures set_words t.stacked in
-    let m = following (k.inside _ refl) c.set_mask.ensures c.mark_all-end.ensures in
-    (search rules, search rules, search rules, m.grows.after, λ P h. closing_again t k (c.loop-end.invariant.4 P h) (m.adds P h))
+pub loop-number-preserved : goal.loop-number-preserved
+loop-number-preserved c = let t = c.loop-number.invariant.0 in
+    let k = (c.in-Some.ensures set_words t.stacked).1 in
+    let m = following (k.inside _ refl) c.set_mask.ensures c.mark_all.ensures in
+    (m.grows.after, same_then (same_then c.loop-number.invariant.1 k.lent) m.grows.lent, λ P h. closing_again t k (c.loop-number.invariant.2 P h) (m.adds P h))
 
 pub returns : goal.returns
-returns c = let l = c.loop-end in λ P h. closing_done l.invariant.3 (omega arith) (l.invariant.4 P h)
+returns c = let l = c.loop-number.invariant in
+    let k = c.in_default.ensures set_words l.0.stacked in
+    closed k.1 (λ P h. closing_done l.0 k.0 (l.2 P h)) l.1
+  where
+    closed : {demands : List (List ℕ)} {start : List ℕ} {a b e : Board} → e ≡ b → CloseShown demands start b.marked → Same a b → CloseShown demands start e.marked × Same a e
+    closed {demands} {start} {a} q s m = (subst (λ x. CloseShown demands start x.marked) (sym q) s, subst (Same a) (sym q) m)

@@ -1,9 +1,13 @@
 -- `matching::rule_heads` meets its contract: what the search finds are the heads. Assumes nothing.
 use native.Mathlib.Omega.{arith}
 use Prim.Native.Nat.{zero-le}
-use Rattle.meaning.specs.Ordered.{empty}
-use Rattle.matching.proofs.RuleAnswers.{grown_answers, unmatched_answers, atoms_below, head_variables, few_rows_lem, atoms_bytes, plan, reaches}
+use Rattle.matching.proofs.RuleAnswers.{grown_answers, over_answers, unmatched_answers, atoms_below, head_variables, few_rows_lem, atoms_bytes, plan, reaches}
 use Rattle.matching.proofs.Matched.{start_bindings, heads_iff}
+use borrow.Author.Rules.{rules}
+use Rattle.std.proofs.lemmas.Result.{err_from_is_err_and}
+use Rattle.std.specs.Prelude.{Ok}
+use Rattle.sets.proofs.Slices.{given_back}
+use Rattle.matching.specs.Rule.{RuleHeads}
 use Rattle.matching.proofs.rule_heads.Goals as goal
 
 pub all_orders-orders-requires : goal.all_orders-orders-requires
@@ -41,11 +45,15 @@ add_heads-requires c = (
   reaches c.requires.0.held (omega arith) c.all_orders-orders.ensures.0 c.all_orders-orders.ensures.1
       (start_bindings c.requires.0.held c.all_orders-orders.result c.fresh-start.ensures) c.all_candidates-counts.ensures
       (omega (arith, c.requires.1, c.all_orders-orders.auto.out, c.all_candidates-counts.auto.out)),
-  zero-le,
-  empty,
 )
 
+pub returns-in_err-add_heads : goal.returns-in_err-add_heads
+returns-in_err-add_heads c = rw (err_from_is_err_and c.from_residual.result c.from_residual.ensures.1).1
+    (λ rows atoms vars h. over_answers _ (heads_iff h c.all_orders-orders.ensures.1 c.fresh-start.ensures c.all_candidates-counts.ensures) (omega arith)
+    (rw (c.empty-set.ensures.0, c.empty-set.ensures.1) at c.in_err-add_heads.ensures))
+
 pub returns : goal.returns
-returns c = λ rows atoms vars h. grown_answers c.add_heads.result c.args.keys.now _
-    (heads_iff h c.all_orders-orders.ensures.1 c.fresh-start.ensures c.all_candidates-counts.ensures)
-    c.add_heads.auto.keys c.add_heads.ensures
+returns c = let a = c.args in
+    given_back (λ keys. RuleHeads (Ok c.add_heads.new.set.count) a.rows.now a.atoms a.atom_count a.vars a.var_count keys) c.in_ok-add_heads.ensures.1 (search rules)
+    (λ rows atoms vars h. grown_answers (heads_iff h c.all_orders-orders.ensures.1 c.fresh-start.ensures c.all_candidates-counts.ensures)
+    (rw c.empty-set.ensures.0 at c.in_ok-add_heads.ensures.1.long) (rw (c.empty-set.ensures.0, c.empty-set.ensures.1) at c.in_ok-add_heads.ensures.0))

@@ -1,7 +1,7 @@
--- What holds of all numbers below n, or of none: of one more, number by number. Assumes nothing.
-use mathlib.Core.Path.{◌≡◌, sym, subst}
+-- What holds of all numbers below n: of one more, number by number. Assumes nothing.
+use mathlib.Core.Path.{sym, subst}
 use native.Mathlib.Omega.{arith}
-use Prim.Native.Nat.{ℕ, zero, suc, ◌+◌, ◌≤◌, ◌<◌, zero-le}
+use Prim.Native.Nat.{ℕ, zero, suc, ◌+◌, ◌<◌}
 use Rattle.meaning.proofs.Cases.{case_last}
 
 pub below_next : {Q : ℕ → Type 0} {n : ℕ} → ((i : ℕ) → i < n → Q i) → Q n → (i : ℕ) → i < n + 1 → Q i
@@ -19,15 +19,6 @@ pub none_again : {Q : ℕ → Type 0} {i : ℕ} → NoneBelow Q i → ¬ Q i →
 none_again {Q} n k = record { none = below_next {Q = λ j. ¬ Q j} n.none k }
 
 -- ---- number by number
-
--- i is none of the numbers below n
-abbrev pub NoneOf : ℕ → ℕ → Type 0
-NoneOf zero i = Unit
-NoneOf (suc n) i = NoneOf n i × (i ≡ n → ⊥)
-
-pub past : (n i : ℕ) → NoneOf n i → n ≤ i
-past zero i t = zero-le
-past (suc n) i t = omega (arith, past n i t.0, t.1)
 
 -- something of each number below n
 abbrev pub Each : ℕ → (ℕ → Type 0) → Type 0

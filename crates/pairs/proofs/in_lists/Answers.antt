@@ -13,13 +13,13 @@ pub publish-requires : goal.publish-requires
 publish-requires c =
     let a = c.args in
     let r = c.requires.0.ready.ready in
-    fits a.graph r _ _ (c.find_pairs.ensures _ _ r) c.in-Listed.is (found_room (goal.at.publish-requires c).After-find_pairs) _ c.requires.0.indexed a.nodes.now
+    fits a.size r _ _ (c.find_pairs.ensures _ _ r) c.in-Ok.is (found_room (goal.at.publish-requires c).After-find_pairs) _ c.requires.0.indexed a.nodes.now
     a.triples.now a.index.now a.pairs.now c.requires.1
 
-pub returns-in-TooMany : goal.returns-in-TooMany
-returns-in-TooMany c = λ pack query r. over c.args.graph r _ _ (c.find_pairs.ensures pack query r) c.in-TooMany.is c.refused.ensures
+pub returns-in_default : goal.returns-in_default
+returns-in_default c = λ pack query r. over c.args.size r _ _ (c.find_pairs.ensures pack query r) c.in_default.is
 
-pub returns-in-Listed : goal.returns-in-Listed
-returns-in-Listed c =
-    λ pack query r. let (nodes, triples, index, pairs) = c.publish.ensures in listed c.args.graph r _ _ (c.find_pairs.ensures pack query r)
-    c.in-Listed.is (found_room (goal.at.returns-in-Listed c).After-find_pairs) _ c.requires.0.indexed _ _ _ _ c.requires.0.counts nodes triples index pairs
+pub returns : goal.returns
+returns c =
+    λ pack query r. let (nodes, triples, index, pairs) = c.publish.ensures in listed c.args.size r _ _ (c.find_pairs.ensures pack query r)
+    c.in-Ok.is (found_room (goal.at.returns c).After-find_pairs) _ c.requires.0.indexed _ _ _ _ nodes triples index pairs

@@ -1,37 +1,34 @@
 -- `prepare::prepare` meets its contract. Assumes nothing.
-use mathlib.Core.Path.{refl}
-use native.Mathlib.Omega.{arith}
+use Rattle.std.proofs.Common.{◌≡◌, Some, subst, arith}
+use Rattle.std.proofs.lemmas.Result.{err_from_is_err_and}
 use Rattle.calls.specs.Call.{◌becomes◌}
-use Rattle.prepare.proofs.RefusedOrGraph.{built, not_0, not_read, roomy}
+use Rattle.query.specs.Answer.{Answered, HoldsQuery}
+use Rattle.prepare.proofs.RefusedOrGraph.{built, refused_pack, roomy}
 use Rattle.prepare.proofs.prepare.Goals as goal
+use Rattle.prepare.proofs.prepare.Goals.{In_ok-parts}
 
--- 3 to 11, or the graph
-pub returns-then-graph-ne0 : goal.returns-then-graph-ne0
-returns-then-graph-ne0 c = (
-  built _ _ _ c.in-Parts.ensures (omega arith) c.construct-loaded.ensures.0,
-  λ z. absurd (c.if-graph-ne0.true z),
-)
+-- the query that is read
+held : (c : In_ok-parts) → HoldsQuery c.args.query.now c.read_query.new.tree c.in_ok-parts.parts
+held c =
+    let q : c.read_query.result ≡ Some c.in_ok-parts.parts = grind arith in
+    subst (λ o. Answered o c.args.query.now c.read_query.new.tree) q c.read_query.ensures
+
+-- 3 to 11
+pub returns-in_err-loaded : goal.returns-in_err-loaded
+returns-in_err-loaded c =
+    let p = err_from_is_err_and c.from_residual-in_err-loaded.result c.from_residual-in_err-loaded.ensures.1 in
+    rw (p.1, p.2) (refused_pack _ _ _ _ (held (goal.at.returns-in_err-loaded c).In_ok-parts) c.in_err-loaded.ensures.0, tt)
 
 pub resolve-requires : goal.resolve-requires
 resolve-requires c =
-    let h = c.in-Parts.ensures in
-    let g = c.construct-loaded in
-    let z = c.if-graph-ne0.false in (
-      g.ensures.1 z,
-      roomy (c.args.nodes.now becomes g.new.nodes) _ _ g.ensures.0 z (omega arith),
+    let h = held (goal.at.resolve-requires c).In_ok-parts in
+    let g = c.in_ok-loaded.ensures in (
+      g.1,
+      roomy c.read_query.new.tree (c.args.nodes.now becomes c.construct.new.nodes) _ _ h g.0 (omega arith),
       omega (arith, h.few, h.query.fits),
       omega (arith, h.few, h.query.fits),
     )
 
--- 2
-pub returns-in-NoExpression : goal.returns-in-NoExpression
-returns-in-NoExpression c = (
-  not_read _ _ _ _ _ _ c.in-NoExpression.ensures refl c.refused.ensures (refl, (refl, (refl, tt))),
-  λ z. absurd (not_0 c.refused.ensures z),
-)
-
-pub returns-else-graph-ne0 : goal.returns-else-graph-ne0
-returns-else-graph-ne0 c = (
-  built _ _ _ c.in-Parts.ensures (omega arith) c.construct-loaded.ensures.0,
-  λ z. c.resolve.ensures.found,
-)
+-- or the graph
+pub returns : goal.returns
+returns c = (built _ _ _ _ (held (goal.at.returns c).In_ok-parts) c.in_ok-loaded.ensures.0 (omega arith), c.resolve.ensures.found)

@@ -2,14 +2,11 @@
 use Rattle.query.proofs.WholeText.{no_query, left_over, a_query}
 use Rattle.query.proofs.read_query.Goals as goal
 
-pub returns-then-not-ok : goal.returns-then-not-ok
-returns-then-not-ok c = let r = c.read_union-ok in
-    no_query r.ensures c.if-not-ok.true
+pub returns-in_err-at : goal.returns-in_err-at
+returns-in_err-at c = rw c.from_residual.ensures (no_query c.in_err-at.ensures)
 
 pub returns-then-at-q : goal.returns-then-at-q
-returns-then-at-q c = let r = c.read_union-ok in
-    left_over r.ensures c.if-not-ok.false c.if-at-q.true
+returns-then-at-q c = left_over c.in_ok-at.ensures c.if-at-q.true
 
 pub returns : goal.returns
-returns c = let r = c.read_union-ok in
-    a_query r.ensures c.if-not-ok.false c.if-at-q.false c.if-q-gt-MAX_QUERY_BYTES.false
+returns c = a_query c.in_ok-at.ensures c.if-at-q.false c.if-q-gt-MAX_QUERY_BYTES.false

@@ -1,16 +1,16 @@
 -- `readback::read_back` meets its contract: a pack that passes the check is loaded. Assumes nothing.
-use native.Mathlib.Omega.{arith}
-use Rattle.readback.proofs.FromRead.{found_answer, refused_answer, setting_loaded}
+use mathlib.Core.Path.{ap}
+use Rattle.readback.proofs.FromRead.{found_answer}
+use Rattle.readback.specs.Answer.{not_well_formed}
+use Rattle.std.proofs.Common.{Err}
+use Rattle.std.proofs.lemmas.Result.{err_from_is_err_and}
 use Rattle.readback.proofs.read_back.Goals as goal
 
-pub returns-then-refusal-ne0 : goal.returns-then-refusal-ne0
-returns-then-refusal-ne0 c = refused_answer _ _ _ _ c.check-checked.ensures.first (λ z. omega arith) c.refused.ensures
-
-pub read_iri-requires : goal.read_iri-requires
-read_iri-requires c =
-    setting_loaded (c.check-checked.ensures.loaded c.if-refusal-ne0.false)
+pub returns-in_err-counts : goal.returns-in_err-counts
+returns-in_err-counts c =
+    let p = err_from_is_err_and c.from_residual.result c.from_residual.ensures.1 in
+    let e = c.in_err-counts.ensures in
+    rw (p.1, p.2) (not_well_formed e.0 e.1 (ap Err e.2))
 
 pub returns : goal.returns
-returns c =
-    let a = c.check-checked.ensures.loaded c.if-refusal-ne0.false in
-    found_answer _ _ a.pack a.is _ _ (c.read_iri.ensures a.pack a.is) c.answer.ensures
+returns c = let a = c.in_ok-counts.ensures in found_answer _ _ a.pack a.is c.read_iri.result (c.read_iri.ensures a.pack a.is) c.ok_or.ensures.value

@@ -2,8 +2,8 @@
 use Rattle.resolve.proofs.PartKinds.{wants_iri, wants_literal}
 use Rattle.resolve.proofs.number_wanted.Goals as goal
 
-pub returns-then-kind-eq-AT_IRI : goal.returns-then-kind-eq-AT_IRI
-returns-then-kind-eq-AT_IRI c = wants_iri _ _ _ _ _ _ c.if-kind-eq-AT_IRI.true c.node_of_iri.ensures
+pub returns-in-3 : goal.returns-in-3
+returns-in-3 c = wants_iri _ _ _ _ _ _ c.in-3.is c.node_of_iri.ensures
 
-pub returns-then-kind-eq-AT_LITERAL : goal.returns-then-kind-eq-AT_LITERAL
-returns-then-kind-eq-AT_LITERAL c = wants_literal _ _ _ _ _ _ c.if-kind-eq-AT_LITERAL.true c.node_of_literal.ensures
+pub returns-in-4 : goal.returns-in-4
+returns-in-4 c = wants_literal _ _ _ _ _ _ c.in-4.is c.node_of_literal.ensures

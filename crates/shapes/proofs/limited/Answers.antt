@@ -9,15 +9,6 @@ use Rattle.shapes.proofs.limited.Goals as goal
 pub loop-left-init : goal.loop-left-init
 loop-left-init c = pass_start _ _ _ _
 
-pub overflow_cast-t : goal.overflow_cast-t
-overflow_cast-t c = omega (arith, trailing_le 16 c.loop-left.left)
-
-pub offset_bounds-shapes-t : goal.offset_bounds-shapes-t
-offset_bounds-shapes-t c = omega (arith, trailing_le 16 c.loop-left.left)
-
-pub offset_bounds-shapes-p : goal.offset_bounds-shapes-p
-offset_bounds-shapes-p c = omega (arith, c.requires)
-
 pub bounds-shapes-t : goal.bounds-shapes-t
 bounds-shapes-t c = (search_next c.loop-left.invariant.rest c.loop-left-test.true).0
 

@@ -9,20 +9,8 @@ use Rattle.shapes.proofs.targets.Goals as goal
 pub loop-left-init : goal.loop-left-init
 loop-left-init c = join_start _ _ _
 
-pub overflow_cast-t : goal.overflow_cast-t
-overflow_cast-t c = omega (arith, trailing_le 16 c.loop-left.left)
-
-pub offset_bounds-shapes-t : goal.offset_bounds-shapes-t
-offset_bounds-shapes-t c = omega (arith, trailing_le 16 c.loop-left.left)
-
-pub offset_bounds-shapes-p : goal.offset_bounds-shapes-p
-offset_bounds-shapes-p c = omega (arith, c.requires.0)
-
 pub bounds-shapes-t : goal.bounds-shapes-t
 bounds-shapes-t c = (search_next c.loop-left.invariant.rest c.loop-left-test.true).0
-
-pub overflow_shl-all : goal.overflow_shl-all
-overflow_shl-all c = omega (arith, code_fits c.loop-left.invariant c.loop-left-test.true c.requires)
 
 pub loop-left-smaller-then-cell-ne0 : goal.loop-left-smaller-then-cell-ne0
 loop-left-smaller-then-cell-ne0 c = omega (arith, ones_cleared c.loop-left.left (omega arith))

@@ -6,15 +6,6 @@ use mathlib.Core.Bool.{true≢false}
 use mathlib.Core.Path.{refl, sym}
 use Rattle.spread.proofs.pass.Goals as goal
 
-pub bounds-masks-o : goal.bounds-masks-o
-bounds-masks-o c = omega (arith, c.requires.1.from, c.requires.1.to, c.requires.2)
-
-pub bounds-masks-s : goal.bounds-masks-s
-bounds-masks-s c = let pre = c.requires in omega (arith, pre.1.from, pre.1.to, pre.2)
-
-pub targets-requires : goal.targets-requires
-targets-requires c = let pre = c.requires in (pre.1.named, pre.0)
-
 pub returns-then-new-old : goal.returns-then-new-old
 returns-then-new-old c = (
   λ S tab. pass_same c.args.shapes.now c.args.key c.targets.result c.args.masks.now (omega (arith, c.requires.1.to, c.requires.2))
@@ -22,9 +13,6 @@ returns-then-new-old c = (
   refl,
   λ e. absurd (true≢false (sym e)),
 )
-
-pub bounds-masks-o-2 : goal.bounds-masks-o-2
-bounds-masks-o-2 c = let pre = c.requires in omega (arith, pre.1.from, pre.1.to, pre.2)
 
 pub returns : goal.returns
 returns c = (

@@ -7,24 +7,24 @@ use Rattle.spread.proofs.spread.Goals as goal
 pub loop-passed-init : goal.loop-passed-init
 loop-passed-init c = spread_start _ _ _ max_core_triples
 
-pub round-changed-requires : goal.round-changed-requires
-round-changed-requires c = let s = c.requires in
-    (s.0, s.1, s.2, omega (arith, c.loop-passed.invariant.long, s.3))
-
 pub overflow_add-rounds : goal.overflow_add-rounds
 overflow_add-rounds c = let l = c.loop-passed in
     omega (arith, rounds_few l.invariant c.requires.3)
 
-pub returns-then-not-changed : goal.returns-then-not-changed
-returns-then-not-changed c = let made = c.loop-passed.invariant in
-    let last = c.round-changed in
-    spread_done (all_made made last.auto.masks last.ensures.0 (rw c.if-not-changed.true at last.ensures.1))
+pub overflow_add-result : goal.overflow_add-result
+overflow_add-result c = let l = c.loop-passed in
+    omega (arith, rounds_few l.invariant c.requires.3)
+
+pub returns : goal.returns
+returns c = let made = c.loop-passed.invariant in
+    let last = c.round in
+    spread_done (all_made made last.auto.masks last.ensures.0 (rw c.loop-passed-test.false at last.ensures.1))
 
 pub loop-passed-smaller : goal.loop-passed-smaller
-loop-passed-smaller c = let r = c.round-changed in rw c.if-not-changed.false at r.ensures.1
+loop-passed-smaller c = let r = c.round in rw c.loop-passed-test.true at r.ensures.1
 
 pub loop-passed-preserved : goal.loop-passed-preserved
 loop-passed-preserved c = let l = c.loop-passed in
-    let r = c.round-changed in
-    let e = c.if-not-changed.false in
+    let r = c.round in
+    let e = c.loop-passed-test.true in
     spread_again l.invariant r.auto.masks r.ensures.0 e (rw e at r.ensures.1)

@@ -1,19 +1,15 @@
--- `clash` meets its contract: no two of the records before j clash. Assumes nothing.
-use Rattle.texts.proofs.EarlierRecords.{comparing_done, comparing_found, comparing_on, comparing_start}
+-- `clash` meets its contract: each record is compared with those before it. Assumes nothing.
 use borrow.Author.Rules.{rules}
+use borrow.Author.Tests.{tests}
+use native.Mathlib.Omega.{arith}
+use mathlib.Core.Path.{refl}
+use Rattle.std.proofs.lemmas.Iterator.{YieldsList-from_range, cases_from_any}
+use Rattle.texts.proofs.EarlierRecords.{None, Some, any_says}
 use Rattle.texts.proofs.clash.Goals as goal
 
-pub loop-j-init : goal.loop-j-init
-loop-j-init c = comparing_start
-
-pub clash_before-requires : goal.clash_before-requires
-clash_before-requires c = (c.requires, c.loop-j-test.true)
-
-pub returns-then-clash_before : goal.returns-then-clash_before
-returns-then-clash_before c = comparing_found c.loop-j.invariant c.loop-j-test.true c.if-clash_before.true c.clash_before.ensures
-
-pub loop-j-preserved : goal.loop-j-preserved
-loop-j-preserved c = comparing_on c.loop-j.invariant c.loop-j-test.true c.if-clash_before.false c.clash_before.ensures
-
 pub returns : goal.returns
-returns c = search (comparing_done, rules)
+returns c =
+    let a = c.args in
+    any_says a.key a.s.now a.numbers.now a.at a.n c.any.result
+    (cases_from_any c.any.new.self _ c.any.result (Some a.key a.s.now a.numbers.now a.at a.n) (None a.key a.s.now a.numbers.now a.at a.n) c.any.ensures.ran
+    (YieldsList-from_range 0 a.n a.n refl (omega arith)) (λ x q k. λ l. search (rules, tests)) (λ x q k. (search (rules, tests), λ l. search (rules, tests))))

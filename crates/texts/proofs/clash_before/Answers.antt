@@ -1,6 +1,12 @@
--- `clash_before` meets its contract: no record before i clashes with record j. Assumes nothing.
-use Rattle.texts.proofs.EarlierRecords.{last_inside, last_shows, looking_done, looking_found, looking_on, looking_start, one_inside, one_shows}
+-- `clash_before` meets its contract: the records before record j decide. Assumes nothing.
 use borrow.Author.Rules.{rules}
+use borrow.Author.Tests.{tests}
+use lib.ListN.{take}
+use mathlib.Core.Path.{refl}
+use Rattle.std.proofs.lemmas.Iterator.{serves_from_Range}
+use Rattle.meaning.proofs.Lists.Ranges.{any_entry}
+use Rattle.texts.specs.Compared.{clashes, Keyed}
+use Rattle.texts.proofs.EarlierRecords.{before_long, last_inside, last_shows, one_inside, one_says, one_shows}
 use Rattle.texts.proofs.clash_before.Goals as goal
 
 pub overflow_add-first : goal.overflow_add-first
@@ -29,40 +35,16 @@ bounds-numbers-last-2 c = let pre = c.requires in
     let h = last_inside (pre) c.width_of-width.ensures c.first_of.ensures in
     search rules
 
-pub loop-i-init : goal.loop-i-init
-loop-i-init c = looking_start c.requires c.width_of-width.ensures c.first_of.ensures
-
-pub overflow_mul-place : goal.overflow_mul-place
-overflow_mul-place c = let h = one_inside c.loop-i.invariant c.loop-i-test.true in search rules
-
-pub overflow_add-place : goal.overflow_add-place
-overflow_add-place c = let h = one_inside c.loop-i.invariant c.loop-i-test.true in search rules
-
-pub offset_bounds-numbers-place : goal.offset_bounds-numbers-place
-offset_bounds-numbers-place c = let h = one_inside c.loop-i.invariant c.loop-i-test.true in search rules
-
-pub bounds-numbers-place : goal.bounds-numbers-place
-bounds-numbers-place c = let h = one_inside c.loop-i.invariant c.loop-i-test.true in search rules
-
-pub overflow_add-place-in-loop-i : goal.overflow_add-place-in-loop-i
-overflow_add-place-in-loop-i c = let h = one_inside c.loop-i.invariant c.loop-i-test.true in search rules
-
-pub offset_bounds-numbers-place-in-loop-i : goal.offset_bounds-numbers-place-in-loop-i
-offset_bounds-numbers-place-in-loop-i c = let h = one_inside c.loop-i.invariant c.loop-i-test.true in search rules
-
-pub bounds-numbers-place-in-loop-i : goal.bounds-numbers-place-in-loop-i
-bounds-numbers-place-in-loop-i c = let h = one_inside c.loop-i.invariant c.loop-i-test.true in search rules
-
-pub clash_at-requires : goal.clash_at-requires
-clash_at-requires c = let loop = c.loop-i in (one_shows loop.invariant c.loop-i-test.true, last_shows loop.invariant)
-
-pub returns-then-clash_at : goal.returns-then-clash_at
-returns-then-clash_at c =
-    looking_found c.loop-i.invariant c.loop-i-test.true c.clash_at.ensures c.if-clash_at.true
-
-pub loop-i-preserved : goal.loop-i-preserved
-loop-i-preserved c =
-    looking_on c.loop-i.invariant c.loop-i-test.true c.clash_at.ensures c.if-clash_at.false
+pub any-requires-clause-callable : goal.any-requires-clause-callable
+any-requires-clause-callable c =
+    let w = c.width_of-width.ensures in
+    let f = c.first_of.ensures in
+    serves_from_Range (λ x q k. search (rules, tests))
+    (λ x low high. let a = one_inside c.requires w f high in let b = one_shows c.requires w f high in let d = last_shows c.requires w f in search rules)
 
 pub returns : goal.returns
-returns c = search (looking_done, rules)
+returns c = λ records y g e.
+    let w = c.width_of-width.ensures in
+    let f = c.first_of.ensures in
+    any_entry (λ (x : Keyed c.args.key). clashes c.args.key x y) (take c.args.j records) (before_long c.requires w f g) _ refl
+    (λ i b q k. (search rules, one_says c.requires w f g e (λ h. search rules))) c.any.ensures.ran

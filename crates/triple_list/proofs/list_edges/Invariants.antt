@@ -1,10 +1,10 @@
-use lib.ListN.{length}
-use Prim.Native.Nat.{◌-◌}
-use Rattle.triple_list.proofs.GroupLaws.{Edging}
+use lib.ListN.{drop}
+use mathlib.Core.List.{map}
+use Prim.Native.Nat.{◌+◌}
+use Rattle.triple_list.specs.Triples.{edge_record}
+use Rattle.meaning.proofs.Lists.Recording.{Records}
+use Rattle.meaning.specs.Limits.{triple_width}
 use Rattle.triple_list.proofs.list_edges.Given as goal
 
-abbrev pub invariant-loop-at : goal.invariant-loop-at
-invariant-loop-at l = Edging l.triples l.subject l.p l.from l.first l.at l.initial.out l.out
-
-abbrev pub decreases-loop-at : goal.decreases-loop-at
-decreases-loop-at l = length l.triples - l.at
+abbrev pub invariant-loop-i : goal.invariant-loop-i
+invariant-loop-i l = Records triple_width l.first (l.first + l.i) (map (edge_record l.subject l.p) (drop l.i l.edges)) (map (edge_record l.subject l.p) l.edges) l.initial.out l.out

@@ -4,17 +4,17 @@ use Rattle.core_graph.proofs.Marking.{marks_start, marks_again, marks_done}
 use Rattle.meaning.proofs.Lists.Places.{∈_at}
 use Rattle.core_graph.proofs.typing.mark_rule.Goals as goal
 
-pub loop-i-init : goal.loop-i-init
-loop-i-init c = marks_start _ _ _
+pub loop-k-init : goal.loop-k-init
+loop-k-init c = marks_start _ _ _
 
 pub mark_match-near-requires : goal.mark_match-near-requires
-mark_match-near-requires c = let m = ∈_at c.args.keys.now c.loop-i.i (omega arith) in
-    (c.requires.0, c.requires.1 _ m, c.requires.2, c.requires.3 _ m, omega (arith, c.loop-i.invariant.long))
+mark_match-near-requires c = let m = ∈_at c.args.keys.now c.loop-k.k-index (omega arith) in
+    (c.requires.0, c.requires.1 _ m, c.requires.2, c.requires.3 _ m, omega (arith, c.loop-k.invariant.long))
 
-pub loop-i-preserved : goal.loop-i-preserved
-loop-i-preserved c = let loop = c.loop-i in
+pub loop-k-preserved : goal.loop-k-preserved
+loop-k-preserved c = let loop = c.loop-k in
     let a = c.mark_match-near in
     marks_again loop.invariant (omega arith) _ a.ensures a.auto.masks
 
 pub returns : goal.returns
-returns c = marks_done c.loop-i.invariant (omega arith)
+returns c = marks_done c.loop-k.invariant (omega arith)

@@ -4,4 +4,5 @@ use Rattle.core_graph.proofs.Marking.{RulesMarked}
 use Rattle.core_graph.proofs.typing.mark_rules.Given as goal
 
 abbrev pub invariant-loop-r : goal.invariant-loop-r
-invariant-loop-r l = (l.r ≤ l.count) × RulesMarked (HeadType l.nodes) l.rules l.heads l.counts l.r l.initial.masks l.masks
+invariant-loop-r l = (l.r ≤ l.heads.count)
+    × RulesMarked (HeadType l.nodes) l.heads.rules.now l.heads.keys.now l.heads.counts.now l.r l.initial.masks l.masks

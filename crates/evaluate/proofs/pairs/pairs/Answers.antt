@@ -1,9 +1,9 @@
 -- `evaluate::pairs::pairs` meets its contract. Assumes nothing.
-use Rattle.std.proofs.Common.{arith}
+use Rattle.std.proofs.Common.{arith, refl}
 use Rattle.evaluate.proofs.CertainAnswers.{lists_fit, pairs_answer}
 use Rattle.evaluate.proofs.NamedNodes.{named_few, named_inward}
 use Rattle.evaluate.proofs.HeldGraph.{predicates_below}
-use Rattle.evaluate.proofs.Readied.{list_ready, parts_few, threadable}
+use Rattle.evaluate.proofs.Readied.{parts_few, threadable}
 use Rattle.evaluate.proofs.pairs.pairs.Goals as goal
 
 pub thread-requires : goal.thread-requires
@@ -17,8 +17,7 @@ joined_pairs-requires c =
       record {
         fits = lists_fit r c.thread.new.next c.thread.ensures (omega arith);
         predicates = predicates_below r.graph.graph;
-        lists = list_ready r;
-        unmarked = p.2;
+        blank = (p.2, refl);
       },
       record {
         by_subject = p.1;

@@ -1,8 +1,8 @@
 -- `evaluate::yes::yes` meets its contract. Assumes nothing.
-use Rattle.std.proofs.Common.{arith}
+use Rattle.std.proofs.Common.{arith, refl}
 use Rattle.evaluate.proofs.CertainAnswers.{lists_fit, yes_answer}
 use Rattle.evaluate.proofs.HeldGraph.{predicates_below}
-use Rattle.evaluate.proofs.Readied.{list_ready, parts_few, threadable}
+use Rattle.evaluate.proofs.Readied.{parts_few, threadable}
 use Rattle.evaluate.proofs.yes.yes.Goals as goal
 
 pub thread-requires : goal.thread-requires
@@ -16,8 +16,7 @@ some_joined-requires c =
     record {
       fits = lists_fit r c.thread.new.next c.thread.ensures (omega arith);
       predicates = predicates_below r.graph.graph;
-      lists = list_ready r;
-      unmarked = p.1;
+      blank = (p.1, refl);
     }
 
 pub returns : goal.returns

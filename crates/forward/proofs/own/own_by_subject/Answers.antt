@@ -1,29 +1,8 @@
 -- `forward::own::own_by_subject` meets its contract. Assumes nothing.
-use mathlib.Core.Path.{refl, ◌∙◌}
+use mathlib.Core.Path.{◌∙◌}
 use native.Mathlib.Omega.{arith}
-use Rattle.forward.proofs.Owning.{part_inside, parts_again, parts_done, parts_start}
+use Rattle.forward.proofs.Owning.{part_inside, parts_again, parts_done}
 use Rattle.forward.proofs.own.own_by_subject.Goals as goal
-
-pub loop-n-init : goal.loop-n-init
-loop-n-init c = (omega arith, refl, parts_start)
-
-pub overflow_mul-at : goal.overflow_mul-at
-overflow_mul-at c = let a = c.requires.1.by_subject.long in omega arith
-
-pub offset_bounds-index-at : goal.offset_bounds-index-at
-offset_bounds-index-at c = let a = c.requires.1.by_subject.long in omega arith
-
-pub bounds-index-at : goal.bounds-index-at
-bounds-index-at c = let a = c.requires.1.by_subject.long in omega (arith, c.loop-n-test.true)
-
-pub overflow_add-hi : goal.overflow_add-hi
-overflow_add-hi c = let a = c.requires.1.by_subject.long in omega (arith, c.loop-n-test.true)
-
-pub offset_bounds-index-at-in-loop-n : goal.offset_bounds-index-at-in-loop-n
-offset_bounds-index-at-in-loop-n c = let a = c.requires.1.by_subject.long in omega (arith, c.loop-n-test.true)
-
-pub bounds-index-at-in-loop-n : goal.bounds-index-at-in-loop-n
-bounds-index-at-in-loop-n c = let a = c.requires.1.by_subject.long in omega (arith, c.loop-n-test.true)
 
 pub own_from-requires : goal.own_from-requires
 own_from-requires c = let r = c.requires.1 in

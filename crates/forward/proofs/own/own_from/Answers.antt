@@ -1,14 +1,8 @@
 -- `forward::own::own_from` meets its contract. Assumes nothing.
 use native.Mathlib.Omega.{arith}
-use Rattle.forward.proofs.Owning.{own_add, own_closed, own_full, own_pass, own_start}
+use Rattle.forward.proofs.Owning.{own_add, own_closed, own_full, own_pass}
 use Rattle.forward.proofs.own.own_from.Goals as goal
 use Rattle.forward.proofs.own.own_from.Goals.{else-object-named, then-object-named}
-
-pub loop-k-init : goal.loop-k-init
-loop-k-init c = own_start c.requires.0
-
-pub bounds-own-end : goal.bounds-own-end
-bounds-own-end c = let i = c.loop-k.invariant in let a = i.few in let b = i.long in omega (arith, c.loop-k-test.true)
 
 pub loop-k-preserved : goal.loop-k-preserved
 loop-k-preserved c = let i = c.loop-k.invariant in
@@ -17,9 +11,6 @@ loop-k-preserved c = let i = c.loop-k.invariant in
       | then-object-named w ↦ rw (w.own-is, w.end-is) (own_add i l c.requires.3 w.if-object-named.true)
       | else-object-named w ↦ rw (w.own-is, w.end-is) (own_pass i l w.if-object-named.false)
     ]
-
-pub bounds-own-end-then-end-hi : goal.bounds-own-end-then-end-hi
-bounds-own-end-then-end-hi c = let a = c.loop-k.invariant.long in omega arith
 
 pub returns-then-end-hi : goal.returns-then-end-hi
 returns-then-end-hi c = let i = c.loop-k.invariant in

@@ -13,20 +13,20 @@ overflow_mul-at c = omega (arith, value_place c.requires c.loop-v-test.true)
 pub overflow_add-at : goal.overflow_add-at
 overflow_add-at c = omega (arith, value_place c.requires c.loop-v-test.true)
 
-pub offset_bounds-numbers-at : goal.offset_bounds-numbers-at
-offset_bounds-numbers-at c = omega (arith, value_place c.requires c.loop-v-test.true)
+pub offset_bounds-setting-at : goal.offset_bounds-setting-at
+offset_bounds-setting-at c = omega (arith, value_place c.requires c.loop-v-test.true)
 
-pub bounds-numbers-at : goal.bounds-numbers-at
-bounds-numbers-at c = omega (arith, value_place c.requires c.loop-v-test.true)
+pub bounds-setting-at : goal.bounds-setting-at
+bounds-setting-at c = omega (arith, value_place c.requires c.loop-v-test.true)
 
 pub overflow_add-end : goal.overflow_add-end
 overflow_add-end c = omega (arith, value_place c.requires c.loop-v-test.true)
 
-pub offset_bounds-numbers-at-in-loop-v : goal.offset_bounds-numbers-at-in-loop-v
-offset_bounds-numbers-at-in-loop-v c = omega (arith, value_place c.requires c.loop-v-test.true)
+pub offset_bounds-setting-at-in-loop-v : goal.offset_bounds-setting-at-in-loop-v
+offset_bounds-setting-at-in-loop-v c = omega (arith, value_place c.requires c.loop-v-test.true)
 
-pub bounds-numbers-at-in-loop-v : goal.bounds-numbers-at-in-loop-v
-bounds-numbers-at-in-loop-v c = omega (arith, value_place c.requires c.loop-v-test.true)
+pub bounds-setting-at-in-loop-v : goal.bounds-setting-at-in-loop-v
+bounds-setting-at-in-loop-v c = omega (arith, value_place c.requires c.loop-v-test.true)
 
 pub overflow_add-end-in-loop-v : goal.overflow_add-end-in-loop-v
 overflow_add-end-in-loop-v c = omega (arith, value_inside c.requires c.loop-v-test.true)

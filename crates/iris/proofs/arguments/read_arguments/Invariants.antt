@@ -1,11 +1,8 @@
 use lib.ListN.{length}
-use Prim.Native.Nat.{◌≤◌, ◌-◌}
+use Prim.Native.Nat.{◌≤◌}
 use Rattle.iris.proofs.ArgumentsRead.{ArgumentsSoFar}
-use Rattle.pack.specs.Checked.{OfPack}
 use Rattle.iris.proofs.arguments.read_arguments.Given as goal
+use Rattle.pack.specs.Checked.{OfPack}
 
 abbrev pub invariant-loop-n : goal.invariant-loop-n
-invariant-loop-n l = (l.n ≤ l.arity) × (l.from ≤ length l.text) × OfPack l.pack (λ P. ArgumentsSoFar P.setting.values l.text l.at l.arity l.n l.from l.values)
-
-abbrev pub decreases-loop-n : goal.decreases-loop-n
-decreases-loop-n l = l.arity - l.n
+invariant-loop-n l = (length l.rest ≤ length l.text) × OfPack l.pack (λ P. ArgumentsSoFar P.setting.values l.text l.arity l.n l.rest l.values)

@@ -1,9 +1,14 @@
 -- `matching::candidates::candidates` meets its contract: the keys of the first r rows. Assumes nothing.
 use borrow.Author.Rules.{rules}
-use mathlib.Core.Path.{refl}
+use lib.ListN.{length, take}
+use Rattle.matching.specs.Plan.{Candidate}
+use mathlib.Core.Path.{refl, sym}
+use Prim.Native.Nat.{◌≤◌, ◌<◌}
+use Rattle.meaning.specs.Ordered.{ListOf}
 use native.Mathlib.Omega.{arith}
 use Rattle.matching.proofs.Cells.{cells_start, cells_again, cells_differ, column_below, columns_bytes}
 use Rattle.matching.proofs.Collect.{collect_start, collect_other, collect_differ, collect_more, collect_done}
+use Rattle.sets.proofs.Slices.{given_back, same_start, same_then}
 use Rattle.matching.proofs.candidates.candidates.Goals as goal
 
 pub columns-firsts-requires : goal.columns-firsts-requires
@@ -46,29 +51,32 @@ row_key-key-requires c = (
   search rules,
 )
 
-pub store_next-n-requires : goal.store_next-n-requires
-store_next-n-requires c = (
-  omega (arith, c.rows.invariant.few, c.rows.invariant.long, c.rows-test.true, c.requires.5),
-  c.rows.invariant.list.ascending,
-  c.rows.invariant.recent,
-)
+pub store_next-requires : goal.store_next-requires
+store_next-requires c = (omega (arith, c.rows.invariant.0.few, c.rows.invariant.0.long, c.rows-test.true, rw (sym c.empty-set.ensures.0) at c.requires.5), c.rows.invariant.0.recent)
 
 pub returns : goal.returns
-returns c = collect_done _ _ _ _ _ c.rows.invariant c.rows-test.false c.requires.5
+returns c = let a = c.args in
+    let n = c.rows.set.count in
+    given_back (λ out. (n ≤ length a.out.now) × ListOf ◌<◌ (Candidate a.rows.now a.relation a.own.now a.order.now a.start) (take n out)) c.rows.invariant.1 (search rules)
+    (rw c.empty-set.ensures.0 at (collect_done _ _ _ _ _ c.rows.invariant.0 c.rows-test.false (rw (sym c.empty-set.ensures.0) at c.requires.5)))
 
 pub rows-init : goal.rows-init
-rows-init c = collect_start _ _ _ _ _ _
+rows-init c = (rw c.empty-set.ensures.1 (collect_start _ _ _ _ _ _), same_start)
 
 pub rows-preserved-then-rows-r : goal.rows-preserved-then-rows-r
-rows-preserved-then-rows-r c = collect_other _ _ _ _ _ c.rows.invariant c.rows-test.true c.if-rows-r.true
+rows-preserved-then-rows-r c = (collect_other _ _ _ _ _ c.rows.invariant.0 c.rows-test.true c.if-rows-r.true, c.rows.invariant.1)
 
 pub rows-preserved-then-rows-at : goal.rows-preserved-then-rows-at
-rows-preserved-then-rows-at c =
-    collect_differ _ _ _ _ _ c.rows.invariant c.rows-test.true refl
-    (cells_differ c.columns-firsts.ensures c.loop-c.invariant c.loop-c-test.true c.if-rows-at.true)
+rows-preserved-then-rows-at c = (
+  collect_differ _ _ _ _ _ c.rows.invariant.0 c.rows-test.true refl
+      (cells_differ c.columns-firsts.ensures c.loop-c.invariant c.loop-c-test.true c.if-rows-at.true),
+  c.rows.invariant.1,
+)
 
 pub rows-preserved : goal.rows-preserved
 rows-preserved c =
-    collect_more _ _ _ _ _ c.rows.invariant c.rows-test.true refl c.requires.2 c.columns-firsts.ensures c.loop-c.invariant
-    c.loop-c-test.false c.columns-cols.ensures _ c.row_key-key.ensures c.if-rows-r.false _ _ c.store_next-n.ensures
-    c.store_next-n.auto.out
+    let s = c.store_next.ensures in (
+      collect_more _ _ _ _ _ c.rows.invariant.0 c.rows-test.true refl c.requires.2 c.columns-firsts.ensures c.loop-c.invariant
+          c.loop-c-test.false c.columns-cols.ensures _ c.row_key-key.ensures c.if-rows-r.false _ _ (s.0, s.1) s.2.long,
+      same_then c.rows.invariant.1 s.2,
+    )

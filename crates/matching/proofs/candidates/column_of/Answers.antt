@@ -1,16 +1,14 @@
--- `matching::candidates::column_of` meets its contract: no column before c has the variable. Assumes nothing.
+-- `matching::candidates::column_of` meets its contract. Assumes nothing.
 use borrow.Author.Rules.{rules}
-use Rattle.matching.proofs.FirstColumn.{seek_start, seek_found, seek_again, seek_done}
+use borrow.Author.Tests.{tests}
+use mathlib.Core.Path.{◌≡◌, sym, ◌∙◌}
+use Rattle.std.proofs.lemmas.Iterator.{IsFirst-from_position, YieldsList-from_slice}
+use Rattle.matching.proofs.FirstColumn.{column_found}
 use Rattle.matching.proofs.candidates.column_of.Goals as goal
 
-pub loop-c-init : goal.loop-c-init
-loop-c-init c = seek_start _ _
-
-pub returns-then-own-c : goal.returns-then-own-c
-returns-then-own-c c = search (seek_found, rules)
-
-pub loop-c-preserved : goal.loop-c-preserved
-loop-c-preserved c = search (seek_again, rules)
-
 pub returns : goal.returns
-returns c = search (seek_done, rules)
+returns c =
+    c.unwrap_or.ensures
+    ∙ sym (column_found c.args.v c.args.own.now c.position.result
+    (IsFirst-from_position _ _ _ (λ w. w ≡ c.args.v) (λ w. w ≡ c.args.v → ⊥) c.position.ensures.ran (YieldsList-from_slice c.args.own.now cc)
+    (λ x q k. search (rules, tests)) (λ x q k. search (rules, tests))))

@@ -1,12 +1,9 @@
 -- `matching::candidates::store` meets its contract. Assumes nothing.
-use Rattle.matching.proofs.Collect.{store_added, store_present, store_full}
+use Rattle.matching.proofs.Collect.{not_full, stored}
 use Rattle.matching.proofs.candidates.store.Goals as goal
 
-pub returns-in-Added : goal.returns-in-Added
-returns-in-Added c = store_added c.args.key c.args.n c.args.out.now _ c.requires.1 c.in-Added.ensures
+pub returns : goal.returns
+returns c = stored c.args.set.now.ascending _ c.in-Ok.ensures
 
-pub returns-in-Present : goal.returns-in-Present
-returns-in-Present c = store_present c.args.key c.args.n c.args.out.now _ c.requires.1 c.in-Present.ensures
-
-pub returns-in-Full : goal.returns-in-Full
-returns-in-Full c = store_full c.args.key c.args.n c.args.out.now _ c.requires.1 c.requires.0 c.in-Full.ensures
+pub unreachable-requires : goal.unreachable-requires
+unreachable-requires c = not_full c.requires c.in-Err.ensures

@@ -4,27 +4,27 @@ use Rattle.matching.proofs.HeadKey.{making_start, making_value, making_room, mak
 use Rattle.meaning.proofs.Lists.Places.{∈_at}
 use Rattle.matching.proofs.keys.head_key.Goals as goal
 
-pub loop-i-init : goal.loop-i-init
-loop-i-init c = making_start _ _
+pub loop-v-init : goal.loop-v-init
+loop-v-init c = making_start _ _
 
-pub bounds-env-vars : goal.bounds-env-vars
-bounds-env-vars c = let l = c.loop-i in
-    omega (arith, c.requires.0.below _ (∈_at c.args.vars.now l.i c.loop-i-test.true), c.requires.1.long)
+pub bounds-env-v : goal.bounds-env-v
+bounds-env-v c = let l = c.loop-v in
+    omega (arith, c.requires.0.below _ (∈_at c.args.vars.now l.v-index c.loop-v-test.true), c.requires.1.long)
 
 pub returns-then-x : goal.returns-then-x
-returns-then-x c = making_open c.loop-i.invariant c.loop-i-test.true c.requires.1 c.if-x.true
+returns-then-x c = making_open c.loop-v.invariant c.loop-v-test.true c.requires.1 c.if-x.true
 
 pub overflow_mul-key : goal.overflow_mul-key
-overflow_mul-key c = let l = c.loop-i in
-    omega (arith, making_room l.invariant c.loop-i-test.true c.requires.1 c.requires.0)
+overflow_mul-key c = let l = c.loop-v in
+    omega (arith, making_room l.invariant c.loop-v-test.true c.requires.1 c.requires.0)
 
 pub overflow_add-key : goal.overflow_add-key
-overflow_add-key c = let loop-test = c.loop-i-test in
-    let l = c.loop-i in
+overflow_add-key c = let loop-test = c.loop-v-test in
+    let l = c.loop-v in
     omega (arith, making_room l.invariant loop-test.true c.requires.1 c.requires.0, making_value l.invariant loop-test.true c.requires.1 c.if-x.false)
 
-pub loop-i-preserved : goal.loop-i-preserved
-loop-i-preserved c = making_again c.loop-i.invariant c.loop-i-test.true c.requires.1 c.if-x.false
+pub loop-v-preserved : goal.loop-v-preserved
+loop-v-preserved c = making_again c.loop-v.invariant c.loop-v-test.true c.requires.1 c.if-x.false
 
 pub returns : goal.returns
-returns c = making_done c.loop-i.invariant c.loop-i-test.false
+returns c = making_done c.loop-v.invariant c.loop-v-test.false

@@ -1,5 +1,5 @@
 use Rattle.matching.proofs.HeadKey.{Making}
 use Rattle.matching.proofs.keys.head_key.Given as goal
 
-abbrev pub invariant-loop-i : goal.invariant-loop-i
-invariant-loop-i l = Making l.vars l.env l.i l.key
+abbrev pub invariant-loop-v : goal.invariant-loop-v
+invariant-loop-v l = Making l.vars l.env l.v-index l.key

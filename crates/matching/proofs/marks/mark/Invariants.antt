@@ -1,5 +1,5 @@
 use Rattle.matching.proofs.Marked.{Marking}
 use Rattle.matching.proofs.marks.mark.Given as goal
 
-abbrev pub invariant-loop-i : goal.invariant-loop-i
-invariant-loop-i l = Marking l.initial.marks l.own l.i l.marks
+abbrev pub invariant-loop-v : goal.invariant-loop-v
+invariant-loop-v l = Marking l.initial.marks l.own l.v-index l.marks

@@ -1,20 +1,21 @@
--- `rules::all_bound` meets its contract: each variable before i is in some atom. Assumes nothing.
-use mathlib.Core.Bool.{not}
-use mathlib.Core.Path.{refl, ap}
-use native.Mathlib.Omega.{arith}
-use Rattle.meaning.proofs.Lists.Testing.{failed, passed, passing_done, passing_on, passing_stops}
+-- `rules::all_bound` meets its contract: the variables decide. Assumes nothing.
+use borrow.Author.Rules.{rules}
+use borrow.Author.Tests.{tests}
+use mathlib.Core.Path.{sym, ◌∙◌}
+use lib.Seq.{slice}
+use Prim.Native.Nat.{ℕ}
+use Rattle.std.proofs.lemmas.Iterator.{YieldsList-from_slice}
+use Rattle.std.proofs.lemmas.Iterator.Search.{all_from_yields_List}
+use Rattle.meaning.proofs.Lists.Library.{every_all}
+use Rattle.meaning.specs.Pack.{Atom}
+use Rattle.meaning.specs.Tests.{any, elem}
+use Rattle.meaning.proofs.Lists.Ranges.{part_slice}
 use Rattle.names.proofs.rules.all_bound.Goals as goal
 
-pub loop-i-init : goal.loop-i-init
-loop-i-init c = λ as' a. record { before = omega arith; inside = omega arith; is = refl }
-
-pub returns-then-not-is_bound : goal.returns-then-not-is_bound
-returns-then-not-is_bound c =
-    λ as' a. passing_stops (c.loop-i.invariant as' a) c.loop-i-test.true (failed (c.is_bound.ensures as' a) (ap not c.if-not-is_bound.true))
-
-pub loop-i-preserved : goal.loop-i-preserved
-loop-i-preserved c =
-    λ as' a. passing_on (c.loop-i.invariant as' a) c.loop-i-test.true (passed (c.is_bound.ensures as' a) (ap not c.if-not-is_bound.false))
-
 pub returns : goal.returns
-returns c = λ as' a. passing_done (c.loop-i.invariant as' a) c.loop-i-test.false
+returns c = λ as' a.
+    let xs = slice c.args.from c.args.end c.args.numbers.now in
+    let bound = λ (v : ℕ). any (λ (t : Atom). elem v t.variables) as' in
+    let e = all_from_yields_List bound _ _ c.all.result c.all.ensures.ran
+    (YieldsList-from_slice xs (c.iter.ensures.rest ∙ part_slice c.args.from c.args.end c.args.numbers.now c.requires.1)) (λ x b q k. search (rules, tests)) in
+    e ∙ sym (every_all bound xs)

@@ -12,9 +12,9 @@ returns-then-not-has_arguments c = λ P g h a. rw (failed (c.has_arguments.ensur
 pub returns-then-kind-eq0 : goal.returns-then-kind-eq0
 returns-then-kind-eq0 c = λ P g h a. rw (passed (c.has_arguments.ensures P g) (ap not c.if-not-has_arguments.false), eq-eqb _ _ c.if-kind-eq0.true) at (head_named_lem g a)
 
-pub returns-then-counts-label : goal.returns-then-counts-label
-returns-then-counts-label c =
-    λ P g h a. rw (passed (c.has_arguments.ensures P g) (ap not c.if-not-has_arguments.false), ne_eqb _ _ c.if-kind-eq0.false, le-ltb _ _ c.if-counts-label.true)
+pub returns-then-setting-label : goal.returns-then-setting-label
+returns-then-setting-label c =
+    λ P g h a. rw (passed (c.has_arguments.ensures P g) (ap not c.if-not-has_arguments.false), ne_eqb _ _ c.if-kind-eq0.false, le-ltb _ _ c.if-setting-label.true)
     at (head_named_lem g a)
 
 pub returns-then-kind-ne1 : goal.returns-then-kind-ne1
@@ -22,7 +22,7 @@ returns-then-kind-ne1 c =
     λ P g h a. rw (
       passed (c.has_arguments.ensures P g) (ap not c.if-not-has_arguments.false),
       ne_eqb _ _ c.if-kind-eq0.false,
-      lt-ltb _ _ c.if-counts-label.false,
+      lt-ltb _ _ c.if-setting-label.false,
       ne_eqb _ _ c.if-kind-ne1.true,
     ) at (head_named_lem g a)
 
@@ -31,6 +31,6 @@ returns c =
     λ P g h a. c.has_arguments-2.ensures P g ∙ rw (
       passed (c.has_arguments.ensures P g) (ap not c.if-not-has_arguments.false),
       ne_eqb _ _ c.if-kind-eq0.false,
-      lt-ltb _ _ c.if-counts-label.false,
+      lt-ltb _ _ c.if-setting-label.false,
       eq-eqb _ _ c.if-kind-ne1.false,
     ) at (head_named_lem g a)

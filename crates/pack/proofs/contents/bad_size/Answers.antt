@@ -1,16 +1,18 @@
 -- `contents::bad_size` meets its contract. Assumes nothing.
-use borrow.Author.Tests.{le-leb, lt-leb}
+use borrow.Author.Rules.{rules}
+use mathlib.Core.Path.{◌≡◌, sym, ◌∙◌}
+use lib.ListN.{length}
+use Rattle.meaning.specs.Limits.{contents_bytes, max_pack_bytes}
+use Rattle.meaning.specs.Tests.{within}
 use Rattle.pack.specs.Contents.{bad_size}
 use Rattle.pack.proofs.contents.bad_size.Goals as goal
 
-pub returns-then-s-lt-CONTENTS_BYTES : goal.returns-then-s-lt-CONTENTS_BYTES
+pub returns-then-not-contains : goal.returns-then-not-contains
 unfolding bad_size
-returns-then-s-lt-CONTENTS_BYTES c = rw (lt-leb _ _ c.if-s-lt-CONTENTS_BYTES.true)
-
-pub returns-then-s-gt-MAX_PACK_BYTES : goal.returns-then-s-gt-MAX_PACK_BYTES
-unfolding bad_size
-returns-then-s-gt-MAX_PACK_BYTES c = rw (le-leb _ _ c.if-s-lt-CONTENTS_BYTES.false, lt-leb _ _ c.if-s-gt-MAX_PACK_BYTES.true)
+returns-then-not-contains c = let w : c.contains.result ≡ within contents_bytes max_pack_bytes (length c.args.s.now) = search rules in
+    rw (sym w ∙ c.if-not-contains.true)
 
 pub returns : goal.returns
 unfolding bad_size
-returns c = rw (le-leb _ _ c.if-s-lt-CONTENTS_BYTES.false, le-leb _ _ c.if-s-gt-MAX_PACK_BYTES.false, ← c.start.ensures)
+returns c = let w : c.contains.result ≡ within contents_bytes max_pack_bytes (length c.args.s.now) = search rules in
+    rw (sym w ∙ c.if-not-contains.false, ← c.start.ensures)

@@ -1,4 +1,5 @@
 -- `query::leaves::read_leaf` meets its contract: it passes on what the byte chooses. Assumes nothing.
+use borrow.Author.Tests.{eqb-true, eqb-false}
 use mathlib.Core.Path.{sym, ◌∙◌}
 use Prim.Native.Nat.{◌+◌}
 use native.Mathlib.Omega.{arith}
@@ -12,24 +13,24 @@ use Rattle.query.specs.Tree.{h_any}
 use Rattle.query.proofs.LeafLaws.{reread, store, leaf_iri, leaf_literal, leaf_any, leaf_name}
 use Rattle.query.proofs.leaves.read_leaf.Goals as goal
 
-pub returns-then-c-eq-ANGLE_OPEN : goal.returns-then-c-eq-ANGLE_OPEN
-returns-then-c-eq-ANGLE_OPEN c =
+pub returns-then-is_at : goal.returns-then-is_at
+returns-then-is_at c =
     let a = c.args in
     let r = c.read_label in
-    reread a.q.now a.tree.now r.new.tree a.at (a.at + 1) a.n r.result.0 r.result.1 r.result.2 (labelled 3 (drop (a.at + 1) a.q.now))
-    (leaf (drop a.at a.q.now)) r.ensures (omega arith) (leaf_iri a.q.now a.at (sym c.peek-c.ensures ∙ c.if-c-eq-ANGLE_OPEN.true))
+    reread a.q.now a.tree.now r.new.tree a.at (a.at + 1) a.n r.result (labelled 3 (drop (a.at + 1) a.q.now))
+    (leaf (drop a.at a.q.now)) r.ensures (omega arith) (leaf_iri a.q.now a.at (eqb-true _ _ (sym c.is_at.ensures ∙ c.if-is_at.true)))
 
-pub returns-then-c-eq-QUOTE : goal.returns-then-c-eq-QUOTE
-returns-then-c-eq-QUOTE c =
+pub returns-then-is_at-2 : goal.returns-then-is_at-2
+returns-then-is_at-2 c =
     let a = c.args in
-    let r = c.read_label-then-c-eq-QUOTE in
-    reread a.q.now a.tree.now r.new.tree a.at (a.at + 1) a.n r.result.0 r.result.1 r.result.2 (labelled 4 (drop (a.at + 1) a.q.now))
-    (leaf (drop a.at a.q.now)) r.ensures (omega arith) (leaf_literal a.q.now a.at (sym c.peek-c.ensures ∙ c.if-c-eq-QUOTE.true))
+    let r = c.read_label-then-is_at-2 in
+    reread a.q.now a.tree.now r.new.tree a.at (a.at + 1) a.n r.result (labelled 4 (drop (a.at + 1) a.q.now))
+    (leaf (drop a.at a.q.now)) r.ensures (omega arith) (leaf_literal a.q.now a.at (eqb-true _ _ (sym c.is_at-2.ensures ∙ c.if-is_at-2.true)))
 
-pub returns-then-c-eq-UNDERSCORE : goal.returns-then-c-eq-UNDERSCORE
-returns-then-c-eq-UNDERSCORE c =
+pub returns-then-is_at-3 : goal.returns-then-is_at-3
+returns-then-is_at-3 c =
     let a = c.args in
-    let e = sym c.peek-c.ensures ∙ c.if-c-eq-UNDERSCORE.true in
+    let e = eqb-true _ _ (sym c.is_at-3.ensures ∙ c.if-is_at-3.true) in
     let h = get_d_within a.q.now a.at 95 e (lit< tt) in
     store a.q.now a.tree.now a.at a.n (a.at + 1) c.pack.result (leaf (drop a.at a.q.now)) any_step (omega arith) (omega arith) (omega arith)
     (leaf_any a.q.now a.at e) (λ w. h_any (w ∙ c.pack.ensures))
@@ -38,6 +39,7 @@ pub returns : goal.returns
 returns c =
     let a = c.args in
     let r = c.read_name in
-    reread a.q.now a.tree.now r.new.tree a.at a.at a.n r.result.0 r.result.1 r.result.2 (name (drop a.at a.q.now))
+    reread a.q.now a.tree.now r.new.tree a.at a.at a.n r.result (name (drop a.at a.q.now))
     (leaf (drop a.at a.q.now)) r.ensures (omega arith)
-    (leaf_name a.q.now a.at c.peek-c.result c.peek-c.ensures c.if-c-eq-ANGLE_OPEN.false c.if-c-eq-QUOTE.false c.if-c-eq-UNDERSCORE.false)
+    (leaf_name a.q.now a.at (eqb-false _ _ (sym c.is_at.ensures ∙ c.if-is_at.false)) (eqb-false _ _ (sym c.is_at-2.ensures ∙ c.if-is_at-2.false))
+    (eqb-false _ _ (sym c.is_at-3.ensures ∙ c.if-is_at-3.false)))

@@ -1,56 +1,74 @@
--- `record::load_record` meets its contract: each kind's own function does. Assumes nothing.
-use Rattle.records.proofs.Keeping.{constructor_fits, name_fits, row_fits, rule_fits, value_fits}
+-- `record::load_record` meets its contract: the numbers of each kind are put. Assumes nothing.
+use native.Mathlib.Omega.{arith}
+use Rattle.records.proofs.Keeping.{constructor_fits, name_fits, value_fits}
 use Rattle.records.proofs.Keeping.{constructor_kept, dependency_kept, name_kept, relation_kept, row_kept, rule_kept, shape_kept, value_kept}
 use Rattle.records.proofs.record.load_record.Goals as goal
 
-pub keep_text-requires : goal.keep_text-requires
-keep_text-requires c = (value_fits c.args.s.now c.args.c c.requires.1 c.value.result c.value.ensures, rw c.in-Value.is at c.requires.2)
+pub returns-in_err-text-in-Value : goal.returns-in_err-text-in-Value
+returns-in_err-text-in-Value c = rw (c.in-Value.is, c.from_residual.ensures) c.in_err-text-in-Value.ensures
 
-pub keep_byte-requires : goal.keep_byte-requires
-keep_byte-requires c = rw c.in-Relation.is at c.requires.2
+pub returns-in_err-arity-in-Relation : goal.returns-in_err-arity-in-Relation
+returns-in_err-arity-in-Relation c = rw (c.in-Relation.is, c.from_residual-in_err-arity-in-Relation.ensures) c.in_err-arity-in-Relation.ensures
 
-pub keep_dependency-requires : goal.keep_dependency-requires
-keep_dependency-requires c = rw c.in-Dependency.is at c.requires.2
+pub returns-in_err-d-in-Dependency : goal.returns-in_err-d-in-Dependency
+returns-in_err-d-in-Dependency c = rw (c.in-Dependency.is, c.from_residual-in_err-d-in-Dependency.ensures) c.in_err-d-in-Dependency.ensures
 
-pub keep_text-requires-in-Name : goal.keep_text-requires-in-Name
-keep_text-requires-in-Name c = (name_fits c.args.s.now c.args.c c.requires.1 c.name.result c.name.ensures, rw c.in-Name.is at c.requires.2)
+pub returns-in_err-name-in-Name : goal.returns-in_err-name-in-Name
+returns-in_err-name-in-Name c = rw (c.in-Name.is, c.from_residual-in_err-name-in-Name.ensures) c.in_err-name-in-Name.ensures
 
-pub keep_shape-requires : goal.keep_shape-requires
-keep_shape-requires c = rw c.in-Shape.is at c.requires.2
+pub returns-in_err-shape-in-Shape : goal.returns-in_err-shape-in-Shape
+returns-in_err-shape-in-Shape c = rw (c.in-Shape.is, c.from_residual-in_err-shape-in-Shape.ensures) c.in_err-shape-in-Shape.ensures
 
-pub keep_constructor-requires : goal.keep_constructor-requires
-keep_constructor-requires c = (constructor_fits c.args.s.now c.args.c c.requires.1 c.constructor.result c.constructor.ensures, rw c.in-Constructor.is at c.requires.2)
+pub returns-in_err-k-in-Constructor : goal.returns-in_err-k-in-Constructor
+returns-in_err-k-in-Constructor c = rw (c.in-Constructor.is, c.from_residual-in_err-k-in-Constructor.ensures) c.in_err-k-in-Constructor.ensures
 
-pub keep_rule-requires : goal.keep_rule-requires
-keep_rule-requires c = (rule_fits c.args.s.now c.args.c c.rule.result c.rule.ensures, rw c.in-Rule.is at c.requires.2)
+pub returns-in_err-rule-in-Rule : goal.returns-in_err-rule-in-Rule
+returns-in_err-rule-in-Rule c = rw (c.in-Rule.is, c.from_residual-in_err-rule-in-Rule.ensures) c.in_err-rule-in-Rule.ensures
 
-pub keep_row-requires : goal.keep_row-requires
-keep_row-requires c = (row_fits c.args.s.now c.args.c c.row.result c.row.ensures, rw c.in-Row.is at c.requires.2)
+pub returns-in_err-row-in-Row : goal.returns-in_err-row-in-Row
+returns-in_err-row-in-Row c = rw (c.in-Row.is, c.from_residual-in_err-row-in-Row.ensures) c.in_err-row-in-Row.ensures
 
-pub returns-in-Value : goal.returns-in-Value
-returns-in-Value c = rw c.in-Value.is (value_kept c.args.s.now c.args.c c.args.at c.args.out.now c.keep_text.new.out c.keep_text.result c.value.result c.value.ensures c.keep_text.ensures)
+pub place-requires : goal.place-requires
+place-requires c = value_fits c.requires.0 c.in_ok-text-in-Value.ensures
 
-pub returns-in-Relation : goal.returns-in-Relation
-returns-in-Relation c = rw c.in-Relation.is
-    (relation_kept c.args.s.now c.args.c c.args.at c.args.out.now c.keep_byte.new.out c.keep_byte.result c.relation.result c.relation.ensures c.keep_byte.ensures)
+pub overflow_cast-text : goal.overflow_cast-text
+overflow_cast-text c = omega (arith, (value_fits c.requires.0 c.in_ok-text-in-Value.ensures).1)
 
-pub returns-in-Dependency : goal.returns-in-Dependency
-returns-in-Dependency c = rw c.in-Dependency.is
-    (dependency_kept c.args.s.now c.args.c c.args.at c.args.out.now c.keep_dependency.new.out c.keep_dependency.result c.dependency.result c.dependency.ensures c.keep_dependency.ensures)
+pub place-requires-in-Name : goal.place-requires-in-Name
+place-requires-in-Name c = name_fits c.requires.0 c.in_ok-name-in-Name.ensures
 
-pub returns-in-Name : goal.returns-in-Name
-returns-in-Name c = rw c.in-Name.is
-    (name_kept c.args.s.now c.args.c c.args.at c.args.out.now c.keep_text-in-Name.new.out c.keep_text-in-Name.result c.name.result c.name.ensures c.keep_text-in-Name.ensures)
+pub overflow_cast-name : goal.overflow_cast-name
+overflow_cast-name c = omega (arith, (name_fits c.requires.0 c.in_ok-name-in-Name.ensures).1)
 
-pub returns-in-Shape : goal.returns-in-Shape
-returns-in-Shape c = rw c.in-Shape.is (shape_kept c.args.s.now c.args.c c.args.at c.args.out.now c.keep_shape.new.out c.keep_shape.result c.shape.result c.shape.ensures c.keep_shape.ensures)
+pub place-requires-in-Constructor : goal.place-requires-in-Constructor
+place-requires-in-Constructor c = constructor_fits c.requires.0 c.in_ok-k-in-Constructor.ensures
 
-pub returns-in-Constructor : goal.returns-in-Constructor
-returns-in-Constructor c = rw c.in-Constructor.is
-    (constructor_kept c.args.s.now c.args.c c.args.at c.args.out.now c.keep_constructor.new.out c.keep_constructor.result c.constructor.result c.constructor.ensures c.keep_constructor.ensures)
+pub overflow_cast-k-in-Constructor : goal.overflow_cast-k-in-Constructor
+overflow_cast-k-in-Constructor c = omega (arith, (constructor_fits c.requires.0 c.in_ok-k-in-Constructor.ensures).1)
 
-pub returns-in-Rule : goal.returns-in-Rule
-returns-in-Rule c = rw c.in-Rule.is (rule_kept c.args.s.now c.args.c c.args.at c.args.out.now c.keep_rule.new.out c.keep_rule.result c.rule.result c.rule.ensures c.keep_rule.ensures)
+pub put_rule-requires : goal.put_rule-requires
+put_rule-requires c = rw c.in-Rule.is at c.requires.1
 
-pub returns-in-Row : goal.returns-in-Row
-returns-in-Row c = rw c.in-Row.is (row_kept c.args.s.now c.args.c c.args.at c.args.out.now c.keep_row.new.out c.keep_row.result c.row.result c.row.ensures c.keep_row.ensures)
+pub returns-in_ok-text-in-Value : goal.returns-in_ok-text-in-Value
+returns-in_ok-text-in-Value c = rw c.in-Value.is (value_kept c.in_ok-text-in-Value.ensures c.place.ensures c.put.ensures)
+
+pub returns-in_ok-arity-in-Relation : goal.returns-in_ok-arity-in-Relation
+returns-in_ok-arity-in-Relation c = rw c.in-Relation.is (relation_kept c.in_ok-arity-in-Relation.ensures c.put-in-Relation.ensures)
+
+pub returns-in_ok-d-in-Dependency : goal.returns-in_ok-d-in-Dependency
+returns-in_ok-d-in-Dependency c = rw c.in-Dependency.is (dependency_kept c.in_ok-d-in-Dependency.ensures c.put-in-Dependency.ensures)
+
+pub returns-in_ok-name-in-Name : goal.returns-in_ok-name-in-Name
+returns-in_ok-name-in-Name c = rw c.in-Name.is (name_kept c.in_ok-name-in-Name.ensures c.place-in-Name.ensures c.put-in-Name.ensures)
+
+pub returns-in_ok-shape-in-Shape : goal.returns-in_ok-shape-in-Shape
+returns-in_ok-shape-in-Shape c = rw c.in-Shape.is (shape_kept c.in_ok-shape-in-Shape.ensures c.put-in-Shape.ensures)
+
+pub returns-in_ok-k-in-Constructor : goal.returns-in_ok-k-in-Constructor
+returns-in_ok-k-in-Constructor c = rw c.in-Constructor.is (constructor_kept c.in_ok-k-in-Constructor.ensures c.place-in-Constructor.ensures c.put-in-Constructor.ensures)
+
+pub returns-in_ok-rule-in-Rule : goal.returns-in_ok-rule-in-Rule
+returns-in_ok-rule-in-Rule c = rw c.in-Rule.is (rule_kept c.in_ok-rule-in-Rule.ensures c.put_rule.ensures)
+
+pub returns-in_ok-row-in-Row : goal.returns-in_ok-row-in-Row
+returns-in_ok-row-in-Row c = rw c.in-Row.is (row_kept c.in_ok-row-in-Row.ensures c.row_numbers.ensures c.put-in-Row.ensures)

@@ -1,17 +1,6 @@
--- `row::row_numbers` meets its contract: the first i numbers are filled in. Assumes nothing.
-use mathlib.Core.Path.{refl}
-use native.Mathlib.Omega.{arith}
-use Rattle.pack.specs.Records.{row_of}
-use Rattle.pack.specs.Shown.{made}
-use Rattle.records.proofs.Rows.{length_row}
-use Rattle.meaning.proofs.Lists.Filling.{filling_done, filling_on, filling_start}
+-- `row::row_numbers` meets its contract. Assumes nothing.
+use Rattle.records.proofs.Terms.{row_made}
 use Rattle.records.proofs.row.row_numbers.Goals as goal
 
-pub loop-i-init : goal.loop-i-init
-loop-i-init c = filling_start _ _ (length_row (made row_of c.args.s.now c.args.row)) refl
-
-pub loop-i-preserved : goal.loop-i-preserved
-loop-i-preserved c = filling_on c.loop-i.invariant c.row_number.ensures (omega arith)
-
 pub returns : goal.returns
-returns c = filling_done c.loop-i.invariant (omega arith)
+returns c = row_made c.args.row c.put_bytes.ensures

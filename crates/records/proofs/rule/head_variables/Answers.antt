@@ -1,15 +1,12 @@
--- `rule::head_variables` meets its contract: the first i numbers are filled in. Assumes nothing.
-use mathlib.Core.Path.{refl}
-use native.Mathlib.Omega.{arith}
-use Rattle.records.proofs.Terms.{length_variables}
-use Rattle.meaning.proofs.Lists.Filling.{filling_done, filling_on, filling_start}
+-- `rule::head_variables` meets its contract. Assumes nothing.
+use Rattle.records.proofs.Terms.{variables_link, variables_type, variables_value}
 use Rattle.records.proofs.rule.head_variables.Goals as goal
 
-pub loop-i-init : goal.loop-i-init
-loop-i-init c = filling_start _ _ (length_variables _ _ _ _) refl
+pub returns-in-Nothing : goal.returns-in-Nothing
+returns-in-Nothing c = rw c.in-Nothing.is (variables_type _ _ c.args.head.subject.few c.put_bytes.ensures)
 
-pub loop-i-preserved : goal.loop-i-preserved
-loop-i-preserved c = filling_on c.loop-i.invariant c.head_variable.ensures (omega arith)
+pub returns-in-Term : goal.returns-in-Term
+returns-in-Term c = rw c.in-Term.is (variables_link _ _ c.args.head.subject.few c.put_bytes.ensures _ c.in-Term.other.few c.put_bytes-in-Term.ensures)
 
-pub returns : goal.returns
-returns c = filling_done c.loop-i.invariant (omega arith)
+pub returns-in-Variable : goal.returns-in-Variable
+returns-in-Variable c = rw c.in-Variable.is (variables_value _ _ c.args.head.subject.few c.put_bytes.ensures _ c.put.ensures)

@@ -3,4 +3,4 @@ use Rattle.construct.proofs.FromSteps.{is_resolved}
 use Rattle.rounds.proofs.count.count_rounds.Goals as goal
 
 pub from_rows-requires : goal.from_rows-requires
-from_rows-requires c = is_resolved (c.check-checked.ensures.loaded c.if-refusal-ne0.false)
+from_rows-requires c = is_resolved c.in_ok-counts.ensures

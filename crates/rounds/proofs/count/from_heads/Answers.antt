@@ -9,8 +9,10 @@ shape_table-shapes-requires c = setting_resolved c.requires.0
 pub head_table-requires : goal.head_table-requires
 head_table-requires c = setting_given c.requires.0
 
+pub invariant_of-found_heads : goal.invariant_of-found_heads
+invariant_of-found_heads c = let p = c.requires in
+    record { fit = (core_ready (record { shapes = c.shape_table-shapes.ensures; heads = c.head_table.ensures }) p.0 p.1).1 }
+
 pub core-requires : goal.core-requires
-core-requires c =
-    let p = c.requires in
-    let k = core_ready (record { shapes = c.shape_table-shapes.ensures; heads = c.head_table.ensures }) p.0 p.1 in
-    (k.0, k.1, refl, refl, refl, refl)
+core-requires c = let p = c.requires in
+    ((core_ready (record { shapes = c.shape_table-shapes.ensures; heads = c.head_table.ensures }) p.0 p.1).0, refl, refl, refl, refl)

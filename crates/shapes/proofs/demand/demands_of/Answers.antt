@@ -8,9 +8,6 @@ use Rattle.shapes.proofs.demand.demands_of.Goals as goal
 pub loop-left-init : goal.loop-left-init
 loop-left-init c = join_start _ _
 
-pub overflow_cast-t : goal.overflow_cast-t
-overflow_cast-t c = omega (arith, trailing_le 16 c.loop-left.left)
-
 pub joined-more-requires : goal.joined-more-requires
 joined-more-requires c = (join_next c.loop-left.invariant c.loop-left-test.true).0
 

@@ -3,14 +3,14 @@ use borrow.Author.Rules.{rules}
 use Rattle.spelling.proofs.MatchedAt.{matching_start, matching_again, matching_over, matching_done}
 use Rattle.spelling.proofs.compare.segment_end.Goals as goal
 
-pub loop-i-init : goal.loop-i-init
-loop-i-init c = (search rules, search rules, matching_start _ _ _)
+pub loop-b-init : goal.loop-b-init
+loop-b-init c = matching_start _ _ _
 
-pub returns-in-Differs : goal.returns-in-Differs
-returns-in-Differs c = search (matching_over, rules)
+pub returns-in_err-to : goal.returns-in_err-to
+returns-in_err-to c = search (matching_over, rules)
 
-pub loop-i-preserved : goal.loop-i-preserved
-loop-i-preserved c = (search rules, search rules, search (matching_again, rules))
+pub loop-b-preserved : goal.loop-b-preserved
+loop-b-preserved c = search (matching_again, rules)
 
 pub returns : goal.returns
 returns c = search (matching_done, rules)

@@ -3,14 +3,14 @@ use borrow.Author.Rules.{rules}
 use Rattle.spelling.proofs.Written.{room_start, room_again, room_over, room_done}
 use Rattle.spelling.proofs.write.fits.Goals as goal
 
-pub loop-i-init : goal.loop-i-init
-loop-i-init c = (search rules, search rules, room_start _ _)
+pub loop-b-init : goal.loop-b-init
+loop-b-init c = room_start _ _
 
 pub returns-then-left-n : goal.returns-then-left-n
 returns-then-left-n c = search (room_over, rules)
 
-pub loop-i-preserved : goal.loop-i-preserved
-loop-i-preserved c = (search rules, search rules, search (room_again, rules))
+pub loop-b-preserved : goal.loop-b-preserved
+loop-b-preserved c = search (room_again, rules)
 
 pub returns : goal.returns
 returns c = search (room_done, rules)

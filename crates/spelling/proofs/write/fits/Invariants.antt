@@ -1,8 +1,5 @@
-use lib.ListN.{length}
-use mathlib.Core.Path.{◌≡◌}
-use Prim.Native.Nat.{◌≤◌}
 use Rattle.spelling.proofs.Written.{Room}
 use Rattle.spelling.proofs.write.fits.Given as goal
 
-abbrev pub invariant-loop-i : goal.invariant-loop-i
-invariant-loop-i l = (l.i ≤ length l.value) × (l.i-end ≡ length l.value) × Room l.value l.room l.i l.left
+abbrev pub invariant-loop-b : goal.invariant-loop-b
+invariant-loop-b l = Room l.value l.room l.b-index l.left

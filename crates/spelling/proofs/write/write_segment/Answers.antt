@@ -12,15 +12,15 @@ returns-then-dst-at c = no_place (segment c.args.value.now) c.args.at c.args.dst
 pub returns-then-not-fits : goal.returns-then-not-fits
 returns-then-not-fits c = fits_not c.args.value.now c.args.at c.args.dst.now c.if-dst-at.false _ c.fits.ensures (ap not c.if-not-fits.true)
 
-pub loop-i-init : goal.loop-i-init
-loop-i-init c = (search rules, search rules, search (fits_start, rules))
+pub loop-b-init : goal.loop-b-init
+loop-b-init c = search (fits_start, rules)
 
 pub write_byte-to-requires : goal.write_byte-to-requires
 write_byte-to-requires c = search (writing_room, rules)
 
-pub loop-i-preserved : goal.loop-i-preserved
-loop-i-preserved c = (search rules, search rules, search (writing_again, rules))
+pub loop-b-preserved : goal.loop-b-preserved
+loop-b-preserved c = search (writing_again, rules)
 
 pub returns : goal.returns
-returns c = fits_done c.args.value.now c.args.at c.args.dst.now c.if-dst-at.false _ c.fits.ensures (ap not c.if-not-fits.false) c.loop-i.invariant.2
+returns c = fits_done c.args.value.now c.args.at c.args.dst.now c.if-dst-at.false _ c.fits.ensures (ap not c.if-not-fits.false) c.loop-b.invariant
     (omega arith)

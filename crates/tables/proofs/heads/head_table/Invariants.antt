@@ -5,4 +5,4 @@ use Rattle.meaning.proofs.Lists.Filling.{Put}
 use Rattle.tables.proofs.heads.head_table.Given as goal
 
 abbrev pub invariant-loop-i : goal.invariant-loop-i
-invariant-loop-i l = Put (λ k. take head_width (drop (rules_at + k * rule_width + head_from) l.numbers)) [] max_rules l.i l.table
+invariant-loop-i l = Put (λ k. take head_width (drop (rules_at + k * rule_width + head_from) l.setting.numbers.now)) [] max_rules l.i l.table

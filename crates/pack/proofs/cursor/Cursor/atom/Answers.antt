@@ -6,4 +6,4 @@ use Rattle.pack.proofs.cursor.Cursor.atom.Goals as goal
 
 pub returns : goal.returns
 unfolding atom
-returns c = tuple_as atom_of variable max_columns c.args.s.now c.args.self c.tuple.result c.tuple.ensures
+returns c = tuple_as atom_of variable max_columns c.args.self c.tuple.result c.tuple.ensures

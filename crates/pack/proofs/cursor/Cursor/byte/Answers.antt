@@ -2,8 +2,8 @@
 use Rattle.pack.proofs.Reading.{byte_got, byte_not}
 use Rattle.pack.proofs.cursor.Cursor.byte.Goals as goal
 
-pub returns-then-end-at : goal.returns-then-end-at
-returns-then-end-at c = byte_not _ _ c.requires c.if-end-at.true
+pub returns-then-self : goal.returns-then-self
+returns-then-self c = byte_not _ c.if-self.true
 
 pub returns : goal.returns
-returns c = byte_got _ _ c.requires c.if-end-at.false
+returns c = byte_got _ c.if-self.false c.past.ensures

@@ -1,23 +1,15 @@
 -- `Cursor::constructor` meets its contract. Assumes nothing.
 use Rattle.pack.specs.Records.{constructor}
-use Rattle.pack.proofs.Reading.{then_got, then_not, then_bad, give_got}
+use Rattle.pack.proofs.Reading.{constructor_got, then_not, then_bad}
 use Rattle.pack.proofs.cursor.Cursor.constructor.Goals as goal
 
-pub returns-in_default : goal.returns-in_default
+pub returns-in_err-arity : goal.returns-in_err-arity
 unfolding constructor
-returns-in_default c = then_not _ c.in_default.ensures
+returns-in_err-arity c = rw c.from_residual.ensures (then_not _ c.in_err-arity.ensures)
 
-pub sized-requires : goal.sized-requires
+pub returns-in_err-prefix : goal.returns-in_err-prefix
 unfolding constructor
-sized-requires c = c.in-Byte.ensures.placed
-
-pub returns-in_default-sized : goal.returns-in_default-sized
-unfolding constructor
-returns-in_default-sized c = then_bad _ c.in-Byte.ensures (then_not _ c.in_default-sized.ensures)
+returns-in_err-prefix c = rw c.from_residual-in_err-prefix.ensures (then_bad _ c.in_ok-arity.ensures (then_not _ c.in_err-prefix.ensures))
 
 pub returns : goal.returns
-unfolding constructor
-returns c = record {
-  got = then_got _ c.in-Byte.ensures (then_got _ c.in-Text.ensures.got (give_got c.in-Text.ensures.got.placed));
-  inside = c.in-Text.ensures.inside;
-}
+returns c = constructor_got c.in_ok-arity.ensures c.in_ok-prefix.ensures

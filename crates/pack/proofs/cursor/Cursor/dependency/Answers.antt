@@ -3,28 +3,20 @@ use Rattle.pack.specs.Records.{dependency}
 use Rattle.pack.proofs.Reading.{then_got, then_not, then_bad, give_got}
 use Rattle.pack.proofs.cursor.Cursor.dependency.Goals as goal
 
-pub returns-in_default : goal.returns-in_default
+pub returns-in_err-relation : goal.returns-in_err-relation
 unfolding dependency
-returns-in_default c = then_not _ c.in_default.ensures
+returns-in_err-relation c = rw c.from_residual.ensures (then_not _ c.in_err-relation.ensures)
 
-pub byte-requires-2 : goal.byte-requires-2
+pub returns-in_err-left : goal.returns-in_err-left
 unfolding dependency
-byte-requires-2 c = c.in-Byte.ensures.placed
+returns-in_err-left c = rw c.from_residual-in_err-left.ensures (then_bad _ c.in_ok-relation.ensures (then_not _ c.in_err-left.ensures))
 
-pub returns-in_default-byte : goal.returns-in_default-byte
+pub returns-in_err-right : goal.returns-in_err-right
 unfolding dependency
-returns-in_default-byte c = then_bad _ c.in-Byte.ensures (then_not _ c.in_default-byte.ensures)
-
-pub byte-requires-3 : goal.byte-requires-3
-unfolding dependency
-byte-requires-3 c = c.in-Byte-byte.ensures.placed
-
-pub returns-in_default-byte-2 : goal.returns-in_default-byte-2
-unfolding dependency
-returns-in_default-byte-2 c = then_bad _ c.in-Byte.ensures
-    (then_bad _ c.in-Byte-byte.ensures (then_not _ c.in_default-byte-2.ensures))
+returns-in_err-right c = rw c.from_residual-in_err-right.ensures
+    (then_bad _ c.in_ok-relation.ensures (then_bad _ c.in_ok-left.ensures (then_not _ c.in_err-right.ensures)))
 
 pub returns : goal.returns
 unfolding dependency
-returns c = then_got _ c.in-Byte.ensures
-    (then_got _ c.in-Byte-byte.ensures (then_got _ c.in-Byte-byte-2.ensures (give_got c.in-Byte-byte-2.ensures.placed)))
+returns c = then_got _ c.in_ok-relation.ensures
+    (then_got _ c.in_ok-left.ensures (then_got _ c.in_ok-right.ensures give_got))

@@ -1,30 +1,24 @@
 -- `Cursor::rule` meets its contract. Assumes nothing.
+use Rattle.meaning.specs.Limits.{max_atoms}
+use Rattle.pack.proofs.Reading.{byte_in_bound}
 use Rattle.pack.proofs.RuleReading.{rule_got, rule_headless, rule_no_kind, rule_no_atoms, rule_not}
 use Rattle.pack.proofs.cursor.Cursor.rule.Goals as goal
 
-pub returns-in_default : goal.returns-in_default
-returns-in_default c = rule_not c.in_default.ensures
+pub returns-in_err-count : goal.returns-in_err-count
+returns-in_err-count c = rw c.from_residual.ensures (rule_not c.in_err-count.ensures)
 
-pub atoms-requires : goal.atoms-requires
-atoms-requires c = c.in-Byte.ensures.placed
+pub returns-in_err-a : goal.returns-in_err-a
+returns-in_err-a c = rw c.from_residual-in_err-a.ensures (rule_no_atoms c.in_ok-count.ensures c.in_err-a.ensures)
 
-pub returns-in_default-atoms : goal.returns-in_default-atoms
-returns-in_default-atoms c = rule_no_atoms c.in-Byte.ensures c.in_default-atoms.ensures
+pub returns-in_err-kind : goal.returns-in_err-kind
+returns-in_err-kind c = rw c.from_residual-in_err-kind.ensures (rule_no_kind c.in_ok-count.ensures c.in_ok-a.ensures c.in_err-kind.ensures)
 
-pub byte_in-requires-2 : goal.byte_in-requires-2
-byte_in-requires-2 c = c.in-To.ensures.got.placed
+pub returns-in_err-head : goal.returns-in_err-head
+returns-in_err-head c = rw c.from_residual-in_err-head.ensures
+    (rule_headless c.in_ok-count.ensures c.in_ok-a.ensures _ c.in_ok-kind.ensures c.in_err-head.ensures)
 
-pub returns-in_default-byte_in : goal.returns-in_default-byte_in
-returns-in_default-byte_in c = rule_no_kind c.in-Byte.ensures c.in-To.ensures
-    c.in_default-byte_in.ensures
-
-pub head-requires : goal.head-requires
-head-requires c = c.in-Byte-byte_in.ensures.placed
-
-pub returns-in_default-head : goal.returns-in_default-head
-returns-in_default-head c = rule_headless c.in-Byte.ensures c.in-To.ensures
-    c.in-Byte-byte_in.ensures c.in_default-head.ensures
+pub invariant_of-result : goal.invariant_of-result
+invariant_of-result c = record { few = (byte_in_bound 1 max_atoms c.in_ok-count.ensures).1 }
 
 pub returns : goal.returns
-returns c = rule_got c.in-Byte.ensures c.in-To.ensures
-    c.in-Byte-byte_in.ensures c.in-Head.ensures
+returns c = rule_got c.in_ok-count.ensures c.in_ok-a.ensures _ c.in_ok-kind.ensures c.in_ok-head.ensures

@@ -3,38 +3,25 @@ use Rattle.pack.specs.Records.{shape}
 use Rattle.pack.proofs.Reading.{then_not, then_bad, shape_got}
 use Rattle.pack.proofs.cursor.Cursor.shape.Goals as goal
 
-pub returns-in_default : goal.returns-in_default
+pub returns-in_err-owner : goal.returns-in_err-owner
 unfolding shape
-returns-in_default c = then_not _ c.in_default.ensures
+returns-in_err-owner c = rw c.from_residual.ensures (then_not _ c.in_err-owner.ensures)
 
-pub byte-requires-2 : goal.byte-requires-2
+pub returns-in_err-predicate : goal.returns-in_err-predicate
 unfolding shape
-byte-requires-2 c = c.in-Byte.ensures.placed
+returns-in_err-predicate c = rw c.from_residual-in_err-predicate.ensures (then_bad _ c.in_ok-owner.ensures (then_not _ c.in_err-predicate.ensures))
 
-pub returns-in_default-byte : goal.returns-in_default-byte
+pub returns-in_err-target : goal.returns-in_err-target
 unfolding shape
-returns-in_default-byte c = then_bad _ c.in-Byte.ensures (then_not _ c.in_default-byte.ensures)
+returns-in_err-target c = rw c.from_residual-in_err-target.ensures
+    (then_bad _ c.in_ok-owner.ensures (then_bad _ c.in_ok-predicate.ensures (then_not _ c.in_err-target.ensures)))
 
-pub byte-requires-3 : goal.byte-requires-3
+pub returns-in_err-multiplicity : goal.returns-in_err-multiplicity
 unfolding shape
-byte-requires-3 c = c.in-Byte-byte.ensures.placed
-
-pub returns-in_default-byte-2 : goal.returns-in_default-byte-2
-unfolding shape
-returns-in_default-byte-2 c = then_bad _ c.in-Byte.ensures
-    (then_bad _ c.in-Byte-byte.ensures (then_not _ c.in_default-byte-2.ensures))
-
-pub byte_in-requires : goal.byte_in-requires
-unfolding shape
-byte_in-requires c = c.in-Byte-byte-2.ensures.placed
-
-pub returns-in_default-byte_in : goal.returns-in_default-byte_in
-unfolding shape
-returns-in_default-byte_in c = then_bad _ c.in-Byte.ensures
-    (then_bad _ c.in-Byte-byte.ensures
-    (then_bad _ c.in-Byte-byte-2.ensures (then_not _ c.in_default-byte_in.ensures)))
+returns-in_err-multiplicity c = rw c.from_residual-in_err-multiplicity.ensures
+    (then_bad _ c.in_ok-owner.ensures
+    (then_bad _ c.in_ok-predicate.ensures (then_bad _ c.in_ok-target.ensures (then_not _ c.in_err-multiplicity.ensures))))
 
 pub returns : goal.returns
-unfolding shape
-returns c = shape_got c.requires c.in-Byte.ensures c.in-Byte-byte.ensures
-    c.in-Byte-byte-2.ensures c.in-Byte-byte_in.ensures
+returns c = shape_got c.in_ok-owner.ensures c.in_ok-predicate.ensures
+    c.in_ok-target.ensures c.in_ok-multiplicity.ensures

@@ -6,4 +6,4 @@ use Rattle.pack.proofs.cursor.Cursor.term.Goals as goal
 
 pub returns : goal.returns
 unfolding term
-returns c = tuple_as term_of variable max_arguments c.args.s.now c.args.self c.tuple.result c.tuple.ensures
+returns c = tuple_as term_of variable max_arguments c.args.self c.tuple.result c.tuple.ensures

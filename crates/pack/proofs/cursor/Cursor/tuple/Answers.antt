@@ -1,16 +1,17 @@
 -- `Cursor::tuple` meets its contract. Assumes nothing.
 use Rattle.pack.specs.Shown.{pair}
-use Rattle.pack.proofs.Reading.{tuple_got, tuple_not, tuple_bad}
+use Rattle.pack.proofs.Reading.{tuple_bad, tuple_few, tuple_got, tuple_not}
+use mathlib.Core.Path.{refl}
 use Rattle.pack.proofs.cursor.Cursor.tuple.Goals as goal
 
-pub returns-in_default : goal.returns-in_default
-returns-in_default c = tuple_not pair _ _ c.in_default.ensures
+pub returns-in_err-number : goal.returns-in_err-number
+returns-in_err-number g c = rw c.from_residual.ensures (tuple_not pair _ _ c.in_err-number.ensures)
 
-pub sized-requires : goal.sized-requires
-sized-requires c = c.in-Byte.ensures.placed
+pub returns-in_err-start : goal.returns-in_err-start
+returns-in_err-start g c = rw c.from_residual-in_err-start.ensures (tuple_bad pair _ _ c.in_ok-number.ensures c.in_err-start.ensures)
 
-pub returns-in_default-sized : goal.returns-in_default-sized
-returns-in_default-sized c = tuple_bad pair _ _ c.in-Byte.ensures c.in_default-sized.ensures
+pub invariant_of-result : goal.invariant_of-result
+invariant_of-result g c = record { few = tuple_few _ _ c.in_ok-start.ensures }
 
 pub returns : goal.returns
-returns c = tuple_got pair _ _ c.in-Byte.ensures c.in-Text.ensures
+returns g c = tuple_got pair _ _ c.in_ok-number.ensures c.in_ok-start.ensures refl

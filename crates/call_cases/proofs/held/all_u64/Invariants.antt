@@ -1,6 +1,0 @@
-use lib.ListN.{length}
-use mathlib.Core.Path.{◌≡◌}
-use Rattle.call_cases.proofs.held.all_u64.Given as goal
-
-abbrev pub invariant-loop-i : goal.invariant-loop-i
-invariant-loop-i l = l.i-end ≡ length l.list

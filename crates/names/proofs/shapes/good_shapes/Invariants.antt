@@ -1,9 +1,0 @@
-use Rattle.meaning.specs.Pack.{Pack}
-use Rattle.meaning.specs.Tests.{every}
-use Rattle.meaning.specs.WellFormed.{good_shape}
-use Rattle.names.specs.PackGiven.{SettingGiven}
-use Rattle.meaning.proofs.Lists.Testing.{Left}
-use Rattle.names.proofs.shapes.good_shapes.Given as goal
-
-abbrev pub invariant-loop-i : goal.invariant-loop-i
-invariant-loop-i l = (P : Pack) → SettingGiven P l.counts l.numbers → Left (every (good_shape P)) P.setting.shapes l.i

@@ -1,9 +1,0 @@
--- `bytes::in_range` meets its contract. Assumes nothing.
-use borrow.Author.Tests.{le-leb, lt-leb}
-use Rattle.pack.proofs.bytes.in_range.Goals as goal
-
-pub returns-then-b-lo : goal.returns-then-b-lo
-returns-then-b-lo c = rw (lt-leb _ _ c.if-b-lo.true)
-
-pub returns : goal.returns
-returns c = rw (le-leb _ _ c.if-b-lo.false)
