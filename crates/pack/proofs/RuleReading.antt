@@ -2,14 +2,14 @@
 use borrow.Author.Tests.{le-leb, lt-leb, lt-ltb, le-ltb}
 use mathlib.Core.Bool.{true}
 use mathlib.Core.List.{List, [], ◌∷◌}
-use mathlib.Core.Path.{◌≡◌, refl}
+use mathlib.Core.Path.{◌≡◌, refl, sym, ap, ◌∙◌}
 use native.Mathlib.Nat.{sub-zero}
 use native.Mathlib.Omega.{arith}
-use Prim.Native.Nat.{ℕ, suc, ◌+◌, ◌-◌, ◌≤◌, ◌<◌, zero-le}
+use Prim.Native.Nat.{ℕ, zero, suc, ◌+◌, ◌-◌, ◌≤◌, ◌<◌, zero-le}
 use Rattle.meaning.specs.Limits.{max_atoms, max_variables}
 use Rattle.meaning.specs.Pack.{Atom, Head, Term, has_type, links_to, links_to_value}
 use Rattle.meaning.specs.Tests.{within}
-use Rattle.pack.specs.Kinds.{kind_number}
+use Rattle.pack.specs.Kinds.{KindOf, ReadAs, kind_number, kind_read}
 use Rattle.pack.specs.Readers.{◌>>=◌, byte, byte_in}
 use Rattle.pack.specs.Records.{atom, atoms, term, head_of, rule}
 use Rattle.pack.specs.Shown.{Got, Not, Skipped, head_at, object_of, RuleGot}
@@ -17,6 +17,8 @@ use Rattle.pack.specs.declared.cursor.Cursor.{Cursor}
 use Rattle.pack.specs.declared.cursor.Head.{Head as HeadPlaces}
 use Rattle.pack.specs.declared.kinds.HeadKind.{HeadKind}
 use Rattle.pack.specs.declared.kinds.HeadKind.TheVariants as H
+use Rattle.std.specs.Option.{unwrap_or}
+use Rattle.std.specs.Prelude.{Option, Some, None}
 use Rattle.pack.proofs.Reading.{byte_in_got, byte_in_out, then_got, then_not, then_bad, give_got, only_got, only_not}
 
 -- ---- atoms: i of n are read, and c is past them
@@ -91,6 +93,27 @@ module _ {c d : Cursor} {n : ℕ} (g : Got byte c n d) where
   pub kind_out : 2 < n → Not (byte_in 0 2) c
   kind_out h = byte_in_out 0 2 g (rw (le-leb 0 n zero-le, lt-leb n 2 h) refl)
 
+read_kind : (n : ℕ) → head_of n ≡ head_of (kind_number (kind_read n))
+unfolding head_of
+read_kind zero = refl
+read_kind (suc zero) = refl
+read_kind (suc (suc k)) = refl
+
+-- the kind of a number, or that of a value where it has none
+pub read_as : (n : ℕ) (o : Option HeadKind) → KindOf n o → ReadAs n (unwrap_or o H.Value)
+read_as n (Some k) e = rw e (record { kind = same k; heads = refl })
+  where
+    same : (k : HeadKind) → k ≡ kind_read (kind_number k)
+    same H.Type = refl
+    same H.Link = refl
+    same H.Value = refl
+read_as n None h = record { kind = sym (above n h); heads = read_kind n ∙ ap (λ k. head_of (kind_number k)) (above n h) }
+  where
+    above : (n : ℕ) → 2 < n → kind_read n ≡ H.Value
+    above zero h = absurd (omega (arith, h))
+    above (suc zero) h = absurd (omega (arith, h))
+    above (suc (suc k)) h = refl
+
 by_kind : (kind : HeadKind) → head_of (kind_number kind) ≡ ◌>>=◌ term (λ t. ◌>>=◌ byte (object_of kind t))
 unfolding head_of object_of
 by_kind H.Type = refl
@@ -138,6 +161,7 @@ module _ {c first : Cursor} {n : ℕ} (a : Got (byte_in 1 max_atoms) c n first) 
       rule_got h = record {
         list = b.it;
         past = past;
+        counted = a;
         listed = b.got;
         got = then_got _ a (then_got _ b.got (then_got _ k (then_got _ h give_got)));
       }

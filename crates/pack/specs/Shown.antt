@@ -2,6 +2,7 @@
 use Rattle.std.specs.Prelude.{length, List, [], ◌∷◌, ◌≡◌, ℕ, ◌+◌, ◌≤◌, Option, Some, None}
 use Rattle.std.proofs.Math.Seq.{slice}
 use Rattle.std.proofs.Math.Option.{none, some}
+use Rattle.meaning.specs.Limits.{max_atoms}
 use Rattle.meaning.specs.Pack.{ShapeRecord, Atom, Head, Term, has_type, links_to, links_to_value}
 use Rattle.pack.specs.Contents.{start_of, body_of}
 use Rattle.pack.specs.Kinds.{kind_number}
@@ -147,6 +148,7 @@ HeadShown kind c None = Not (head_of (kind_number kind)) c
 pub record RuleGot (c : Cursor) (r : Rule) (d : Cursor) : Type 0 where
   pub list : List Atom
   pub past : Cursor
+  pub counted : Got (byte_in 1 max_atoms) c r.count r.first
   pub listed : Got (atoms r.count) r.first list past
   pub got : Got rule c (record { atoms = list; head = head_at r.head }) d
 

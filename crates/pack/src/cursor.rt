@@ -56,6 +56,9 @@ pub struct Tuple<'a, const MOST: usize> {
     pub ghost few: { length items.now ≤ MOST },
 }
 
+// With a bound that is known when it is read: a byte counts the items, so there are 255 at most.
+pub type Items<'a> = Tuple<'a, 255>;
+
 pub type Atom<'a> = Tuple<'a, MAX_COLUMNS>;
 
 pub type Term<'a> = Tuple<'a, MAX_ARGUMENTS>;
@@ -88,7 +91,7 @@ pub struct Rule<'a> {
 }
 
 impl<'a> Cursor<'a> {
-    ghost use Rattle.std.specs.Prelude.{◌+◌};
+    ghost use Rattle.std.specs.Prelude.{◌+◌, IfSome};
     ghost use Rattle.pack.specs.Readers.{byte, byte_in, sized};
     ghost use Rattle.pack.specs.Records.{value, relation, name, tuple, atom, atom_of, term, term_of, row, row_of, atoms};
     ghost use Rattle.pack.specs.Classes.{in_class};
@@ -205,13 +208,22 @@ impl<'a> Cursor<'a> {
     }
 
     // A number, a count from 1 to the bound, and that many bytes of the class.
+    pub fn tuple_within(self, class: Class, most: u8) -> Option<(Items<'a>, Self)>
+        ensures reads { TupleShown pair (tuple pair (in_class class) most) self.entry result }
+        ensures few { IfSome result (λ p. length p.0.items.now ≤ most) }
+    {
+        let (number, a) = self.byte()?;
+        let (Text { start, len }, next) = a.sized(class, 1, most)?;
+        let items = &a.bytes[start..start + len];
+        Some((Tuple { number, items }, next))
+    }
+
+    // The same, where the bound is a constant.
     pub fn tuple<const MOST: usize>(self, class: Class) -> Option<(Tuple<'a, MOST>, Self)>
         requires { MOST ≤ 255 }
         ensures { TupleShown pair (tuple pair (in_class class) MOST) self.entry result }
     {
-        let (number, a) = self.byte()?;
-        let (Text { start, len }, next) = a.sized(class, 1, MOST as u8)?;
-        let items = &a.bytes[start..start + len];
+        let (Tuple { number, items }, next) = self.tuple_within(class, MOST as u8)?;
         Some((Tuple { number, items }, next))
     }
 

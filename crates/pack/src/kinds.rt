@@ -1,6 +1,6 @@
 // The kinds of record, and of a rule's head.
 ghost use Rattle.std.specs.Prelude.{◌≡◌};
-ghost use Rattle.pack.specs.Kinds.{KindOf, kind_number};
+ghost use Rattle.pack.specs.Kinds.{KindOf, ReadAs, kind_number};
 
 #[derive(Clone, Copy)]
 pub enum Kind {
@@ -44,5 +44,14 @@ impl HeadKind {
             2 => Some(HeadKind::Value),
             _ => None,
         }
+    }
+}
+
+// The kind by which a head of a number is read: any number above 1 is that of a value.
+impl From<u8> for HeadKind {
+    ghost from_gives = { λ number kind. ReadAs number kind };
+
+    fn from(number: u8) -> HeadKind {
+        HeadKind::from_number(number).unwrap_or(HeadKind::Value)
     }
 }

@@ -1,10 +1,14 @@
 -- The numbers of a row, of an atom and of a head, put over one number that is repeated. Assumes nothing.
+use borrow.Author.Tests.{leb-true, leb-false}
+use lib.Dec.{leb}
 use lib.ListN.{length, length-append, length-replicate, drop, replicate, replicate-append-replicate, take}
 use lib.Seq.{drop_at, drop-append-add, take-append-add, take_at}
 use mathlib.Core.List.{List, [], ◌∷◌, ◌++◌, append_assoc}
 use mathlib.Core.Path.{◌≡◌, refl, sym, ap, ◌∙◌}
 use native.Mathlib.Omega.{arith}
-use Prim.Native.Nat.{ℕ, suc, ◌+◌, ◌-◌, ◌≤◌}
+use Prim.Native.Nat.{ℕ, suc, ◌+◌, ◌-◌, ◌≤◌, ◌<◌, min}
+use Rattle.std.proofs.lemmas.List.{length-take, length-take-le, take-append-le, take_all}
+use Rattle.meaning.proofs.Cases.{case_on}
 use Rattle.meaning.specs.Limits.{atom_width, max_arguments, max_columns, max_head_variables, row_width, unused}
 use Rattle.meaning.specs.Pack.{Atom, Head, Row, Term, has_type, links_to, links_to_value}
 use Rattle.meaning.specs.Tables.{atom_numbers, head_arguments, row_numbers}
@@ -45,14 +49,32 @@ put_over front n z {xs} h p =
 pub length_row : (r : Row) → length (row_numbers r) ≡ row_width
 length_row r = ap suc (padded_wide max_columns unused r.cells)
 
-module _ (t : Tuple max_columns) {out : List ℕ} where
-  pub row_made : Put t.items.now 1 (t.number ∷ replicate max_columns unused) out → out ≡ row_numbers (made row_of t)
-  row_made p = put_over (t.number ∷ []) max_columns unused t.few p
+-- the first n are the same with no more than n of the list
+first_padded : (n z : ℕ) (xs : List ℕ) → take n (padded n z (take (min (length xs) n) xs)) ≡ take n (padded n z xs)
+first_padded n z xs = case_on (leb (length xs) n) (λ e. short (leb-true _ _ e)) (λ e. long (leb-false _ _ e))
+  where
+    short : length xs ≤ n → take n (padded n z (take (min (length xs) n) xs)) ≡ take n (padded n z xs)
+    short h = ap (λ (ys : List ℕ). take n (padded n z ys)) (take_all (min (length xs) n) xs (omega arith))
 
-  -- ---- an atom
+    long : n < length xs → take n (padded n z (take (min (length xs) n) xs)) ≡ take n (padded n z xs)
+    long h =
+        let e : min (length xs) n ≡ n = omega arith in
+        let l : length (take n xs) ≡ n = length-take-le n xs (omega arith) in
+        ap (λ (k : ℕ). take n (padded n z (take k xs))) e
+        ∙ take-append-le n (take n xs) (replicate n z) (omega (arith, l)) ∙ take_all n (take n xs) (omega (arith, l))
+        ∙ sym (take-append-le n xs (replicate n z) (omega arith))
 
-  pub atom_made : Put t.items.now 2 (t.number ∷ length t.items.now ∷ replicate max_columns 0) out → out ≡ atom_numbers (made atom_of t)
-  atom_made p = put_over (t.number ∷ length t.items.now ∷ []) max_columns 0 t.few p
+pub row_made : {most : ℕ} (t : Tuple most) {out : List ℕ} → Put (take (min (length t.items.now) max_columns) t.items.now) 1 (t.number ∷ replicate max_columns unused) out
+    → out ≡ row_numbers (made row_of t)
+row_made t p =
+    let xs = t.items.now in
+    put_over (t.number ∷ []) max_columns unused (omega (arith, length-take (min (length xs) max_columns) xs)) p
+    ∙ ap (λ (ys : List ℕ). t.number ∷ ys) (first_padded max_columns unused xs)
+
+-- ---- an atom
+
+pub atom_made : (t : Tuple max_columns) {out : List ℕ} → Put t.items.now 2 (t.number ∷ length t.items.now ∷ replicate max_columns 0) out → out ≡ atom_numbers (made atom_of t)
+atom_made t p = put_over (t.number ∷ length t.items.now ∷ []) max_columns 0 t.few p
 
 pub length_atom : (a : Atom) → length (atom_numbers a) ≡ atom_width
 length_atom a = ap (λ (n : ℕ). suc (suc n)) (padded_wide max_columns 0 a.variables)

@@ -3,4 +3,4 @@ use Rattle.records.proofs.Terms.{row_made}
 use Rattle.records.proofs.row.row_numbers.Goals as goal
 
 pub returns : goal.returns
-returns c = row_made c.args.row c.put_bytes.ensures
+returns g c = row_made c.args.row (rw c.min-kept.ensures at c.put_bytes.ensures)
