@@ -5,7 +5,7 @@ ghost use Rattle.answers.specs.Ready.{PairsReady, YesReady};
 ghost use Rattle.reached.specs.Walked.{PairsAre};
 ghost use Rattle.states.specs.Lists.{lists_of};
 ghost use Rattle.states.specs.Living.{Yes};
-ghost use Rattle.worklist.specs.Table.{board_of};
+ghost use Rattle.worklist.specs.Table.{Same, board_of};
 
 use alive::{mark_alive, some_alive};
 use forward::Named;
@@ -19,7 +19,7 @@ use worklist::Board;
 // Whether the query joins some two nodes.
 pub fn some_joined(lists: &Lists, board: &mut Board) -> bool
     requires { YesReady (lists_of lists.now) (board_of board.old) }
-    ensures { Yes result (lists_of lists.now) }
+    ensures { Yes result (lists_of lists.now) × Same (board_of board.old) (board_of board.new) }
 {
     let mut starts = [0u16; MAX_NODES + 2];
     let mut into = [0u16; MAX_TRIPLES];
@@ -49,7 +49,7 @@ pub fn joined_pairs(
 ) -> Result<usize, TooMany>
     requires { YesReady (lists_of lists.now) (board_of board.old)
         × PairsReady (lists_of lists.now) named index.now seen.old pairs.old }
-    ensures { PairsAre result (lists_of lists.now) named pairs.new }
+    ensures { PairsAre result (lists_of lists.now) named pairs.new × Same (board_of board.old) (board_of board.new) }
 {
     let mut starts = [0u16; MAX_NODES + 2];
     let mut into = [0u16; MAX_TRIPLES];

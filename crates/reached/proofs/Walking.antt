@@ -16,7 +16,7 @@ use Rattle.states.specs.Lists.{Lists, ReachedIn, StepIn}
 use Rattle.walk.specs.Walk.{onward, start}
 use Rattle.worklist.proofs.Growth.{adds_sound, all_looked, turn_looked, turn_marked}
 use Rattle.worklist.proofs.Stack.{stacked_as}
-use Rattle.worklist.specs.Table.{AddsOnly, Blank, Board, FromWord, InWord, Looked, Marked, Stacked, Table, Takes}
+use Rattle.worklist.specs.Table.{AddsOnly, Blank, Board, FromWord, InWord, Looked, Marked, Same, Stacked, Table, Takes}
 
 -- The number x is a state at a named node that is reached.
 pub record StateReached (L : Lists) (named v x : ℕ) : Type 0 where
@@ -114,7 +114,8 @@ module _ {L : Lists} {named : ℕ} {own index alive : List ℕ} (f : WalkReady L
     }
 
     -- what the code then has
-    pub walk_ended : {c : Board} → c ≡ b → Walked L named v c.marked × (seen_words ≤ length c.marked) × Stacked seen_words c.waiting c.stack 0 × (c.top ≡ 0)
-    walk_ended e =
-        subst (λ (d : Board). Walked L named v d.marked × (seen_words ≤ length d.marked) × Stacked seen_words d.waiting d.stack 0 × (d.top ≡ 0)) (sym e)
-        (walk_done, g.marks.long, stacked_as done g.marks.stacked, done)
+    pub walk_ended : {a c : Board} → Same a b → c ≡ b
+        → Walked L named v c.marked × (seen_words ≤ length c.marked) × Stacked seen_words c.waiting c.stack 0 × (c.top ≡ 0) × Same a c
+    walk_ended {a} s e =
+        subst (λ (d : Board). Walked L named v d.marked × (seen_words ≤ length d.marked) × Stacked seen_words d.waiting d.stack 0 × (d.top ≡ 0) × Same a d) (sym e)
+        (walk_done, g.marks.long, stacked_as done g.marks.stacked, done, s)

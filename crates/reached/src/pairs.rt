@@ -5,7 +5,7 @@ ghost use Rattle.reached.specs.Keys.{pair_key};
 ghost use Rattle.forward.specs.Ready.{ReadyFor};
 ghost use Rattle.reached.specs.Walked.{EndsAre, ListedBelow, ListedUpTo, PairsAre, Walked, ends_from};
 ghost use Rattle.states.specs.Lists.{lists_of};
-ghost use Rattle.worklist.specs.Table.{Blank, Stacked, board_of};
+ghost use Rattle.worklist.specs.Table.{Blank, Same, Stacked, board_of};
 
 use crate::keys::pair_key;
 use forward::Named;
@@ -23,7 +23,7 @@ fn walk(lists: &Lists, named: &Named, start: usize, board: &mut Board)
     requires { ReadyFor (lists_of lists.now) named.now × (start < named.now.count) × Blank seen_words (board_of board.old) }
     ensures { Walked (lists_of lists.now) named.now.count start board.new.marked.now
         × (seen_words ≤ length board.new.marked.now) × Stacked seen_words board.new.waiting.now board.new.stack.now 0
-        × (board.new.top ≡ 0) }
+        × (board.new.top ≡ 0) × Same (board_of board.old) (board_of board.new) }
 {
     let root = lists.sizes.parts - 1;
     board.mark(root * MAX_CORE_NODES + start);
@@ -80,7 +80,7 @@ fn list_from(
         × (start < named.now.count) × Blank seen_words (board_of board.old)
         × ListedBelow (lists_of lists.now) named.now.count (pair_key start 0) pairs.old k × (max_pairs ≤ length pairs.old) }
     ensures { ListedUpTo result (lists_of lists.now) named.now.count (pair_key (start + 1) 0) pairs.new
-        × Blank seen_words (board_of board.new) }
+        × Blank seen_words (board_of board.new) × Same (board_of board.old) (board_of board.new) }
 {
     let root = lists.sizes.parts - 1;
     if !has(named.alive, root * MAX_NODES + start) {
@@ -101,7 +101,7 @@ pub fn list_pairs(
     pairs: &mut [u32],
 ) -> Result<usize, TooMany>
     requires { ReadyFor (lists_of lists.now) named.now × Blank seen_words (board_of board.old) × (max_pairs ≤ length pairs.old) }
-    ensures { PairsAre result (lists_of lists.now) named.now.count pairs.new }
+    ensures { PairsAre result (lists_of lists.now) named.now.count pairs.new × Same (board_of board.old) (board_of board.new) }
 {
     let mut k = 0;
     for start in 0..named.count {

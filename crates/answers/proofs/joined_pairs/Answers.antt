@@ -31,4 +31,4 @@ list_pairs-requires c = let p = c.requires.1 in (
 )
 
 pub returns : goal.returns
-returns c = c.list_pairs.ensures
+returns c = (c.list_pairs.ensures.0, record { is = c.mark_alive.ensures.3.is })

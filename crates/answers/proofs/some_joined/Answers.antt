@@ -15,4 +15,7 @@ some_alive-requires c = let p = c.requires.fits in
     ((omega (arith, p.graph.few_nodes), (p.query.some, p.query.few)), c.mark_alive.ensures.0.long)
 
 pub returns : goal.returns
-returns c = some_yes c.requires.fits.query.some c.mark_alive.ensures.0 c.some_alive.result c.some_alive.ensures
+returns c = (
+  some_yes c.requires.fits.query.some c.mark_alive.ensures.0 c.some_alive.result c.some_alive.ensures,
+  record { is = c.mark_alive.ensures.3.is },
+)

@@ -30,4 +30,4 @@ joined_pairs-requires c =
     )
 
 pub returns : goal.returns
-returns c pack query r = pairs_answer r c.thread.new.next c.thread.ensures c.named.ensures c.joined_pairs.result _ c.joined_pairs.ensures
+returns c pack query r = pairs_answer r c.thread.new.next c.thread.ensures c.named.ensures c.joined_pairs.result _ c.joined_pairs.ensures.0

@@ -20,4 +20,4 @@ some_joined-requires c =
     }
 
 pub returns : goal.returns
-returns c pack query r = yes_answer r c.thread.new.next c.thread.ensures c.some_joined.result c.some_joined.ensures
+returns c pack query r = yes_answer r c.thread.new.next c.thread.ensures c.some_joined.result c.some_joined.ensures.0

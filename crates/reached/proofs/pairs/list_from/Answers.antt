@@ -3,7 +3,7 @@ use native.Mathlib.Omega.{arith}
 use Prim.Native.Nat.{◌*◌, ◌+◌}
 use Rattle.meaning.specs.Limits.{named_words}
 use Rattle.reached.proofs.Listing.{alive_not, listed_dead, listed_from}
-use Rattle.worklist.proofs.Growth.{cleared_none}
+use Rattle.worklist.proofs.Growth.{cleared_none, same_start}
 use Rattle.reached.proofs.pairs.list_from.Goals as goal
 
 pub returns-then-not-has : goal.returns-then-not-has
@@ -11,6 +11,7 @@ returns-then-not-has c = let pre = c.requires in (
   listed_dead pre.0.fits pre.0.nodes pre.0.living pre.1 (alive_not _ _ _ c.has.ensures c.if-not-has.true)
       pre.3,
   pre.2,
+  same_start,
 )
 
 pub returns : goal.returns
@@ -23,4 +24,5 @@ returns c = (
         (λ x l e. let a = c.walk.ensures.0.within x l e in omega arith) c.clear_words.ensures,
     c.walk.ensures.3,
   ),
+  record { is = c.walk.ensures.4.is },
 )
