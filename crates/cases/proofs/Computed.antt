@@ -10,7 +10,26 @@ use native.Mathlib.Omega.{arith}
 use Prim.Native.Nat.{ℕ, ◌≤◌}
 use Rattle.pack.proofs.Accepted.{WellFormed, well_formed_lem}
 use Rattle.cases.proofs.Bounds.{is_term_lem, not_large, not_many}
-use Rattle.cases.proofs.Run.{asked, graph_of, is_term, listed, of_pack, on_pack, on_query, on_term, only_if, refuses_as, run, short_lists, shown_clash, small_core, unless, unless_clash, with_graph}
+use Rattle.cases.proofs.Run.{
+  asked,
+  graph_of,
+  is_term,
+  listed,
+  of_pack,
+  on_pack,
+  on_query,
+  on_term,
+  only_if,
+  refused_by,
+  refuses_as,
+  run,
+  short_lists,
+  shown_clash,
+  small_core,
+  unless,
+  unless_clash,
+  with_graph,
+}
 use Rattle.cases.specs.Says.{
   Call,
   Outcome,
@@ -29,7 +48,6 @@ use Rattle.cases.specs.Says.{
   read_gives,
   read_refused,
   refused,
-  refuses,
   spell,
   spelled,
 }
@@ -95,7 +113,7 @@ module _ (s : Text) (c : Call) where
   only_if_lem true o f = f tt
   only_if_lem false o f = tt
 
-  on_clash : (P : Pack) (x : Option Clash) (o : Option Outcome) → ((d : Clash) → x ≡ some d → Says s c (refuses (shown_clash P d)))
+  on_clash : (P : Pack) (x : Option Clash) (o : Option Outcome) → ((d : Clash) → x ≡ some d → Says s c (refused_by (shown_clash P d)))
       → (x ≡ none → Right s c o) → Right s c (unless_clash P x o)
   on_clash P none o a b = b refl
   on_clash P (some d) o a b = a d refl
@@ -218,7 +236,7 @@ module _ (s : Text) (P : Pack) (x : Passes s P) where
 -- ---- the tests before a graph is given, for any call that gives one
 
 abbrev Refused : Text → Call → Type 0
-Refused s c = (e : Refusal) → Refuses {A = Size} s (Err e) → Says s c (refuses e)
+Refused s c = (e : Refusal) → Refuses {A = Size} s (Err e) → Says s c (refused_by e)
 
 module _ (s : Text) (c : Call) (says : Refused s c) where
   with_graph_lem : (f : Pack → Option Outcome) → ((P : Pack) → Passes s P → Right s c (f P)) → Right s c (graph_of s f)
@@ -239,7 +257,7 @@ build_right s = with_graph_lem s build (λ e x. build_refused x) listed λ P x. 
 ask_right : (q s : Text) → Right s (ask q) (run (ask q) s)
 ask_right q s = go (expression_of q) refl
   where
-    no_query : Refusal2 q → Says s (ask q) (refuses NoExpression)
+    no_query : Refusal2 q → Says s (ask q) (refused_by NoExpression)
     no_query n = ask_refused (Prepared.no_query n refl) (Pairs.before_12 (Prepared.no_query n refl))
 
     no_expression : expression_of q ≡ none → Refusal2 q

@@ -18,10 +18,10 @@ use Rattle.cases.specs.Says.{
   read_gives,
   read_refused,
   refused,
-  refuses,
   spelled,
   term,
 }
+use Rattle.cases.proofs.Run.{refused_by}
 use Rattle.construct.proofs.Once.{not_given, one_index, one_records, one_refusal}
 use Rattle.construct.proofs.Refused.{no_error}
 use Rattle.iris.specs.declared.iri.Term.{Term}
@@ -50,7 +50,7 @@ says_once (is_refused e) (is_refused f) = ap refused (one_number e f)
 says_once (is_refused e) (is_fine f) = not_both e f
 says_once (is_fine e) (is_refused f) = not_both f e
 says_once (is_fine e) (is_fine f) = refl
-says_once (build_refused x) (build_refused y) = ap refuses (same_error (one_refusal x y))
+says_once (build_refused x) (build_refused y) = ap refused_by (same_error (one_refusal x y))
 says_once (build_refused x) (build_gives G n t e) = absurd (not_given x G)
 says_once (build_gives G n t e) (build_refused y) = absurd (not_given y G)
 says_once (build_gives G n t e) (build_gives H m u f) =
@@ -59,14 +59,14 @@ says_once (build_gives G n t e) (build_gives H m u f) =
     let ts = sym t ∙ l.1 ∙ u in
     let es = sym e ∙ one_index G H ∙ f in
     λ i. graph (ns i) (ts i) (es i)
-says_once (ask_refused {q} x z) (ask_refused y w) = ap refuses (same_error ((yes_no.fixed _ q).one_refusal x y))
+says_once (ask_refused {q} x z) (ask_refused y w) = ap refused_by (same_error ((yes_no.fixed _ q).one_refusal x y))
 says_once (ask_refused {q} x z) (ask_gives {y} Y f H u) = absurd ((yes_no.fixed _ q).not_both {s = Ok y} x Y)
 says_once (ask_gives {q} {y} X e G t) (ask_refused x w) = absurd ((yes_no.fixed _ q).not_both {s = Ok y} x X)
 says_once (ask_gives {q} {y = r} X e G t) (ask_gives {y = s} Y f H u) =
     let b = sym e ∙ ap (λ (a : YesNo). a.yes) (same_value ((yes_no.fixed _ q).one_result {r = Ok r} {s = Ok s} X Y).0) ∙ f in
     let ps = sym t ∙ one_list G H ∙ u in
     λ i. answer (b i) (ps i)
-says_once (read_refused x) (read_refused y) = ap refuses (same_error (answers_once x y))
+says_once (read_refused x) (read_refused y) = ap refused_by (same_error (answers_once x y))
 says_once (read_refused x) (read_gives y) = no_error (answers_once y x)
 says_once (read_gives x) (read_refused y) = no_error (answers_once x y)
 says_once (read_gives x) (read_gives y) = ap (λ (r : Term). term (r.constructor ∷ r.values)) (same_value (answers_once x y))

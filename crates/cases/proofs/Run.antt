@@ -20,7 +20,7 @@ use Rattle.meaning.specs.Built.{core}
 use Rattle.meaning.specs.Limits.{max_core_triples, max_iris, max_nodes, max_pairs, max_triples}
 use Rattle.meaning.specs.Pack.{Constructor, Pack, Text}
 use Rattle.meaning.specs.Query.{Expr}
-use Rattle.meaning.specs.Refusals.{refusal_of}
+use Rattle.meaning.specs.Refusals.{number_of, refusal_of}
 use Rattle.meaning.specs.declared.refusal.Refusal.TheVariants.{Clash as ClashOf, NoIri}
 use Rattle.meaning.specs.declared.refusal.Refusal.{Refusal}
 use Rattle.meaning.specs.Tests.{every, there_and}
@@ -56,8 +56,12 @@ abbrev pub only_if : Bool → Option Outcome → Option Outcome
 only_if true o = o
 only_if false o = none
 
+-- "A refusal gives its number"
+abbrev pub refused_by : Refusal → Outcome
+refused_by e = refuses (number_of e) e
+
 abbrev pub refuses_as : ℕ → Outcome
-refuses_as k = refuses (refusal_of k)
+refuses_as k = refused_by (refusal_of k)
 
 -- 10 with a clash
 abbrev pub with_clash : List ℕ → ℕ → List ℕ → List ℕ → Refusal
@@ -69,7 +73,7 @@ shown_clash P c = with_clash (node_numbers P (core c.subject)) c.predicate (node
 
 abbrev pub unless_clash : Pack → Option Clash → Option Outcome → Option Outcome
 unless_clash P none o = o
-unless_clash P (some c) o = some (refuses (shown_clash P c))
+unless_clash P (some c) o = some (refused_by (shown_clash P c))
 
 abbrev pub unless : Bool → ℕ → Option Outcome → Option Outcome
 unless true k o = some (refuses_as k)
@@ -100,7 +104,7 @@ on_query none f = some (refuses_as 2)
 on_query (some e) f = f e
 
 abbrev pub on_term : Option (ℕ × List ℕ) → Option Outcome
-on_term none = some (refuses NoIri)
+on_term none = some (refused_by NoIri)
 on_term (some t) = some (term (numbers t.0 t.1))
 
 -- ---- the calls

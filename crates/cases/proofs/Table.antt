@@ -9,7 +9,7 @@ use Prim.Native.Nat.{ℕ}
 use Prim.Native.String.{String}
 use Rattle.cases.proofs.Computed.{run_says}
 use Rattle.cases.proofs.Encode.{encode}
-use Rattle.cases.proofs.Run.{with_clash, is_term, refuses_as, run, small_core}
+use Rattle.cases.proofs.Run.{with_clash, is_term, run, small_core}
 use Rattle.cases.specs.Says.{Call, Outcome, Says, answer, ask, build, check, fine, graph, iri, read, refused, refuses, spell, term}
 use Rattle.grammar.specs.Grammar.{stars}
 use Rattle.grammar.specs.Parse.{
@@ -63,6 +63,7 @@ use Rattle.meaning.specs.Limits.{unused}
 use Rattle.meaning.proofs.Lists.Members.{map_each}
 use Rattle.meaning.specs.Member.{◌∈◌}
 use Rattle.meaning.specs.Pack.{Pack, Text, Literal, type, one, has_type, Constructor, ShapeRecord, Dependency, shape_of}
+use Rattle.meaning.specs.declared.refusal.Refusal.TheVariants.{BadSize, BrokenDependency, MixedKinds, NoExpression, NoIri}
 use Rattle.pack.proofs.Computing.{checking}
 use Rattle.spelling.proofs.CoreTerms.{plain?}
 use Rattle.spelling.specs.Iri.{slashed, joined, iri_by, spelling_by}
@@ -154,33 +155,33 @@ cases =
     of sample (query "<sty:r1>/name/\"Roman\"") (answer true ((0 ∷ 1 ∷ []) ∷ [])) ∷
     of sample (query "nosuch*") (answer true ((0 ∷ 0 ∷ []) ∷ (1 ∷ 1 ∷ []) ∷ [])) ∷
     -- P: "adding Style(r1,g) is 8; without the dependency, 10."
-    of (two_names first_decides_second) build (refuses_as 8) ∷
-    of (two_names []) build (refuses (with_clash (iri_node₁ 0 1 0) 0 (plain_node 1 1 0) (plain_node 1 2 0))) ∷
+    of (two_names first_decides_second) build (refuses 8 BrokenDependency) ∷
+    of (two_names []) build (refuses 10 (with_clash (iri_node₁ 0 1 0) 0 (plain_node 1 1 0) (plain_node 1 2 0))) ∷
     -- card 8: lowest subject, then lowest predicate, then the two lowest objects
-    of several_clashes build (refuses (with_clash (iri_node₁ 0 1 0) 1 (iri_node₁ 1 2 0) (iri_node₁ 1 2 1))) ∷
-    of several_clashes (query "name") (refuses (with_clash (iri_node₁ 0 1 0) 1 (iri_node₁ 1 2 0) (iri_node₁ 1 2 1))) ∷
+    of several_clashes build (refuses 10 (with_clash (iri_node₁ 0 1 0) 1 (iri_node₁ 1 2 0) (iri_node₁ 1 2 1))) ∷
+    of several_clashes (query "name") (refuses 10 (with_clash (iri_node₁ 0 1 0) 1 (iri_node₁ 1 2 0) (iri_node₁ 1 2 1))) ∷
     -- P: "a rule giving sty(s) name fam(s) in place of n: 11."
-    of name_is_iri build (refuses_as 11) ∷
+    of name_is_iri build (refuses 11 MixedKinds) ∷
     -- P: "a second type on sty(s) whose shape for family is Literal 3: 11."
-    of second_type build (refuses_as 11) ∷
+    of second_type build (refuses 11 MixedKinds) ∷
     -- P: "value a/b under "sty:" is sty:a%2Fb; the empty value, sty:.": spelled, and read back
     of special (spell 0 (0 ∷ [])) (iri (ascii "sty:a%2Fb")) ∷
     of special (spell 0 (1 ∷ [])) (iri (ascii "sty:")) ∷
     of special (spell 2 (0 ∷ 3 ∷ [])) (iri (ascii "http://x/a%2Fb/%00%FF")) ∷
     of special (text "sty:a%2Fb") (term (0 ∷ 0 ∷ unused ∷ unused ∷ unused ∷ [])) ∷
     of special (text "sty:") (term (0 ∷ 1 ∷ unused ∷ unused ∷ unused ∷ [])) ∷
-    of special (text "sty:a/b") (refuses_as 13) ∷
+    of special (text "sty:a/b") (refuses 13 NoIri) ∷
     of sample (text "fam:g") (term (1 ∷ 2 ∷ unused ∷ unused ∷ unused ∷ [])) ∷
-    of special (text "sty:a%2fb") (refuses_as 13) ∷
-    of special (text "sty:%7E") (refuses_as 13) ∷
+    of special (text "sty:a%2fb") (refuses 13 NoIri) ∷
+    of special (text "sty:%7E") (refuses 13 NoIri) ∷
     of special (text "http://x/~/") (term (2 ∷ 2 ∷ 1 ∷ unused ∷ unused ∷ [])) ∷
-    of special (text "http://x/~") (refuses_as 13) ∷
+    of special (text "http://x/~") (refuses 13 NoIri) ∷
     of special (text "fam:%00%FF") (term (1 ∷ 3 ∷ unused ∷ unused ∷ unused ∷ [])) ∷
-    case [] (text "fam:g") (refuses_as 3) ∷
+    case [] (text "fam:g") (refuses 3 BadSize) ∷
     -- P: "`name**` is read; `name|` is 2."
     of sample (query "name**") (answer true ((0 ∷ 0 ∷ []) ∷ (0 ∷ 1 ∷ []) ∷ (1 ∷ 1 ∷ []) ∷ [])) ∷
-    of sample (query "name|") (refuses_as 2) ∷
-    case [] (query "name|") (refuses_as 2) ∷
+    of sample (query "name|") (refuses 2 NoExpression) ∷
+    case [] (query "name|") (refuses 2 NoExpression) ∷
     -- 3: too short, a byte left out, a byte too many, a length that is one too large, lengths whose sum is right modulo 2 ^ 32
     case [] check (refused 3) ∷
     case (replicate 35 0) check (refused 3) ∷
@@ -228,12 +229,11 @@ cases =
 
 -- ---- the theorem
 
-computed : map (λ (c : Case). run c.call c.pack) cases ≡ map (λ (c : Case). some c.outcome) cases
+-- Each case says what is so.
+pub cases_hold : (c : Case) → c ∈ cases → Says c.pack c.call c.outcome
 unfolding checking encode small_core is_term first_clash node_numbers mixed_kinds? node_records triple_records shape_of walk_built answers_yes pair_records
     plain? spelling_by iri_by slashed joined unreserved hex_digit spelled_byte segment split find_by find_all_by arguments_by read_from_by read_back_by expression_of
     whole parse union_by sequence_by step_by atom_at readAtom leaf name label closed with_stars parts joinedParts readRun stars flatten
-computed = refl
-
--- Each case says what is so.
-pub cases_hold : (c : Case) → c ∈ cases → Says c.pack c.call c.outcome
-cases_hold c m = run_says c.call c.pack c.outcome (map_each (λ (c : Case). run c.call c.pack) (λ (c : Case). some c.outcome) cases computed c m)
+cases_hold c m =
+    let computed : map (λ (c : Case). run c.call c.pack) cases ≡ map (λ (c : Case). some c.outcome) cases = refl in
+    run_says c.call c.pack c.outcome (map_each (λ (c : Case). run c.call c.pack) (λ (c : Case). some c.outcome) cases computed c m)
