@@ -6,6 +6,7 @@ ghost use Rattle.sets.specs.Buffers.{overlaid};
 
 use meaning::{INDEX_WIDTH, NODE_WIDTH, TRIPLE_WIDTH};
 use reached::keys::{pair_from, pair_to};
+use sets::buffers::copy_front;
 
 // Writes the first k pairs at the front of the list, two numbers each; the rest of it keeps its numbers.
 pub fn write_pairs(found: &[u32], k: usize, pairs: &mut [u16])
@@ -39,11 +40,8 @@ pub fn publish(
         × (index.new ≡ overlaid (count * index_width) marks.now index.old)
         × (pairs.new ≡ with_pairs k found.now pairs.old) }
 {
-    let n = count * NODE_WIDTH;
-    nodes[..n].copy_from_slice(&points[..n]);
-    let n = edges * TRIPLE_WIDTH;
-    triples[..n].copy_from_slice(&links[..n]);
-    let n = count * INDEX_WIDTH;
-    index[..n].copy_from_slice(&marks[..n]);
+    copy_front(points, count * NODE_WIDTH, nodes);
+    copy_front(links, edges * TRIPLE_WIDTH, triples);
+    copy_front(marks, count * INDEX_WIDTH, index);
     write_pairs(found, k, pairs);
 }

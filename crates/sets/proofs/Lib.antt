@@ -1,3 +1,4 @@
+pub mod Copy
 pub mod Rank
 pub mod Insert
 pub mod Insertion
