@@ -115,7 +115,15 @@ pub fn mark_alive(lists: &Lists, starts: &[u16], into: &[u16], board: &mut Board
     let parts = lists.sizes.parts;
     link_parts(lists.tree, lists.next, parts, &mut causes);
     list_by_object(&causes[..], MAX_CAUSES, parts * 3, &mut heads, &mut links);
-    mark_all(lists, starts, into, &heads[..], &links[..], board);
+    // On a board of its own, for speed: where its lists are is then known to the loops, and not read again for each triple.
+    let mut own = Board {
+        marked: &mut *board.marked,
+        waiting: &mut *board.waiting,
+        stack: &mut *board.stack,
+        top: board.top,
+    };
+    mark_all(lists, starts, into, &heads[..], &links[..], &mut own);
+    board.top = own.top;
 }
 
 // Whether the root is marked at some node.
