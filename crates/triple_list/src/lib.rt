@@ -20,9 +20,9 @@ use shapes::demand::{DemandTable, demand_table, demands_of, required_in, targets
 
 // Where the next triple is written, and how far the core's triples are passed.
 #[derive(Clone, Copy)]
-struct Next {
-    triple: usize,
-    at: usize,
+pub struct Next {
+    pub triple: usize,
+    pub at: usize,
 }
 
 // Writes these edges of a subject and a predicate, from a triple number on.
