@@ -114,8 +114,12 @@ module _ {L : Lists} {named : ℕ} {own index alive : List ℕ} (f : WalkReady L
     }
 
     -- what the code then has
-    pub walk_ended : {a c : Board} → Same a b → c ≡ b
+    pub walk_ended : {c : Board} → c ≡ b → Walked L named v c.marked × (seen_words ≤ length c.marked) × Stacked seen_words c.waiting c.stack 0 × (c.top ≡ 0)
+    walk_ended e =
+        subst (λ (d : Board). Walked L named v d.marked × (seen_words ≤ length d.marked) × Stacked seen_words d.waiting d.stack 0 × (d.top ≡ 0)) (sym e)
+        (walk_done, g.marks.long, stacked_as done g.marks.stacked, done)
+
+    -- and of the lists that were lent
+    pub walk_ended_lent : {a c : Board} → Same a b → c ≡ b
         → Walked L named v c.marked × (seen_words ≤ length c.marked) × Stacked seen_words c.waiting c.stack 0 × (c.top ≡ 0) × Same a c
-    walk_ended {a} s e =
-        subst (λ (d : Board). Walked L named v d.marked × (seen_words ≤ length d.marked) × Stacked seen_words d.waiting d.stack 0 × (d.top ≡ 0) × Same a d) (sym e)
-        (walk_done, g.marks.long, stacked_as done g.marks.stacked, done, s)
+    walk_ended_lent {a} s e = let (w, l, k, t) = walk_ended e in (w, l, k, t, subst (Same a) (sym e) s)

@@ -8,11 +8,11 @@ use mathlib.Core.Path.{◌≡◌, refl, sym, ap, ◌∙◌}
 use native.Mathlib.Omega.{arith}
 use Prim.Native.Nat.{ℕ, zero, suc, ◌+◌, ◌≤◌}
 use Rattle.meaning.specs.Limits.{literal_target, max_name_bytes, max_pack_bytes, max_prefix_bytes, max_value_bytes}
-use Rattle.meaning.specs.Pack.{Literal, Row, multiplicity_number, type}
+use Rattle.meaning.specs.Pack.{Atom, Literal, Row, multiplicity_number, type}
 use Rattle.pack.proofs.Reading.{length_at}
 use Rattle.pack.specs.Kinds.{RecordOf, reader_of}
 use Rattle.meaning.specs.Tables.{row_numbers}
-use Rattle.pack.specs.Records.{dependency, multiplicity_of, name, relation, row, target_of, value}
+use Rattle.pack.specs.Records.{atoms, dependency, multiplicity_of, name, relation, row, rule, target_of, value}
 use Rattle.pack.specs.Shown.{ConstructorGot, Got, RuleGot, ShapeGot, TextGot, head_at, text_at}
 use Rattle.pack.specs.declared.cursor.Cursor.{Cursor}
 use Rattle.pack.specs.declared.cursor.Constructor.{Constructor}
@@ -94,7 +94,12 @@ module _ {c d : Cursor} {at : ℕ} {out out' : List ℕ} where
   pub row_kept : {r : Row} {xs : List ℕ} → Got row c r d → xs ≡ row_numbers r → Put xs at out out' → RecordKept K.Row c at out out' d
   row_kept {r} g e w = kept K.Row r g e (ap length e ∙ length_row r) w
 
-  pub rule_kept : {r : Rule} → RuleGot c r d → RulePut r at out out' → RecordKept K.Rule c at out out' d
-  rule_kept {r} g w =
+  -- the count need not be known to be read at c
+  pub rule_kept_from : (r : Rule) {list : List Atom} {past : Cursor} → Got (atoms r.count) r.first list past
+      → Got rule c (record { atoms = list; head = head_at r.head }) d → RulePut r at out out' → RecordKept K.Rule c at out out' d
+  rule_kept_from r {list} {past} l g w =
       let h = head_at r.head in
-      kept K.Rule (record { atoms = g.list; head = h }) g.got refl (length_rule g.list h) (w g.list g.past g.listed)
+      kept K.Rule (record { atoms = list; head = h }) g refl (length_rule list h) (w list past l)
+
+  pub rule_kept : {r : Rule} → RuleGot c r d → RulePut r at out out' → RecordKept K.Rule c at out out' d
+  rule_kept {r} g w = rule_kept_from r g.listed g.got w

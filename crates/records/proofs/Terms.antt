@@ -49,6 +49,9 @@ put_over front n z {xs} h p =
 pub length_row : (r : Row) → length (row_numbers r) ≡ row_width
 length_row r = ap suc (padded_wide max_columns unused r.cells)
 
+pub row_made : (t : Tuple max_columns) {out : List ℕ} → Put t.items.now 1 (t.number ∷ replicate max_columns unused) out → out ≡ row_numbers (made row_of t)
+row_made t p = put_over (t.number ∷ []) max_columns unused t.few p
+
 -- the first n are the same with no more than n of the list
 first_padded : (n z : ℕ) (xs : List ℕ) → take n (padded n z (take (min (length xs) n) xs)) ≡ take n (padded n z xs)
 first_padded n z xs = case_on (leb (length xs) n) (λ e. short (leb-true _ _ e)) (λ e. long (leb-false _ _ e))
@@ -64,9 +67,10 @@ first_padded n z xs = case_on (leb (length xs) n) (λ e. short (leb-true _ _ e))
         ∙ take-append-le n (take n xs) (replicate n z) (omega (arith, l)) ∙ take_all n (take n xs) (omega (arith, l))
         ∙ sym (take-append-le n xs (replicate n z) (omega arith))
 
-pub row_made : {most : ℕ} (t : Tuple most) {out : List ℕ} → Put (take (min (length t.items.now) max_columns) t.items.now) 1 (t.number ∷ replicate max_columns unused) out
+-- of any number of cells, the first of which are put
+pub row_made_cut : {most : ℕ} (t : Tuple most) {out : List ℕ} → Put (take (min (length t.items.now) max_columns) t.items.now) 1 (t.number ∷ replicate max_columns unused) out
     → out ≡ row_numbers (made row_of t)
-row_made t p =
+row_made_cut t p =
     let xs = t.items.now in
     put_over (t.number ∷ []) max_columns unused (omega (arith, length-take (min (length xs) max_columns) xs)) p
     ∙ ap (λ (ys : List ℕ). t.number ∷ ys) (first_padded max_columns unused xs)

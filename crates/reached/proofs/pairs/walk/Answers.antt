@@ -2,7 +2,7 @@
 use native.Mathlib.Omega.{arith}
 use Rattle.forward.proofs.Forward.{marked_state}
 use Rattle.forward.proofs.SeenNumbers.{mark_room}
-use Rattle.reached.proofs.Walking.{walk_again, walk_ended, walk_start}
+use Rattle.reached.proofs.Walking.{walk_again, walk_ended_lent, walk_start}
 use Rattle.worklist.proofs.Growth.{nothing_marked, same_start, same_then, turn_left}
 use Rattle.reached.proofs.pairs.walk.Goals as goal
 
@@ -39,4 +39,4 @@ returns c = let g = c.loop-w.invariant.0 in
     let d = c.requires.1 in
     let m = c.mark.ensures _ (mark_room _ _ (omega arith) (omega arith)) (nothing_marked c.requires.2.0 c.requires.2.1) in
     let (none, same) = c.in_default.ensures _ g.marks.stacked in
-    walk_ended c.requires.0 d g none (same_then m.lent c.loop-w.invariant.1) same
+    walk_ended_lent c.requires.0 d g none (same_then m.lent c.loop-w.invariant.1) same
